@@ -1,0 +1,43 @@
+-- What a function that reads returned is what reading gives, unless memory ran out.
+use Rattle.std.specs.Prelude.{ℕ, ◌≡◌, List, ◌++◌, Some, None, Result, Ok, Err}
+use Rattle.std.specs.Borrow.{Bor}
+use Rattle.geo_tokens.specs.declared.token.Token.{Token}
+use Rattle.geo_tokens.specs.Words.{Lang}
+use Rattle.geo_tokens.specs.Deep.{IsValue, IsFault, IsDeep, IsText, IsTextFault}
+use Rattle.geo_tokens.specs.declared.stop.Stop.{Stop}
+use Rattle.geo_tokens.specs.declared.stop.Stop.TheVariants as stops
+use Rattle.geo_tokens.specs.Reading.{Read, Got, Wrong, ◌>>=◌}
+
+abbrev pub Fails : {A : Type 0} → Stop → Read A → Type 0
+Fails stops.Memory r = Unit {0}
+Fails (stops.Wrong rest) r = r ≡ Wrong rest.now
+Fails (stops.Deep rest) r = r ≡ Got None rest.now
+
+abbrev pub Gives : {A X : Type 0} → (X → A) → Result (X × Bor (List Token)) Stop → Read A → Type 0
+Gives view (Ok x) r = r ≡ Got (Some (view x.0)) x.1.now
+Gives view (Err e) r = Fails e r
+
+-- the values before, and those that are read behind them
+abbrev pub with_front : {A : Type 0} → List A → Read (List A) → Read (List A)
+with_front front read = read >>= λ others rest. Got (Some (front ++ others)) rest
+
+-- What a function returned reads the language L from the front of w, where `limit` levels may be opened,
+-- unless memory ran out.
+abbrev pub Stops : {A : Type 0} → (ℕ → Lang A) → ℕ → List Token → Stop → Type 0
+Stops L limit w stops.Memory = Unit {0}
+Stops L limit w (stops.Wrong rest) = IsFault L w rest.now
+Stops L limit w (stops.Deep rest) = IsDeep L limit w rest.now
+
+abbrev pub Reads : {A X : Type 0} → (X → A) → Result (X × Bor (List Token)) Stop → (ℕ → Lang A) → ℕ → List Token → Type 0
+Reads view (Ok x) L limit w = IsValue L w (view x.0) x.1.now
+Reads view (Err e) L limit w = Stops L limit w e
+
+-- The same of a whole text.
+abbrev pub StopsText : {A : Type 0} → (ℕ → Lang A) → ℕ → List Token → Stop → Type 0
+StopsText L limit w stops.Memory = Unit {0}
+StopsText L limit w (stops.Wrong rest) = IsTextFault L w rest.now
+StopsText L limit w (stops.Deep rest) = IsDeep L limit w rest.now
+
+abbrev pub ReadsText : {A X : Type 0} → (X → A) → Result X Stop → (ℕ → Lang A) → ℕ → List Token → Type 0
+ReadsText view (Ok x) L limit w = IsText L w (view x)
+ReadsText view (Err e) L limit w = StopsText L limit w e

@@ -1,0 +1,7 @@
+//! Tokens of a text, and reading lists of tokens by a grammar with one token of lookahead.
+#![tactic(auto)]
+
+pub mod fault;
+pub mod name;
+pub mod stop;
+pub mod token;

@@ -1,0 +1,74 @@
+//! Why reading stopped, and the readers of one token.
+
+ghost use Rattle.std.specs.Prelude.{◌≡◌, ◌∷◌, [], map};
+ghost use Rattle.geo_tokens.specs.Words.{start_of};
+ghost use Rattle.geo_tokens.specs.Reading.{next_is, token_at, cut_at};
+ghost use Rattle.geo_tokens.specs.Gives.{Gives};
+ghost use Rattle.geo_tokens.specs.declared.stop.Stop.TheVariants.{Memory};
+ghost use Rattle.geo_tokens.specs.Class.{class_of};
+
+use crate::token::{Kind, Token, class_of};
+use std::alloc::{AllocError, AllocFailed};
+
+/// Why reading stopped, with the tokens that were left.
+#[derive(Debug, Drop)]
+pub enum Stop<'a> {
+    /// Memory ran out.
+    Memory,
+    /// The next token, or the end where none is left, goes on with what was read in no text.
+    Wrong(&'a [Token]),
+    /// The token before these opened a level too many.
+    Deep(&'a [Token]),
+}
+
+impl From<AllocError> for Stop<'_> {
+    ghost from_gives = { λ _ e. e ≡ Memory };
+
+    fn from(_e: AllocError) -> Self {
+        Stop::Memory
+    }
+}
+
+impl<T: Drop> From<AllocFailed<T>> for Stop<'_> {
+    ghost from_gives = { λ _ e. e ≡ Memory };
+
+    fn from(_e: AllocFailed<T>) -> Self {
+        Stop::Memory
+    }
+}
+
+/// The place of the first token.
+pub fn start_of(tokens: &[Token]) -> u64
+    ensures { result ≡ start_of tokens.now }
+{
+    match tokens {
+        [first, ..] => first.start,
+        [] => 0,
+    }
+}
+
+/// The next token is of this kind.
+pub fn next_is(tokens: &[Token], kind: Kind) -> bool
+    ensures { result ≡ next_is (class_of kind ∷ []) tokens.now }
+{
+    match tokens {
+        [first, ..] => class_of(first.kind) == class_of(kind),
+        [] => false,
+    }
+}
+
+/// Takes a token of this kind.
+pub fn token<'a>(tokens: &'a [Token], kind: Kind) -> Result<(Token, &'a [Token]), Stop<'a>>
+    ensures { Gives (λ t. t) result (token_at (class_of kind ∷ []) tokens.now) }
+{
+    match tokens {
+        [first, rest @ ..] => {
+            if class_of(first.kind) == class_of(kind) {
+                Ok((*first, rest))
+            } else {
+                Err(Stop::Wrong(tokens))
+            }
+        }
+        [] => Err(Stop::Wrong(tokens)),
+    }
+}
