@@ -1,15 +1,36 @@
 -- Languages of tokens: which lists of tokens spell a value.
-use Rattle.std.specs.Prelude.{◌≡◌, ℕ, zero, suc, List, [], ◌∷◌, ◌++◌, Option, Some, None, option_map, Bool, true, false, ◌==◌, ◌||◌}
+use Rattle.std.specs.Prelude.{◌≡◌, ℕ, zero, suc, List, [], ◌∷◌, ◌++◌, Option, Some, None, option_map, map, Bool, true, false, ◌==◌, ◌||◌}
 use Rattle.geo_tokens.specs.declared.token.Token.{Token}
+use Rattle.geo_tokens.specs.declared.token.Keyword.{Keyword}
+use Rattle.geo_tokens.specs.declared.token.Sym.{Sym}
+use Rattle.geo_tokens.specs.declared.token.Kind.{Kind}
+use Rattle.geo_tokens.specs.declared.token.Kind.TheVariants.{Name, Number, Word, Symbol}
 use Rattle.geo_tokens.specs.Class.{class_of}
 
 -- a set of kinds, as the list of their numbers
 abbrev pub Kinds : Type 0
 Kinds = List ℕ
 
+-- the set has a kind of this number
 abbrev pub has : Kinds → ℕ → Bool
 has [] n = false
 has (m ∷ ms) n = (n == m) || has ms n
+
+-- all names; all numbers; one reserved word; one symbol; these kinds
+abbrev pub names : Kinds
+names = class_of Name ∷ []
+
+abbrev pub numbers : Kinds
+numbers = class_of (Number 0) ∷ []
+
+abbrev pub word : Keyword → Kinds
+word w = class_of (Word w) ∷ []
+
+abbrev pub symbol : Sym → Kinds
+symbol s = class_of (Symbol s) ∷ []
+
+abbrev pub kinds_of : List Kind → Kinds
+kinds_of ks = map class_of ks
 
 -- the token is of one of these kinds
 abbrev pub Of : Kinds → Token → Type 0

@@ -1,7 +1,7 @@
 //! Why reading stopped, and the readers of one token.
 
-ghost use Rattle.std.specs.Prelude.{◌≡◌, ◌∷◌, [], map};
-ghost use Rattle.geo_tokens.specs.Words.{start_of};
+ghost use Rattle.std.specs.Prelude.{◌≡◌, ◌∷◌, []};
+ghost use Rattle.geo_tokens.specs.Words.{start_of, has, kinds_of};
 ghost use Rattle.geo_tokens.specs.Reading.{next_is, token_at, cut_at};
 ghost use Rattle.geo_tokens.specs.Gives.{Gives};
 ghost use Rattle.geo_tokens.specs.declared.stop.Stop.TheVariants.{Memory};
@@ -65,6 +65,58 @@ pub fn token<'a>(tokens: &'a [Token], kind: Kind) -> Result<(Token, &'a [Token])
         [first, rest @ ..] => {
             if class_of(first.kind) == class_of(kind) {
                 Ok((*first, rest))
+            } else {
+                Err(Stop::Wrong(tokens))
+            }
+        }
+        [] => Err(Stop::Wrong(tokens)),
+    }
+}
+
+/// One of the kinds is this one.
+fn has_kind(kinds: &[Kind], kind: Kind) -> bool
+    ensures { result ≡ has (kinds_of kinds.now) (class_of kind) }
+{
+    match kinds {
+        [first, rest @ ..] => class_of(kind) == class_of(*first) || has_kind(rest, kind),
+        [] => false,
+    }
+}
+
+/// The next token is of one of these kinds.
+pub fn next_in(tokens: &[Token], kinds: &[Kind]) -> bool
+    ensures { result ≡ next_is (kinds_of kinds.now) tokens.now }
+{
+    match tokens {
+        [first, ..] => has_kind(kinds, first.kind),
+        [] => false,
+    }
+}
+
+/// Takes a token of one of these kinds.
+pub fn one_of<'a>(tokens: &'a [Token], kinds: &[Kind]) -> Result<(Token, &'a [Token]), Stop<'a>>
+    ensures { Gives (λ t. t) result (token_at (kinds_of kinds.now) tokens.now) }
+{
+    match tokens {
+        [first, rest @ ..] => {
+            if has_kind(kinds, first.kind) {
+                Ok((*first, rest))
+            } else {
+                Err(Stop::Wrong(tokens))
+            }
+        }
+        [] => Err(Stop::Wrong(tokens)),
+    }
+}
+
+/// Refuses a token of this kind, since it would open a level too many.
+pub fn refused<'a, X>(tokens: &'a [Token], kind: Kind) -> Result<(X, &'a [Token]), Stop<'a>>
+    ensures { Gives (λ x. x) result (cut_at (class_of kind ∷ []) tokens.now) }
+{
+    match tokens {
+        [first, rest @ ..] => {
+            if class_of(first.kind) == class_of(kind) {
+                Err(Stop::Deep(rest))
             } else {
                 Err(Stop::Wrong(tokens))
             }
