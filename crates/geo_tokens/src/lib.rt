@@ -2,6 +2,9 @@
 #![tactic(auto)]
 
 pub mod fault;
+mod front;
+pub mod lexer;
+mod lookup;
 pub mod name;
 pub mod stop;
 pub mod token;
