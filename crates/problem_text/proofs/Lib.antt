@@ -1,0 +1,4 @@
+pub mod Overlap
+pub mod Right
+pub mod Building
+pub mod Spelling
