@@ -158,3 +158,62 @@ impl Sink for MemSink {
         Ok(count)
     }
 }
+
+#[cfg(test)]
+mod tests {
+    use super::*;
+    use crate::write_all_bytes;
+    use std::test::Fail;
+
+    #[test]
+    fn a_source_gives_what_the_piece_the_buffer_and_the_rest_allow(
+        rt: HostRuntime,
+    ) -> Result<(), Fail> {
+        let alloc = rt.alloc();
+        let bytes = Vec::from_slice(alloc, b"abcdefg")?;
+        let mut source = MemSource::new(bytes, 3, vec![in alloc; 2, 6]?);
+        let mut into = [b'.'; 2];
+        for (count, faults, want) in [
+            (Ok(2), 0, b"ab"),
+            (Err(Failed), 1, b"ab"),
+            (Ok(2), 1, b"cd"),
+            (Ok(2), 1, b"ef"),
+            (Ok(1), 1, b"gf"),
+            (Err(Failed), 2, b"gf"),
+            (Ok(0), 2, b"gf"),
+            (Ok(0), 2, b"gf"),
+        ] {
+            assert_eq!(rt; source.take(&mut into), count);
+            assert_eq!(rt; source.faults, faults);
+            assert_eq!(rt; into.as_slice(), want.as_slice());
+        }
+        let mut wide = [b'.'; 9];
+        let mut source = MemSource::new(Vec::from_slice(alloc, b"abcdefg")?, 3, Vec::new(alloc));
+        assert_eq!(rt; source.take(&mut wide), Ok(3));
+        assert_eq!(rt; wide.as_slice(), b"abc......".as_slice());
+        Ok(())
+    }
+
+    #[test]
+    fn a_sink_takes_at_most_a_piece_and_fails_at_the_chosen_calls(
+        rt: HostRuntime,
+    ) -> Result<(), Fail> {
+        let alloc = rt.alloc();
+        let mut sink = MemSink::new(alloc, 2, vec![in alloc; 2]?);
+        assert_eq!(rt; sink.put(b"abc"), Ok(2));
+        assert_eq!(rt; sink.put(b"c"), Err(PutFault::Failed));
+        assert_eq!(rt; sink.faults, 1);
+        assert_eq!(rt; sink.put(b"c"), Ok(1));
+        assert_eq!(rt; sink.bytes(), b"abc".as_slice());
+        Ok(())
+    }
+
+    #[test]
+    fn a_fault_in_the_middle_leaves_the_front(rt: HostRuntime) -> Result<(), Fail> {
+        let alloc = rt.alloc();
+        let mut sink = MemSink::new(alloc, 1, vec![in alloc; 2]?);
+        assert_eq!(rt; write_all_bytes(&mut sink, b"abc"), Err(PutFault::Failed));
+        assert_eq!(rt; sink.bytes(), b"a".as_slice());
+        Ok(())
+    }
+}

@@ -45,29 +45,29 @@ IntWords = Either NegativeInt PlainInt
 
 unfoldable pub ShapeWords : Lang ShapeText
 ShapeWords =
-  Bind (Tok (word keywords.Shape)) (λ a. Bind (Tok names) (λ n.
-  Bind (Tok (word keywords.Box)) (λ b. Bind IntWords (λ o.
-  Bind (Tok (word keywords.Size)) (λ c. Bind IntWords (λ s.
-  Bind (Tok (symbol symbols.Semicolon)) (λ e. Pure (shape_text n o s))))))))
+    Bind (Tok (word keywords.Shape)) (λ a. Bind (Tok names) (λ n.
+    Bind (Tok (word keywords.Box)) (λ b. Bind IntWords (λ o.
+    Bind (Tok (word keywords.Size)) (λ c. Bind IntWords (λ s.
+    Bind (Tok (symbol symbols.Semicolon)) (λ e. Pure (shape_text n o s))))))))
 
 unfoldable pub ObjectWords : Lang ObjectText
 ObjectWords =
-  Bind (Tok (word keywords.Object)) (λ a. Bind (Tok names) (λ n.
-  Bind (Tok (word keywords.As)) (λ b. Bind (Tok names) (λ s.
-  Bind (Tok (word keywords.At)) (λ c. Bind IntWords (λ l.
-  Bind (Tok (symbol symbols.DotDot)) (λ d. Bind IntWords (λ h.
-  Bind (Tok (symbol symbols.Semicolon)) (λ e. Pure (object_text n s l h))))))))))
+    Bind (Tok (word keywords.Object)) (λ a. Bind (Tok names) (λ n.
+    Bind (Tok (word keywords.As)) (λ b. Bind (Tok names) (λ s.
+    Bind (Tok (word keywords.At)) (λ c. Bind IntWords (λ l.
+    Bind (Tok (symbol symbols.DotDot)) (λ d. Bind IntWords (λ h.
+    Bind (Tok (symbol symbols.Semicolon)) (λ e. Pure (object_text n s l h))))))))))
 
 -- the statement of the rule `apart`, by its name
 unfoldable pub RuleWords : Lang Token
 RuleWords =
-  Bind (Tok (word keywords.Rule)) (λ a. Bind (Tok names) (λ n.
-  Bind (Tok (symbol symbols.Colon)) (λ b. Bind (Tok (word keywords.Apart)) (λ c.
-  Bind (Tok (symbol symbols.Semicolon)) (λ e. Pure n)))))
+    Bind (Tok (word keywords.Rule)) (λ a. Bind (Tok names) (λ n.
+    Bind (Tok (symbol symbols.Colon)) (λ b. Bind (Tok (word keywords.Apart)) (λ c.
+    Bind (Tok (symbol symbols.Semicolon)) (λ e. Pure n)))))
 
 unfoldable pub ProblemWords : Lang ProblemTree
 ProblemWords =
-  Bind (Tok (word keywords.Geost)) (λ a. Bind (Tok numbers) (λ v.
-  Bind (Tok (word keywords.Dims)) (λ b. Bind (Tok numbers) (λ d.
-  Bind (Many ShapeWords) (λ ss. Bind (Many ObjectWords) (λ os.
-  Bind RuleWords (λ r. Bind (Tok (word keywords.End)) (λ e. Pure (tree_of v d ss os r)))))))))
+    Bind (Tok (word keywords.Geost)) (λ a. Bind (Tok numbers) (λ v.
+    Bind (Tok (word keywords.Dims)) (λ b. Bind (Tok numbers) (λ d.
+    Bind (Many ShapeWords) (λ ss. Bind (Many ObjectWords) (λ os.
+    Bind RuleWords (λ r. Bind (Tok (word keywords.End)) (λ e. Pure (tree_of v d ss os r)))))))))

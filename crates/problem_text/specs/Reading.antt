@@ -26,28 +26,28 @@ int_at = either_at (symbol symbols.Minus) negative_int_at plain_int_at
 
 unfoldable pub shape_at : Reader ShapeText
 shape_at w =
-  token_at (word keywords.Shape) w >>= λ a w1. token_at names w1 >>= λ n w2.
-  token_at (word keywords.Box) w2 >>= λ b w3. int_at w3 >>= λ o w4.
-  token_at (word keywords.Size) w4 >>= λ c w5. int_at w5 >>= λ s w6.
-  token_at (symbol symbols.Semicolon) w6 >>= λ e rest. Got (Some (shape_text n o s)) rest
+    token_at (word keywords.Shape) w >>= λ a w1. token_at names w1 >>= λ n w2.
+    token_at (word keywords.Box) w2 >>= λ b w3. int_at w3 >>= λ o w4.
+    token_at (word keywords.Size) w4 >>= λ c w5. int_at w5 >>= λ s w6.
+    token_at (symbol symbols.Semicolon) w6 >>= λ e rest. Got (Some (shape_text n o s)) rest
 
 unfoldable pub object_at : Reader ObjectText
 object_at w =
-  token_at (word keywords.Object) w >>= λ a w1. token_at names w1 >>= λ n w2.
-  token_at (word keywords.As) w2 >>= λ b w3. token_at names w3 >>= λ s w4.
-  token_at (word keywords.At) w4 >>= λ c w5. int_at w5 >>= λ l w6.
-  token_at (symbol symbols.DotDot) w6 >>= λ d w7. int_at w7 >>= λ h w8.
-  token_at (symbol symbols.Semicolon) w8 >>= λ e rest. Got (Some (object_text n s l h)) rest
+    token_at (word keywords.Object) w >>= λ a w1. token_at names w1 >>= λ n w2.
+    token_at (word keywords.As) w2 >>= λ b w3. token_at names w3 >>= λ s w4.
+    token_at (word keywords.At) w4 >>= λ c w5. int_at w5 >>= λ l w6.
+    token_at (symbol symbols.DotDot) w6 >>= λ d w7. int_at w7 >>= λ h w8.
+    token_at (symbol symbols.Semicolon) w8 >>= λ e rest. Got (Some (object_text n s l h)) rest
 
 unfoldable pub rule_at : Reader Token
 rule_at w =
-  token_at (word keywords.Rule) w >>= λ a w1. token_at names w1 >>= λ n w2.
-  token_at (symbol symbols.Colon) w2 >>= λ b w3. token_at (word keywords.Apart) w3 >>= λ c w4.
-  token_at (symbol symbols.Semicolon) w4 >>= λ e rest. Got (Some n) rest
+    token_at (word keywords.Rule) w >>= λ a w1. token_at names w1 >>= λ n w2.
+    token_at (symbol symbols.Colon) w2 >>= λ b w3. token_at (word keywords.Apart) w3 >>= λ c w4.
+    token_at (symbol symbols.Semicolon) w4 >>= λ e rest. Got (Some n) rest
 
 unfoldable pub problem_at : Reader ProblemTree
 problem_at w =
-  token_at (word keywords.Geost) w >>= λ a w1. token_at numbers w1 >>= λ v w2.
-  token_at (word keywords.Dims) w2 >>= λ b w3. token_at numbers w3 >>= λ d w4.
-  many_at (word keywords.Shape) shape_at w4 >>= λ ss w5. many_at (word keywords.Object) object_at w5 >>= λ os w6.
-  rule_at w6 >>= λ r w7. token_at (word keywords.End) w7 >>= λ e rest. Got (Some (tree_of v d ss os r)) rest
+    token_at (word keywords.Geost) w >>= λ a w1. token_at numbers w1 >>= λ v w2.
+    token_at (word keywords.Dims) w2 >>= λ b w3. token_at numbers w3 >>= λ d w4.
+    many_at (word keywords.Shape) shape_at w4 >>= λ ss w5. many_at (word keywords.Object) object_at w5 >>= λ os w6.
+    rule_at w6 >>= λ r w7. token_at (word keywords.End) w7 >>= λ e rest. Got (Some (tree_of v d ss os r)) rest

@@ -15,6 +15,7 @@ use geo_tokens::token::number_in;
 use std::alloc::{AllocError, Global};
 
 const MOST_SHAPES: usize = 256;
+
 const MOST_OBJECTS: usize = 200;
 
 /// The problem that the statements say, or None where something in them is outside its limits.
@@ -63,10 +64,7 @@ fn is_new_shape(shapes: &[ShapeDef], name: &[u8]) -> bool
 fn is_next_shape(shapes: &[ShapeDef], name: &[u8], offset: i64, size: i64) -> bool
     ensures { IsTrue result ↔ MayFollow 256 shape_name IsRightShape (map shape_data shapes.now) (record { name = name.now; offset = offset; size = size }) }
 {
-    shapes.len() < MOST_SHAPES
-        && is_small(offset)
-        && is_size(size)
-        && is_new_shape(shapes, name)
+    shapes.len() < MOST_SHAPES && is_small(offset) && is_size(size) && is_new_shape(shapes, name)
 }
 
 // The shape of the statement, or None where it may not stand behind these shapes.
@@ -174,7 +172,12 @@ fn next_object(
     let shape = place_of(shapes, text_of(text, said.shape));
     let (low, high) = (said.low.value, said.high.value);
     if is_next_object(objects, shapes.len(), name.as_bytes(), shape, low, high) {
-        Ok(Some(ObjectDef { name, shape, low, high }))
+        Ok(Some(ObjectDef {
+            name,
+            shape,
+            low,
+            high,
+        }))
     } else {
         Ok(None)
     }

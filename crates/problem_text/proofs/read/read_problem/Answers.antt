@@ -15,10 +15,13 @@ returns-in-Some-2-clause-only c = λ q h.
 pub returns-clause-refused : goal.returns-clause-refused
 returns-clause-refused c =
     let said = rw c.in-Some.is at c.in_ok-said.ensures in
-    let none = rw c.in-None.is at c.in_ok-problem.ensures in
-    (λ long. omega (arith, long, c.if-text-gt-LONGEST.false), λ p h.
-      let same : h.said ≡ problem_tree c.in-Some.said = said.1 h.said h.says in
-      none p (subst (λ (t : ProblemTree). IsProblemOf c.args.text.now t p) same h.means), refl)
+    let none = rw c.in-None.is at c.in_ok-problem.ensures in (
+      λ long. omega (arith, long, c.if-text-gt-LONGEST.false),
+      λ p h.
+          let same : h.said ≡ problem_tree c.in-Some.said = said.1 h.said h.says in
+          none p (subst (λ (t : ProblemTree). IsProblemOf c.args.text.now t p) same h.means),
+      refl,
+    )
 
 pub returns-in_default-clause-refused : goal.returns-in_default-clause-refused
 returns-in_default-clause-refused c =

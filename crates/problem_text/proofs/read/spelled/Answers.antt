@@ -9,9 +9,10 @@ use Rattle.problem_text.proofs.read.spelled.Goals as goal
 
 pub returns-then-is_empty : goal.returns-then-is_empty
 returns-then-is_empty c =
-    let end : c.in-Ok.rest.now ≡ [] = not_empty c.in-Ok.rest.now ((Decides-eqb (length c.in-Ok.rest.now) 0).0 (sym c.is_empty.ensures ∙ c.if-is_empty.true)) in
-    (is_spelled ProblemWords problem_at _ _ _ problem_good c.args.list.now (problem_tree c.in-Ok.said) c.in-Ok.rest.now c.in-Ok.ensures end,
-     λ t s. spelled_once ProblemWords problem_at _ _ _ problem_good c.args.list.now (problem_tree c.in-Ok.said) t c.in-Ok.rest.now c.in-Ok.ensures s)
+    let end : c.in-Ok.rest.now ≡ [] = not_empty c.in-Ok.rest.now ((Decides-eqb (length c.in-Ok.rest.now) 0).0 (sym c.is_empty.ensures ∙ c.if-is_empty.true)) in (
+      is_spelled ProblemWords problem_at _ _ _ problem_good c.args.list.now (problem_tree c.in-Ok.said) c.in-Ok.rest.now c.in-Ok.ensures end,
+      λ t s. spelled_once ProblemWords problem_at _ _ _ problem_good c.args.list.now (problem_tree c.in-Ok.said) t c.in-Ok.rest.now c.in-Ok.ensures s,
+    )
 
 pub returns-else-is_empty : goal.returns-else-is_empty
 returns-else-is_empty c = λ t s. left_over ProblemWords problem_at _ _ _ problem_good c.args.list.now (problem_tree c.in-Ok.said) t c.in-Ok.rest.now c.in-Ok.ensures (not_none c.in-Ok.rest.now (sym c.is_empty.ensures ∙ c.if-is_empty.false)) s

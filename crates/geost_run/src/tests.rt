@@ -1,0 +1,120 @@
+use crate::{Status, run};
+use geo_chan::{CleanSink, CleanSource, MemSink, MemSource, Source};
+use std::alloc::{AllocError, Global};
+use std::test::Fail;
+
+const LINE: &[u8] =
+    b"geost 1 dims 1 shape s box 0 size 2 ; object a as s at 0..3 ; object b as s at 0..3 ; rule r : apart ; end";
+
+const BLOCK: &[u8] = b"layout\na as s at 0\nb as s at 2\ntoken 1,0/1,2\n";
+
+fn words(alloc: Global, list: &[&str]) -> Result<Vec<String>, AllocError> {
+    let mut all = Vec::new(alloc);
+    for word in list {
+        all.push(String::from_str(alloc, word)?)?;
+    }
+    Ok(all)
+}
+
+// The status and the text that the words have for an input, over a source and a sink that never fail.
+fn answer(alloc: Global, list: &[&str], input: &[u8]) -> Result<(Status, Vec<u8>), AllocError> {
+    let words = words(alloc, list)?;
+    let mut source = CleanSource::new(Vec::from_slice(alloc, input)?);
+    let mut sink = CleanSink::new(alloc);
+    let status = run(alloc, &words, &mut source, &mut sink);
+    Ok((status, Vec::from_slice(alloc, sink.bytes())?))
+}
+
+#[test]
+fn the_first_layout_of_two_boxes(rt: HostRuntime) -> Result<(), Fail> {
+    let (status, text) = answer(rt.alloc(), &["first", "4"], LINE)?;
+    assert_eq!(rt; status, Status::Answered);
+    assert_eq!(rt; text.as_slice(), BLOCK);
+    Ok(())
+}
+
+#[test]
+fn no_layout_and_no_problem(rt: HostRuntime) -> Result<(), Fail> {
+    let narrow =
+        b"geost 1 dims 1 shape s box 0 size 2 ; object a as s at 0..1 ; object b as s at 0..1 ; rule r : apart ; end";
+    let (status, text) = answer(rt.alloc(), &["first", "1"], narrow)?;
+    assert_eq!(rt; status, Status::No);
+    assert_eq!(rt; text.as_slice(), b"none\n".as_slice());
+    let (status, text) = answer(rt.alloc(), &["first", "1"], b"")?;
+    assert_eq!(rt; status, Status::Refused);
+    assert_eq!(rt; text.as_slice(), b"refused 0 syntax\n".as_slice());
+    Ok(())
+}
+
+#[test]
+fn a_source_that_fails_is_a_read_fault(rt: HostRuntime) -> Result<(), Fail> {
+    let alloc = rt.alloc();
+    let words = words(alloc, &["first", "4"])?;
+    for piece in [50usize, 100] {
+        let mut source = MemSource::new(Vec::from_slice(alloc, LINE)?, piece, vec![in alloc; 2]?);
+        let mut sink = CleanSink::new(alloc);
+        assert_eq!(rt;
+            run(alloc, &words, &mut source, &mut sink),
+            Status::ReadFault
+        );
+        assert_eq!(rt; sink.bytes(), b"".as_slice());
+    }
+    Ok(())
+}
+
+#[test]
+fn a_sink_that_fails_is_a_write_fault(rt: HostRuntime) -> Result<(), Fail> {
+    let alloc = rt.alloc();
+    let words = words(alloc, &["first", "4"])?;
+    for (call, want) in [(3, b"la".as_slice()), (1, b"".as_slice())] {
+        let mut source = CleanSource::new(Vec::from_slice(alloc, LINE)?);
+        let mut sink = MemSink::new(alloc, 1, vec![in alloc; call]?);
+        assert_eq!(rt;
+            run(alloc, &words, &mut source, &mut sink),
+            Status::WriteFault
+        );
+        assert_eq!(rt; sink.bytes(), want);
+    }
+    Ok(())
+}
+
+#[test]
+fn pieces_of_every_size_give_the_same_answer(rt: HostRuntime) -> Result<(), Fail> {
+    let alloc = rt.alloc();
+    let words = words(alloc, &["first", "4"])?;
+    for piece in [1usize, 2, 3, 7, 50, 105, 106, 107, 4096] {
+        let mut source = MemSource::new(Vec::from_slice(alloc, LINE)?, piece, Vec::new(alloc));
+        let mut sink = MemSink::new(alloc, piece, Vec::new(alloc));
+        assert_eq!(rt;
+            run(alloc, &words, &mut source, &mut sink),
+            Status::Answered,
+            "pieces of {piece}"
+        );
+        assert_eq!(rt; sink.bytes(), BLOCK);
+    }
+    Ok(())
+}
+
+#[test]
+fn bad_words_take_nothing(rt: HostRuntime) -> Result<(), Fail> {
+    let alloc = rt.alloc();
+    for list in [
+        ["first", "0"].as_slice(),
+        ["first", "01"].as_slice(),
+        ["first", "x"].as_slice(),
+        ["first"].as_slice(),
+        [].as_slice(),
+    ] {
+        let words = words(alloc, list)?;
+        let mut source = CleanSource::new(Vec::from_slice(alloc, LINE)?);
+        let mut sink = CleanSink::new(alloc);
+        assert_eq!(rt;
+            run(alloc, &words, &mut source, &mut sink),
+            Status::BadWords
+        );
+        assert_eq!(rt; sink.bytes(), b"bad words\n".as_slice());
+        let mut left = [0; 200];
+        assert_eq!(rt; source.take(&mut left), Ok(LINE.len()));
+    }
+    Ok(())
+}
