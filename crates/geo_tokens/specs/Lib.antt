@@ -8,3 +8,4 @@ pub mod Cut
 pub mod Front
 pub mod Spelled
 pub mod Fault
+pub mod Names

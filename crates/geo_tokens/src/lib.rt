@@ -6,5 +6,6 @@ mod front;
 pub mod lexer;
 mod lookup;
 pub mod name;
+pub mod names;
 pub mod stop;
 pub mod token;
