@@ -2,6 +2,7 @@
 #![tactic(auto)]
 
 pub mod fault;
+pub mod first_end;
 mod front;
 pub mod lexer;
 mod lookup;
