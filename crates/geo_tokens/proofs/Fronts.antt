@@ -1,10 +1,10 @@
 -- What stands at the front of some bytes takes a byte at least and is inside them, and nothing else stands there.
-use Rattle.std.proofs.Common.{◌≡◌, ℕ, zero, suc, ◌+◌, ◌-◌, ◌<◌, ◌≤◌, List, [], ◌∷◌, length, take, drop, Option, Some, None, Bool, true, false, ◌||◌, ◌&&◌, ◌==◌, ◌⊎◌, inl, inr, not, refl, sym, ap, ◌∙◌, subst, arith}
+use Rattle.std.proofs.Common.{◌≡◌, ℕ, ◌<◌, ◌≤◌, List, [], ◌∷◌, length, take, Option, Some, None, Bool, true, false, ◌||◌, ◌&&◌, ◌==◌, ◌⊎◌, inl, inr, refl, sym, ap, ◌∙◌, subst, arith}
 use Rattle.std.specs.Prelude.{slice_index, nat_lt, nat_le, if◌then◌else◌}
 use Rattle.std.specs.List.{prefix_len}
 use Rattle.std.proofs.lemmas.List.{length-take, get_or-take}
 use Rattle.std.proofs.lemmas.List.Sums.{prefix_len-le-length}
-use Rattle.std.proofs.lemmas.Bool.{eqb-true, eqb-false, cases_Bool, or_cases, and_parts, leb-true, ne_eqb, lt-ltb, le-ltb, lt-leb}
+use Rattle.std.proofs.lemmas.Bool.{eqb-true, or_cases, and_parts, leb-true, lt-ltb, le-ltb}
 use Rattle.geo_tokens.specs.declared.token.Keyword.{Keyword}
 use Rattle.geo_tokens.specs.declared.token.Sym.{Sym}
 use Rattle.geo_tokens.specs.declared.token.Kind.{Kind}
@@ -17,7 +17,7 @@ use Rattle.geo_tokens.specs.declared.token.Sym.TheVariants as symbols
 use Rattle.geo_tokens.specs.Class.{word_bytes, symbol_bytes}
 use Rattle.geo_tokens.specs.Bytes.{is_white, is_digit, is_letter, is_word_byte, is_line_byte, value_of}
 use Rattle.geo_tokens.specs.Spelled.{spelled_as, all_words, long_symbols, short_symbols}
-use Rattle.geo_tokens.specs.Cut.{IsGap, white, comment, IsWordForm, IsName, IsReserved, IsNumber, Fits, IsSymbol, IsToken, IsStrange, IsWrongNumber, IsLongWord, IsBad}
+use Rattle.geo_tokens.specs.Cut.{IsGap, white, comment, IsWordForm, IsName, IsReserved, IsNumber, Fits, IsSymbol, IsToken, IsStrange, IsBad}
 use Rattle.geo_tokens.specs.Front.{IsFront, IsInside}
 use Rattle.geo_tokens.proofs.Spellings.{found, is_there}
 use Rattle.geo_tokens.proofs.Symbols.{short, long, size_of, size_pos, AllSized, found_sized, long_sized, short_sized}
@@ -32,7 +32,7 @@ or_left false b h = absurd cc
 run_some : (p : ℕ → Bool) (b : ℕ) (bytes : List ℕ) → p b ≡ true → 0 < prefix_len p (b ∷ bytes)
 run_some p b bytes h = rw h (omega arith)
 
-run_inside : (p : ℕ → Bool) (n : ℕ) (bytes : List ℕ) → p (slice_index bytes 0) ≡ true → p 0 ≡ false → n ≡ prefix_len p bytes → (0 < n) × (n ≤ length bytes)
+pub run_inside : (p : ℕ → Bool) (n : ℕ) (bytes : List ℕ) → p (slice_index bytes 0) ≡ true → p 0 ≡ false → n ≡ prefix_len p bytes → (0 < n) × (n ≤ length bytes)
 run_inside p n [] h z e = absurd (let f : true ≡ false = sym h ∙ z in cc)
 run_inside p n (b ∷ bytes) h z e = (omega (arith, run_some p b bytes h), omega (arith, prefix_len-le-length p (b ∷ bytes)))
 

@@ -1,15 +1,13 @@
 -- A look-up by spelling finds what is spelled so, wherever there is such a thing.
-use Rattle.std.proofs.Common.{◌≡◌, ℕ, zero, suc, ◌<◌, ◌≤◌, List, [], ◌∷◌, length, Option, Some, None, Bool, true, false, ◌==◌, ◌⊎◌, inl, inr, refl, sym, ap, ◌∙◌, subst, arith, lit≤}
+use Rattle.std.proofs.Common.{◌≡◌, ℕ, ◌<◌, ◌≤◌, List, [], ◌∷◌, length, Option, Some, None, Bool, true, false, ◌==◌, ◌⊎◌, inl, inr, refl, sym, ap, ◌∙◌, subst, arith, lit≤}
 use Rattle.std.specs.Prelude.{MatchOption, filter, cond, if◌then◌else◌}
 use Rattle.std.specs.Str.{bytes_eq}
 use Rattle.std.proofs.lemmas.Bool.{cases_Bool, eqb-false}
 use Rattle.std.proofs.lemmas.Slice.Eq.{bytes_eq-Decides}
 use Rattle.geo_tokens.specs.declared.token.Keyword.{Keyword}
 use Rattle.geo_tokens.specs.declared.token.Keyword.TheVariants as keywords
-use Rattle.geo_tokens.specs.declared.token.Sym.{Sym}
-use Rattle.geo_tokens.specs.declared.token.Sym.TheVariants as symbols
-use Rattle.geo_tokens.specs.Class.{word_bytes, symbol_bytes}
-use Rattle.geo_tokens.specs.Spelled.{spelled_as, all_words, words_of, long_symbols, short_symbols}
+use Rattle.geo_tokens.specs.Class.{word_bytes}
+use Rattle.geo_tokens.specs.Spelled.{spelled_as, all_words, words_of}
 
 -- a test that picks the thing in front, or goes on
 pub picked : {A : Type 0} (b : Bool) (y x : A) (others : Option A) → (if b then Some y else others) ≡ Some x → ((b ≡ true) × (y ≡ x)) ⊎ (others ≡ Some x)

@@ -1,5 +1,5 @@
 -- Bytes of a text: white space, digits, letters, and the part of a text that a token stands for.
-use Rattle.std.specs.Prelude.{◌≡◌, ℕ, ◌+◌, ◌*◌, ◌-◌, List, [], ◌∷◌, take, drop, Bool, ◌==◌, ◌||◌, ◌&&◌, not, nat_le}
+use Rattle.std.specs.Prelude.{ℕ, ◌+◌, ◌*◌, ◌-◌, List, [], ◌∷◌, take, drop, Bool, ◌==◌, ◌||◌, ◌&&◌, not, nat_le}
 use Rattle.geo_tokens.specs.declared.token.Token.{Token}
 
 -- space, tab, line feed or carriage return

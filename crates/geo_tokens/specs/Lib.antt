@@ -8,3 +8,5 @@ pub mod Cut
 pub mod Front
 pub mod Spelled
 pub mod Fault
+pub mod FirstEnd
+pub mod Names

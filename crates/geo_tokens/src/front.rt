@@ -1,6 +1,6 @@
 //! What stands at the front of some bytes: white space or a comment, a token, or neither.
 
-ghost use Rattle.std.specs.Prelude.{◌≡◌, ◌<◌, ◌≤◌, length, slice_index, MatchOption, false, true};
+ghost use Rattle.std.specs.Prelude.{◌≡◌, ◌<◌, ◌≤◌, length, drop, slice_index, MatchOption, false, true};
 ghost use Rattle.std.specs.List.{prefix_len};
 ghost use Rattle.geo_tokens.specs.Bytes.{is_white, is_digit, is_letter, is_word_byte, is_line_byte, value_of};
 ghost use Rattle.geo_tokens.specs.Class.{symbol_bytes};
@@ -27,6 +27,14 @@ const GREATEST: u64 = 1_000_000_000;
 
 /// The greatest number of bytes of a name.
 const NAME_BYTES: usize = 40;
+
+/// The bytes behind the first n.
+pub fn after(bytes: &[u8], n: usize) -> &[u8]
+    requires { n ≤ length bytes.now }
+    ensures { result.now ≡ drop n bytes.now }
+{
+    &bytes[n..]
+}
 
 fn byte_at(bytes: &[u8], i: usize) -> u8
     ensures { result ≡ slice_index bytes.now i }

@@ -1,20 +1,12 @@
 //! Cutting a text into tokens, in one pass from the left.
 
-ghost use Rattle.std.specs.Prelude.{◌≡◌, ◌≤◌, length, drop, IfOk};
+ghost use Rattle.std.specs.Prelude.{◌≡◌, ◌≤◌, length, IfOk};
 ghost use Rattle.geo_tokens.specs.Cut.{Tokenizes, IsOnlyAnswer, InOrder};
 
 use crate::fault::TextFault;
-use crate::front::{Front, next_front};
+use crate::front::{Front, after, next_front};
 use crate::token::Token;
 use std::alloc::Global;
-
-/// The bytes behind the first n.
-fn after(bytes: &[u8], n: usize) -> &[u8]
-    requires { n ≤ length bytes.now }
-    ensures { result.now ≡ drop n bytes.now }
-{
-    &bytes[n..]
-}
 
 fn cut(alloc: Global, text: &[u8]) -> Result<Vec<Token>, TextFault>
     ensures { Tokenizes result text.now }
