@@ -9,6 +9,11 @@ use Rattle.geo_tokens.proofs.Good.{Good, reads_all}
 use Rattle.problem_text.specs.Problem.{Shape, Object, ProblemData}
 use Rattle.problem_text.specs.Tree.{ProblemTree}
 use Rattle.problem_text.specs.Statements.{IsProblemOf, object_of}
+use Rattle.problem_text.specs.Grammar.{ProblemWords}
+use Rattle.problem_text.specs.Reading.{problem_at}
+use Rattle.problem_text.specs.Text.{Spells}
+use Rattle.problem_text.proofs.Right.{problem_good}
+use Rattle.geo_tokens.proofs.Cuts.{one_list}
 
 module _ {A : Type 0} (L : Lang A) (r : List Token → Read A) (n : Bool) (f e : Kinds) (good : Good L r n f e) (w : List Token) where
   -- what is read to the end is spelled
@@ -48,3 +53,13 @@ one_problem text t p q h k =
 pub not_none : {X : Type 0} (xs : List X) → (length xs == 0) ≡ false → xs ≡ [] → ⊥
 not_none [] t e = cc
 not_none (x ∷ xs) t e = cc
+
+-- a text spells one problem
+pub spells_once : (text : List ℕ) (p q : ProblemData) → Spells text p → Spells text q → q ≡ p
+spells_once text p q h k =
+    let tokens : k.says.tokens ≡ h.says.tokens = one_list text k.says.tokens h.says.tokens k.says.cut h.says.cut in
+    let spelled : ProblemWords (Some k.said) h.says.tokens = subst (λ (ts : List Token). ProblemWords (Some k.said) ts) tokens k.says.spelled in
+    let first : problem_at h.says.tokens ≡ Got (Some h.said) [] = reads_all problem_good h.said h.says.tokens h.says.spelled in
+    let second : problem_at h.says.tokens ≡ Got (Some k.said) [] = reads_all problem_good k.said h.says.tokens spelled in
+    let said : k.said ≡ h.said = cc in
+    one_problem text h.said p q h.means (subst (λ (t : ProblemTree). IsProblemOf text t q) said k.means)
