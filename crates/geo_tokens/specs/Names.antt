@@ -1,6 +1,6 @@
 -- The names of a problem: its shapes, and its objects with their lists of shapes.
-use Rattle.std.specs.Prelude.{◌≡◌, ℕ, ◌<◌, ◌≤◌, List, [], ◌∷◌, length, map, slice_index_or}
-use Rattle.std.specs.List.{All, Contains}
+use Rattle.std.specs.Prelude.{◌≡◌, ℕ, ◌<◌, ◌≤◌, List, length, map, slice_index_or}
+use Rattle.std.specs.List.{All}
 use Rattle.geo_tokens.specs.Cut.{IsName}
 
 -- What stands in a table of names: the number of dimensions, the names of the shapes, and of each object its name and
