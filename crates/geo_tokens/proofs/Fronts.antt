@@ -24,6 +24,7 @@ use Rattle.geo_tokens.proofs.Symbols.{short, long, size_of, size_pos, AllSized, 
 
 -- ---- sizes
 
+-- a test that passes on its left side
 or_left : (a b : Bool) → a ≡ true → (a || b) ≡ true
 or_left true b h = refl
 or_left false b h = absurd cc

@@ -14,6 +14,7 @@ pub picked : {A : Type 0} (b : Bool) (y x : A) (others : Option A) → (if b the
 picked true y x others e = inl (refl, cc)
 picked false y x others e = inr e
 
+-- two that go on alike are alike
 same_if : {A : Type 0} (b : Bool) (y : A) (o p : Option A) → o ≡ p → (if b then Some y else o) ≡ (if b then Some y else p)
 same_if b y o p e = ap (λ u. if b then Some y else u) e
 
@@ -100,16 +101,20 @@ is_there keywords.Qed = record { found = refl; low = lit≤ tt; high = lit≤ tt
 abbrev pub IsReservedWord : Option Keyword → List ℕ → Type 0
 IsReservedWord o bytes = MatchOption o ((w : Keyword) → bytes ≡ word_bytes w → ⊥) (λ w. bytes ≡ word_bytes w)
 
+-- where none is found, none is spelled so
 no_word : (bytes : List ℕ) → spelled_as word_bytes all_words bytes ≡ None → (w : Keyword) → bytes ≡ word_bytes w → ⊥
 no_word bytes e w q = let f : spelled_as word_bytes all_words (word_bytes w) ≡ Some w = (is_there w).found in let g : spelled_as word_bytes all_words (word_bytes w) ≡ None = subst (λ (u : List ℕ). spelled_as word_bytes all_words u ≡ None) q e in absurd (let z : Some w ≡ None = sym f ∙ g in cc)
 
+-- what is found among all reserved words
 answered : (o : Option Keyword) (bytes : List ℕ) → spelled_as word_bytes all_words bytes ≡ o → IsReservedWord o bytes
 answered None bytes e = no_word bytes e
 answered (Some w) bytes e = found word_bytes all_words bytes w e
 
+-- what is found among those of n bytes, for n bytes
 pub reserved : (n : ℕ) (o : Option Keyword) (bytes : List ℕ) → length bytes ≡ n → o ≡ spelled_as word_bytes (words_of n) bytes → IsReservedWord o bytes
 reserved n o bytes l e = answered o bytes (sym (e ∙ ap (λ m. spelled_as word_bytes (words_of m) bytes) (sym l) ∙ of_length word_bytes all_words bytes))
 
+-- no reserved word has fewer than two bytes or more than seven
 pub no_such_length : (bytes : List ℕ) → (length bytes < 2) ⊎ (7 < length bytes) → (w : Keyword) → bytes ≡ word_bytes w → ⊥
 no_such_length bytes (inl h) w q = let t = is_there w in let low : 2 ≤ length (word_bytes w) = t.low in let e : length bytes ≡ length (word_bytes w) = ap length q in absurd (omega arith)
 no_such_length bytes (inr h) w q = let t = is_there w in let high : length (word_bytes w) ≤ 7 = t.high in let e : length bytes ≡ length (word_bytes w) = ap length q in absurd (omega arith)

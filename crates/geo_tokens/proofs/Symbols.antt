@@ -15,6 +15,7 @@ pub data Size (s : Sym) : Type 0 where
   short : length (symbol_bytes s) ≡ 1 → spelled_as symbol_bytes short_symbols (symbol_bytes s) ≡ Some s → Size s
   long : length (symbol_bytes s) ≡ 2 → spelled_as symbol_bytes long_symbols (symbol_bytes s) ≡ Some s → Size s
 
+-- the size of each
 pub size_of : (s : Sym) → Size s
 size_of symbols.DotDot = long refl refl
 size_of symbols.Dot = short refl refl
@@ -38,9 +39,11 @@ size_of symbols.NotEqual = long refl refl
 size_of symbols.At = short refl refl
 size_of symbols.Dollar = short refl refl
 
+-- no symbol is empty
 pub size_pos : (s : Sym) → 1 ≤ length (symbol_bytes s)
 size_pos s = elim (size_of s) [ short e f ↦ omega arith | long e f ↦ omega arith ]
 
+-- no symbol has more than two bytes
 pub size_small : (s : Sym) → length (symbol_bytes s) ≤ 2
 size_small s = elim (size_of s) [ short e f ↦ omega arith | long e f ↦ omega arith ]
 
@@ -48,15 +51,19 @@ size_small s = elim (size_of s) [ short e f ↦ omega arith | long e f ↦ omega
 abbrev pub NoLong : List ℕ → Type 0
 NoLong bytes = (t : Sym) → length (symbol_bytes t) ≡ 2 → Fits t bytes → ⊥
 
+-- no symbol fits where no byte is left
 pub none_at_end : (s : Sym) → Fits s [] → ⊥
 none_at_end s f = let e : length (take (length (symbol_bytes s)) []) ≡ length (symbol_bytes s) = ap length f in omega (arith, length-take {A = ℕ} (length (symbol_bytes s)) [], size_pos s)
 
+-- none of two bytes fits one byte
 pub no_long_alone : (a : ℕ) → NoLong (a ∷ [])
 no_long_alone a t l f = let e : length (take (length (symbol_bytes t)) (a ∷ [])) ≡ length (symbol_bytes t) = ap length f in omega (arith, length-take (length (symbol_bytes t)) (a ∷ []))
 
+-- something is not nothing
 some_none : {A : Type 0} (x : A) → Some x ≡ None → ⊥
 some_none x e = absurd cc
 
+-- none of two bytes fits where these two bytes spell none
 pub no_long : (a b : ℕ) (rest : List ℕ) → None ≡ spelled_as symbol_bytes long_symbols (a ∷ b ∷ []) → NoLong (a ∷ b ∷ rest)
 no_long a b rest e t l f = elim (size_of t) [
   | short k g ↦ omega arith
@@ -64,6 +71,7 @@ no_long a b rest e t l f = elim (size_of t) [
       some_none t (sym g ∙ ap (spelled_as symbol_bytes long_symbols) same ∙ sym e))
 ]
 
+-- a symbol that the first two bytes spell is the longest that fits
 pub long_is : (a b : ℕ) (rest : List ℕ) (s : Sym) → Some s ≡ spelled_as symbol_bytes long_symbols (a ∷ b ∷ []) → IsSymbol s (length (symbol_bytes s)) (a ∷ b ∷ rest)
 long_is a b rest s e =
     let q : a ∷ b ∷ [] ≡ symbol_bytes s = found symbol_bytes long_symbols (a ∷ b ∷ []) s (sym e) in
@@ -74,12 +82,14 @@ long_is a b rest s e =
       longest = λ t f. omega (arith, size_small t, two);
     }
 
+-- where none of two bytes fits, one byte is the longest
 short_longest : (a : ℕ) (rest : List ℕ) (s : Sym) → NoLong (a ∷ rest) → (t : Sym) → Fits t (a ∷ rest) → length (symbol_bytes t) ≤ length (symbol_bytes s)
 short_longest a rest s alone t f = elim (size_of t) [
   | short k g ↦ omega (arith, size_pos s)
   | long k g ↦ absurd (alone t k f)
 ]
 
+-- a symbol that the first byte spells is then the longest that fits
 pub short_is : (a : ℕ) (rest : List ℕ) (s : Sym) → NoLong (a ∷ rest) → Some s ≡ spelled_as symbol_bytes short_symbols (a ∷ []) → IsSymbol s (length (symbol_bytes s)) (a ∷ rest)
 short_is a rest s alone e =
     let q : a ∷ [] ≡ symbol_bytes s = found symbol_bytes short_symbols (a ∷ []) s (sym e) in
@@ -89,6 +99,7 @@ short_is a rest s alone e =
       longest = short_longest a rest s alone;
     }
 
+-- where the first byte spells none either, none fits
 pub none_fits : (a : ℕ) (rest : List ℕ) → NoLong (a ∷ rest) → None ≡ spelled_as symbol_bytes short_symbols (a ∷ []) → (t : Sym) → Fits t (a ∷ rest) → ⊥
 none_fits a rest alone e t f = elim (size_of t) [
   | short k g ↦ (let same : symbol_bytes t ≡ a ∷ [] = sym (subst (λ (n : ℕ). take n (a ∷ rest) ≡ symbol_bytes t) k f) in
@@ -109,12 +120,14 @@ second_answer [] o h e f = absurd (omega arith)
 second_answer (a ∷ []) o h e f = absurd (omega arith)
 second_answer (a ∷ b ∷ rest) o h e f = short_answer a (b ∷ rest) o (no_long a b rest e) f
 
+-- the same where there is one byte alone
 pub first_answer : (bytes : List ℕ) (o : Option Sym) → length bytes ≡ 1 → o ≡ spelled_as symbol_bytes short_symbols (slice_index bytes 0 ∷ [])
     → MatchOption o ((s : Sym) → Fits s bytes → ⊥) (λ s. IsSymbol s (length (symbol_bytes s)) bytes)
 first_answer [] o h f = absurd (omega arith)
 first_answer (a ∷ []) o h f = short_answer a [] o (no_long_alone a) f
 first_answer (a ∷ b ∷ rest) o h f = absurd (omega arith)
 
+-- the same where the first two bytes spell one
 pub long_answer : (bytes : List ℕ) (s : Sym) → 2 ≤ length bytes → Some s ≡ spelled_as symbol_bytes long_symbols (slice_index bytes 0 ∷ slice_index bytes 1 ∷ []) → IsSymbol s (length (symbol_bytes s)) bytes
 long_answer [] s h e = absurd (omega arith)
 long_answer (a ∷ []) s h e = absurd (omega arith)
@@ -126,6 +139,7 @@ abbrev pub AllSized : ℕ → List Sym → Type 0
 AllSized n [] = Unit {0}
 AllSized n (s ∷ xs) = (length (symbol_bytes s) ≡ n) × AllSized n xs
 
+-- what is found among some of one size has that size
 pub found_sized : (n : ℕ) (xs : List Sym) → AllSized n xs → (bytes : List ℕ) (s : Sym) → spelled_as symbol_bytes xs bytes ≡ Some s → length (symbol_bytes s) ≡ n
 found_sized n [] h bytes s e = absurd cc
 found_sized n (y ∷ xs) h bytes s e = elim (picked (bytes_eq bytes (symbol_bytes y)) y s (spelled_as symbol_bytes xs bytes) e) [
@@ -133,6 +147,7 @@ found_sized n (y ∷ xs) h bytes s e = elim (picked (bytes_eq bytes (symbol_byte
   | inr q ↦ found_sized n xs h.1 bytes s q
 ]
 
+-- the symbols of two bytes, and of one
 pub long_sized : AllSized 2 long_symbols
 long_sized = (refl, (refl, (refl, (refl, tt))))
 

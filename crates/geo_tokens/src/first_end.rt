@@ -33,6 +33,7 @@ fn next_passed(bytes: &[u8]) -> Option<usize>
     passed_len(bytes)
 }
 
+/// Passes over the text, up to a word `end`.
 fn find_end(text: &[u8]) -> Option<usize>
     ensures value { MatchOption result (HasNoEnd text.now) (IsFirstEnd text.now) }
     ensures inside { IfSome result (λ e. e ≤ length text.now) }

@@ -36,6 +36,7 @@ pub fn after(bytes: &[u8], n: usize) -> &[u8]
     &bytes[n..]
 }
 
+/// The byte at i, and 0 where there is none.
 fn byte_at(bytes: &[u8], i: usize) -> u8
     ensures { result ≡ slice_index bytes.now i }
 {
@@ -165,8 +166,8 @@ fn number_front(bytes: &[u8]) -> Front
     }
 }
 
-/// What stands at the front of some bytes. Of no bytes nothing stands there.
-pub fn front_of(bytes: &[u8]) -> Front
+/// What stands at the front of some bytes, of which there is one at least.
+fn front_of(bytes: &[u8]) -> Front
     requires { 0 < length bytes.now }
     ensures { IsFront result bytes.now }
 {

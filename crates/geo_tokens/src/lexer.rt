@@ -8,6 +8,7 @@ use crate::front::{Front, after, next_front};
 use crate::token::Token;
 use std::alloc::Global;
 
+/// Cuts the text from the left, one gap or token after the other.
 fn cut(alloc: Global, text: &[u8]) -> Result<Vec<Token>, TextFault>
     ensures { Tokenizes result text.now }
 {

@@ -7,6 +7,7 @@ ghost use Rattle.geo_tokens.specs.declared.token.Keyword.{Keyword};
 
 use crate::token::{Keyword, Sym};
 
+/// The reserved word of two bytes that is spelled so.
 fn word_of_two(bytes: &[u8]) -> Option<Keyword>
     ensures { result ≡ spelled_as word_bytes (words_of 2) bytes.now }
 {
@@ -27,6 +28,7 @@ fn word_of_two(bytes: &[u8]) -> Option<Keyword>
     }
 }
 
+/// The reserved word of three bytes that is spelled so.
 fn word_of_three(bytes: &[u8]) -> Option<Keyword>
     ensures { result ≡ spelled_as word_bytes (words_of 3) bytes.now }
 {
@@ -59,6 +61,7 @@ fn word_of_three(bytes: &[u8]) -> Option<Keyword>
     }
 }
 
+/// The reserved word of four bytes that is spelled so.
 fn word_of_four(bytes: &[u8]) -> Option<Keyword>
     ensures { result ≡ spelled_as word_bytes (words_of 4) bytes.now }
 {
@@ -79,6 +82,7 @@ fn word_of_four(bytes: &[u8]) -> Option<Keyword>
     }
 }
 
+/// The reserved word of five bytes that is spelled so.
 fn word_of_five(bytes: &[u8]) -> Option<Keyword>
     ensures { result ≡ spelled_as word_bytes (words_of 5) bytes.now }
 {
@@ -107,6 +111,7 @@ fn word_of_five(bytes: &[u8]) -> Option<Keyword>
     }
 }
 
+/// The reserved word of six bytes that is spelled so.
 fn word_of_six(bytes: &[u8]) -> Option<Keyword>
     ensures { result ≡ spelled_as word_bytes (words_of 6) bytes.now }
 {
@@ -129,6 +134,7 @@ fn word_of_six(bytes: &[u8]) -> Option<Keyword>
     }
 }
 
+/// The reserved word of seven bytes that is spelled so.
 fn word_of_seven(bytes: &[u8]) -> Option<Keyword>
     ensures { result ≡ spelled_as word_bytes (words_of 7) bytes.now }
 {
