@@ -7,10 +7,10 @@ use Rattle.geo_chan.specs.Causes.{Rose}
 use Rattle.geo_chan.specs.declared.outside.PutFault.{PutFault}
 use Rattle.geo_chan.specs.declared.outside.PutFault.TheVariants.{Failed}
 use Rattle.geo_chan.specs.Written.{Writes, AppendsFront}
-use Rattle.problem_text.specs.Problem.{ProblemData}
+use Rattle.problem_text.specs.LineProblem.{ProblemData}
 use Rattle.geo_tokens.specs.declared.fault.FaultWord.{FaultWord}
 use Rattle.geo_tokens.specs.declared.fault.FaultWord.TheVariants.{Long, Syntax}
-use Rattle.problem_text.specs.Text.{Accepts, FirstFault, IsTooLong, Spells}
+use Rattle.problem_text.specs.LineText.{Accepts, FirstFault, IsTooLong, Spells}
 use Rattle.geost_run.specs.declared.command.Command.{Command}
 use Rattle.geost_run.specs.declared.command.Command.TheVariants.{First}
 use Rattle.geost_run.specs.declared.command.Status.{Status}

@@ -2,11 +2,11 @@
 use Rattle.std.proofs.Common.{◌≡◌, ◌⊎◌, inl, inr, ℕ, List, refl, sym, ◌∙◌, subst}
 use Rattle.geo_tokens.specs.declared.fault.FaultWord.{FaultWord}
 use Rattle.geo_tokens.specs.declared.fault.FaultWord.TheVariants.{Long, Syntax}
-use Rattle.problem_text.specs.declared.room.Placed.{Placed}
-use Rattle.problem_text.specs.Problem.{ProblemData}
-use Rattle.problem_text.specs.Meaning.{rooms_of, IsLayout, HasNoLayout}
-use Rattle.problem_text.specs.Text.{Accepts, FirstFault}
-use Rattle.problem_text.proofs.Spelling.{spells_once}
+use Rattle.problem_text.specs.declared.line.room.Placed.{Placed}
+use Rattle.problem_text.specs.LineProblem.{ProblemData}
+use Rattle.problem_text.specs.LineMeaning.{rooms_of, IsLayout, HasNoLayout}
+use Rattle.problem_text.specs.LineText.{Accepts, FirstFault}
+use Rattle.problem_text.proofs.LineSpelling.{spells_once}
 use Rattle.geost_run.specs.declared.command.Command.{Command}
 use Rattle.geost_run.specs.declared.command.Command.TheVariants.{First}
 use Rattle.geost_run.specs.declared.command.Status.{Status}

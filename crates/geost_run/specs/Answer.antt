@@ -1,11 +1,11 @@
 -- What the program answers: the text that it writes and the status that it ends with.
 use Rattle.std.specs.Prelude.{◌≡◌, ◌⊎◌, ◌++◌, ℕ, List, codes, decimal}
-use Rattle.problem_text.specs.declared.room.Placed.{Placed}
+use Rattle.problem_text.specs.declared.line.room.Placed.{Placed}
 use Rattle.geo_tokens.specs.declared.fault.FaultWord.{FaultWord}
 use Rattle.geo_tokens.specs.Fault.{fault_bytes}
-use Rattle.problem_text.specs.Problem.{ProblemData}
-use Rattle.problem_text.specs.Meaning.{rooms_of, IsFirstLayout, HasNoLayout}
-use Rattle.problem_text.specs.Text.{Accepts, FirstFault}
+use Rattle.problem_text.specs.LineProblem.{ProblemData}
+use Rattle.problem_text.specs.LineMeaning.{rooms_of, IsFirstLayout, HasNoLayout}
+use Rattle.problem_text.specs.LineText.{Accepts, FirstFault}
 use Rattle.geost_run.specs.declared.command.Command.{Command}
 use Rattle.geost_run.specs.declared.command.Command.TheVariants.{First}
 use Rattle.geost_run.specs.declared.command.Status.{Status}

@@ -8,7 +8,7 @@ ghost use Rattle.geost_run.specs.Ends.{Ends};
 use crate::{Decision, ReadFault, Status, first_layout, read_first_text, write_decision};
 use geo_chan::{PutFault, Sink, Source};
 use geo_tokens::fault::TextFault;
-use problem_text::{read_problem, rooms};
+use problem_text::line::{read_problem, rooms};
 use std::alloc::{AllocError, Global};
 
 /// Reads a problem and writes its first layout.

@@ -1,6 +1,6 @@
 // What is to be answered, decided before anything is written.
 use geo_tokens::fault::FaultWord;
-use problem_text::{Placed, Problem};
+use problem_text::line::{Placed, Problem};
 
 /// The answer to `first N`.
 #[derive(Drop)]

@@ -1,8 +1,8 @@
 // What is written.
 ghost use Rattle.std.specs.Prelude.{◌≡◌, ◌≤◌, ◌∷◌, codes, length, List, ℕ, flat_map};
 ghost use Rattle.geo_chan.specs.Written.{Writes};
-ghost use Rattle.problem_text.specs.Problem.{problem_data, shape_data, object_data};
-ghost use Rattle.problem_text.specs.Meaning.{shape_at};
+ghost use Rattle.problem_text.specs.LineProblem.{problem_data, shape_data, object_data};
+ghost use Rattle.problem_text.specs.LineMeaning.{shape_at};
 ghost use Rattle.geost_run.specs.Answer.{refusal};
 ghost use Rattle.geost_run.specs.Block.{block_of, lines_of, line_of, named_line, token_line, first_group, later_group};
 ghost use Rattle.geost_run.specs.Decision.{decision_text};
@@ -10,7 +10,7 @@ ghost use Rattle.geost_run.specs.Decision.{decision_text};
 use crate::Decision;
 use geo_chan::{Piece, PutFault, Sink, write_all_bytes, write_pieces};
 use geo_tokens::fault::{FaultWord, fault_text};
-use problem_text::{ObjectDef, Placed, Problem};
+use problem_text::line::{ObjectDef, Placed, Problem};
 
 /// Writes the whole answer.
 pub fn write_decision<W: Sink>(sink: &mut W, decision: &Decision) -> Result<(), PutFault>

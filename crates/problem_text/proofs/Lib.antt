@@ -1,4 +1,4 @@
-pub mod Overlap
-pub mod Right
-pub mod Building
-pub mod Spelling
+pub mod LineOverlap
+pub mod LineRight
+pub mod LineBuilding
+pub mod LineSpelling

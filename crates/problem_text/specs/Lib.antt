@@ -1,7 +1,7 @@
-pub mod Problem
-pub mod Meaning
-pub mod Tree
-pub mod Grammar
-pub mod Reading
-pub mod Statements
-pub mod Text
+pub mod LineProblem
+pub mod LineMeaning
+pub mod LineTree
+pub mod LineGrammar
+pub mod LineReading
+pub mod LineStatements
+pub mod LineText

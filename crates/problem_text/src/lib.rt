@@ -1,20 +1,4 @@
 //! Problems: their text, and what their layouts are.
-//!
-//! The text that is read is a part of the whole format so far: one dimension, one box a shape, one shape an object, and
-//! the one rule `apart`.
 #![tactic(auto)]
 
-mod build;
-mod cells;
-mod object;
-mod problem;
-mod read;
-mod room;
-mod statements;
-mod tree;
-
-pub use cells::{apart, rooms};
-pub use object::ObjectDef;
-pub use problem::{Problem, ShapeDef};
-pub use read::read_problem;
-pub use room::{Placed, Room};
+pub mod line;
