@@ -1,0 +1,16 @@
+pub mod Sets
+pub mod Flags
+pub mod Monotone
+pub mod Points
+pub mod Join
+pub mod Tuples
+pub mod Few
+pub mod Products
+pub mod Puts
+pub mod Children
+pub mod Walks
+pub mod Decide
+pub mod Greatest
+pub mod Steps
+pub mod Full
+pub mod Fronts
