@@ -1,12 +1,13 @@
 -- The join of two supported states is supported.
 use Rattle.std.proofs.Common.{◌≡◌, ℕ, zero, suc, ◌<◌, Bool, true, false, cond, ◌||◌, List, [], ◌∷◌, length, refl, sym, ap, ◌∙◌, subst, inl, inr, ◌⊎◌, arith, ℤ, pos, ◌≤ℤ◌}
 use Rattle.std.proofs.lemmas.Int.{ints}
-use Rattle.std.proofs.lemmas.Bool.{cases_Bool, or_cases, or_left, or_right, cond-true, cond-false}
+use Rattle.std.proofs.lemmas.Bool.{cases_lt, cases_Bool, or_cases, or_left, or_right, cond-true, cond-false}
+use Rattle.std.proofs.lemmas.List.{get_or_past}
 use lib.Signed.{le_z}
 use borrow.Author.Differences.{le-true, le-false}
 use Rattle.geo_conditions.specs.declared.cond.Cond.{Cond}
 use Rattle.geo_base.specs.Boxes.{coordinate}
-use Rattle.geo_conditions.specs.Reach.{State, Reach, reach, has, low, high, place_in, Within, Inside, lesser, greater, pairwise, either, join_reach, join}
+use Rattle.geo_conditions.specs.Reach.{State, Reach, IsState, nowhere, reach, has, low, high, place_in, Within, Inside, lesser, greater, pairwise, either, join_reach, join}
 use Rattle.geo_conditions.specs.Supported.{IsSupported}
 use Rattle.geo_conditions.proofs.Monotone.{le_trans}
 use Rattle.geo_conditions.proofs.Points.{unrefuted_wider, supports_wider}
@@ -18,6 +19,19 @@ pub record Alike (r q : Reach) : Type 0 where
 pub record SameShape (S T : State) : Type 0 where
   pub objects : length S ≡ length T
   pub each : (o : ℕ) → Alike (reach S o) (reach T o)
+
+-- two states of as many objects in as many dimensions
+pub same_shape : (k : ℕ) (S T : State) → IsState k S → IsState k T → length S ≡ length T → SameShape S T
+same_shape k S T s t e = record {
+  objects = e;
+  each = λ o. elim (cases_lt o (length S)) [
+    | inl b ↦ let c : o < length T = omega (arith, b, e) in
+        record { lo = (s.dims o nowhere b).0 ∙ sym (t.dims o nowhere c).0; hi = (s.dims o nowhere b).1 ∙ sym (t.dims o nowhere c).1 }
+    | inr b ↦ let x : reach S o ≡ nowhere = get_or_past S o nowhere b in
+        let y : reach T o ≡ nowhere = get_or_past T o nowhere (omega (arith, b, e)) in
+        record { lo = ap (λ (r : Reach). length r.region.lo) (x ∙ sym y); hi = ap (λ (r : Reach). length r.region.hi) (x ∙ sym y) }
+  ];
+}
 
 or_false : (b : Bool) → b ≡ (b || false)
 or_false true = refl

@@ -2,6 +2,7 @@ pub mod Sets
 pub mod Flags
 pub mod Monotone
 pub mod Points
+pub mod ByIndex
 pub mod Join
 pub mod Tuples
 pub mod Few
@@ -14,3 +15,7 @@ pub mod Greatest
 pub mod Steps
 pub mod Full
 pub mod Fronts
+pub mod Orders
+pub mod Layouts
+pub mod Prefixes
+pub mod Beginnings

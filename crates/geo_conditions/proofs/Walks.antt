@@ -15,7 +15,7 @@ pub same_pos : (a b : ℕ) → pos a ≡ pos b → a ≡ b
 same_pos a b h = omega (arith, ints, h)
 
 -- what is fixed is the first value
-fixed_first : (T : State) (x : Variable) (v : ℤ) → HasNoEmpty T → object_of x < length T → IsFixed T x v → IsFirstValue T x v
+pub fixed_first : (T : State) (x : Variable) (v : ℤ) → HasNoEmpty T → object_of x < length T → IsFixed T x v → IsFirstValue T x v
 fixed_first T (PlaceOf o) v n h f =
     let s = (n o h).place.0 in
     let there = (n o h).place.1 in

@@ -1,5 +1,5 @@
 -- Conditions: their truth on a tuple, and whether they are possible on a state.
-use Rattle.std.specs.Prelude.{ℕ, ◌+◌, ◌<◌, Bool, not, ◌==◌, List, [], ◌∷◌, length, ℤ, pos, negsuc, ◌+ℤ◌, ◌*ℤ◌}
+use Rattle.std.specs.Prelude.{◌≡◌, true, false, ℕ, ◌+◌, ◌<◌, Bool, not, ◌==◌, List, [], ◌∷◌, length, ℤ, pos, negsuc, ◌+ℤ◌, ◌*ℤ◌}
 use Rattle.std.specs.List.{All}
 use lib.Signed.{le_z}
 use Rattle.geo_conditions.specs.declared.form.Term.{Term}
@@ -66,3 +66,15 @@ abbrev mutual
   pub AllFitIn : {m : _} → Row_of-Cond m → State → Type 0
   AllFitIn end_of-Cond S = Unit {0}
   AllFitIn (more_of-Cond c cs) S = FitsIn c S × AllFitIn cs S
+
+-- the condition is refuted on the state: it is not possible
+abbrev pub IsRefuted : Cond → State → Type 0
+IsRefuted c S = possible c S ≡ false
+
+-- the conditions name only objects and dimensions of S
+abbrev pub AllFit : List Cond → State → Type 0
+AllFit cs S = All (λ c. FitsIn c S) cs
+
+-- each of the conditions is true on the tuple
+abbrev pub AllHold : List Cond → Tuple → Type 0
+AllHold cs t = All (λ c. holds c t ≡ true) cs

@@ -9,3 +9,4 @@ pub mod Puts
 pub mod Supported
 pub mod Walk
 pub mod Keeps
+pub mod Laws

@@ -1,5 +1,5 @@
 -- The order of the variables, prefixes of their values, and the walk.
-use Rattle.std.specs.Prelude.{◌≡◌, ℕ, suc, ◌<◌, ◌≤◌, Bool, true, false, ◌==◌, ◌⊎◌, List, [], ◌∷◌, length, take, filter, flat_map, ℤ, pos, ◌<ℤ◌, Contains, AllPairs, Option, IfSome}
+use Rattle.std.specs.Prelude.{◌≡◌, ◌≢◌, ℕ, suc, ◌<◌, ◌≤◌, Bool, true, false, ◌==◌, ◌⊎◌, List, [], ◌∷◌, length, map, take, filter, flat_map, ℤ, pos, ◌<ℤ◌, Contains, AllPairs, Option, IfSome}
 use Rattle.std.specs.List.{All}
 use Rattle.geo_conditions.specs.declared.cond.Cond.{Cond}
 use Rattle.geo_base.specs.Boxes.{coordinate}
@@ -48,6 +48,21 @@ variables_of down o = PlaceOf o ∷ coordinates_from o 0 down
 -- the variables of the objects in that order, each its place first and then its coordinates
 abbrev pub variables : List ℕ → List Bool → List Variable
 variables order down = flat_map (variables_of down) order
+
+-- the values of the variables on the tuple
+abbrev pub values : List Variable → Tuple → List ℤ
+values xs t = map (value_in t) xs
+
+-- the order names each object of S once, and has a direction for each of the k dimensions
+pub record NamesEach (k : ℕ) (S : State) (order : Order) : Type 0 where
+  pub objects : All (λ o. o < length S) order.objects
+  pub each : (o : ℕ) → o < length S → Contains order.objects o
+  pub once : AllPairs (λ o u. o ≢ u) order.objects
+  pub dimensions : length order.down ≡ k
+
+-- the variables of a search order
+abbrev pub variables_in : Order → List Variable
+variables_in order = variables order.objects order.down
 
 -- the prefix q comes before the prefix r: lexicographically, and a prefix before its extensions
 abbrev pub Precedes : List Variable → List ℤ → List ℤ → Type 0
@@ -105,6 +120,12 @@ pub record IsFront (W : Tree) (w : List (List ℤ)) : Type 0 where
 abbrev pub IsWhole : Tree → List (List ℤ) → Type 0
 IsWhole W w = (q : List ℤ) → IsIn W q → Contains w q
 
+-- w is the walk: all its members, in order
+pub record IsWalk (W : Tree) (w : List (List ℤ)) : Type 0 where
+  pub members : All (IsIn W) w
+  pub in_order : AllPairs (Precedes W.variables) w
+  pub whole : IsWhole W w
+
 -- the walk has a member beyond w
 abbrev pub GoesOn : Tree → List (List ℤ) → Type 0
 GoesOn W w = (q : List ℤ) × IsIn W q × All (λ r. Precedes W.variables r q) w
@@ -132,3 +153,14 @@ pub record IsListing (W : Tree) (most n : ℕ) (found : List (List ℤ)) (word :
   pub few : length walked ≤ n
   pub full : found ≡ filter (is_full W) walked
   pub ends : EndsWith W most n walked found word
+
+-- the end word of a listing of the walk w: there are as many full members as are wanted, or the walk has more than n members, or neither
+abbrev pub IsEndWord : Tree → ℕ → ℕ → List (List ℤ) → List (List ℤ) → EndWord → Type 0
+IsEndWord W most n w found More = length found ≡ most
+IsEndWord W most n w found OutOfBudget = (length found < most) × (n < length w)
+IsEndWord W most n w found End = (length found < most) × (length w ≤ n)
+
+-- the same listing by the whole walk w: of the full members among its first n, the first of them as many as are wanted
+pub record Lists (W : Tree) (w : List (List ℤ)) (most n : ℕ) (found : List (List ℤ)) (word : EndWord) : Type 0 where
+  pub full : found ≡ take most (filter (is_full W) (take n w))
+  pub ends : IsEndWord W most n w found word
