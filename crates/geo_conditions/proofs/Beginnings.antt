@@ -1,13 +1,12 @@
 -- Fronts are beginnings of the walk, and a listing by fronts is the listing by the whole walk.
-use Rattle.std.proofs.Common.{◌≡◌, ℕ, ◌<◌, ◌≤◌, Bool, List, [], ◌++◌, length, take, drop, get_or, refl, sym, ap, ◌∙◌, subst, inl, inr, ◌⊎◌, arith, ℤ, Contains}
+use Rattle.std.proofs.Common.{◌≡◌, ℕ, ◌<◌, ◌≤◌, Bool, List, [], ◌++◌, length, take, drop, get_or, sym, ap, ◌∙◌, subst, inl, inr, arith, ℤ}
 use Rattle.std.specs.Prelude.{filter}
-use Rattle.std.specs.List.{All}
 use Rattle.std.proofs.lemmas.Bool.{cases_lt}
 use Rattle.std.proofs.lemmas.List.{take_all, take-take, take-append-drop, take-append-le, length-take, length-take-le, get_or-take}
 use Rattle.std.proofs.lemmas.List.Elements.{All-take, filter-append}
 use Rattle.geo_conditions.specs.Walk.{Precedes, Tree, IsIn, IsFront, IsWalk, IsWhole, GoesOn, is_full, EndWord, More, End, OutOfBudget, IsListing, Lists}
 use Rattle.geo_conditions.proofs.Fronts.{precedes_once, fronts_agree}
-use Rattle.geo_conditions.proofs.Layouts.{any_default}
+use Rattle.geo_conditions.proofs.Defaults.{any_default}
 
 pub walk_is_front : (W : Tree) (w : List (List ℤ)) → IsWalk W w → IsFront W w
 walk_is_front W w h = record { members = h.members; in_order = h.in_order; first = λ q m. inl (h.whole q m) }
@@ -45,14 +44,14 @@ front_short : (W : Tree) (w u : List (List ℤ)) → IsWalk W w → IsFront W u 
 front_short W w u h f = elim (cases_lt (length w) (length u)) [
   | inr b ↦ b
   | inl b ↦
-    let t = take (length w) u in
-    let long : length t ≡ length w = length-take-le (length w) u (omega arith) in
-    let same : t ≡ w = fronts_agree W t w (take_front W u (length w) f) (walk_is_front W w h) long in
-    let q = get_or u (length w) [] in
-    let own : get_or u (length w) q ≡ q = any_default u (length w) q [] b in
-    let c = h.whole q (f.members (length w) [] b) in
-    let there : get_or u c.0 q ≡ q = sym (get_or-take (length w) u c.0 q c.1) ∙ ap (λ (l : List (List ℤ)). get_or l c.0 q) same ∙ c.2 in
-    absurd (twice W u c.0 (length w) q f c.1 b there own)
+      let t = take (length w) u in
+      let long : length t ≡ length w = length-take-le (length w) u (omega arith) in
+      let same : t ≡ w = fronts_agree W t w (take_front W u (length w) f) (walk_is_front W w h) long in
+      let q = get_or u (length w) [] in
+      let own : get_or u (length w) q ≡ q = any_default u (length w) q [] b in
+      let c = h.whole q (f.members (length w) [] b) in
+      let there : get_or u c.0 q ≡ q = sym (get_or-take (length w) u c.0 q c.1) ∙ ap (λ (l : List (List ℤ)). get_or l c.0 q) same ∙ c.2 in
+      absurd (twice W u c.0 (length w) q f c.1 b there own)
 ]
 
 pub front_begins : (W : Tree) (w u : List (List ℤ)) → IsWalk W w → IsFront W u → u ≡ take (length u) w
@@ -82,12 +81,12 @@ goes_on_longer : (W : Tree) (w v : List (List ℤ)) → IsWalk W w → IsFront W
 goes_on_longer W w v h f g = elim (cases_lt (length v) (length w)) [
   | inl b ↦ b
   | inr b ↦
-    let q = g.0 in
-    let c = h.whole q g.1 in
-    let e : v ≡ w = front_begins W w v h f ∙ take_all (length v) w b in
-    let there : get_or v c.0 q ≡ q = ap (λ (l : List (List ℤ)). get_or l c.0 q) e ∙ c.2 in
-    let p : Precedes W.variables q q = subst (λ (r : List ℤ). Precedes W.variables r q) there (g.2 c.0 q (omega (arith, c.1, ap length e))) in
-    absurd (precedes_once W.variables q q p p)
+      let q = g.0 in
+      let c = h.whole q g.1 in
+      let e : v ≡ w = front_begins W w v h f ∙ take_all (length v) w b in
+      let there : get_or v c.0 q ≡ q = ap (λ (l : List (List ℤ)). get_or l c.0 q) e ∙ c.2 in
+      let p : Precedes W.variables q q = subst (λ (r : List ℤ). Precedes W.variables r q) there (g.2 c.0 q (omega (arith, c.1, ap length e))) in
+      absurd (precedes_once W.variables q q p p)
 ]
 
 -- the listing ends with that word, found by the front v of the walk w

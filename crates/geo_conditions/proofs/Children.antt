@@ -1,5 +1,5 @@
 -- The children of a condition as a list.
-use Rattle.std.proofs.Common.{◌≡◌, ℕ, suc, ◌+◌, ◌<◌, ◌≤◌, List, [], ◌∷◌, length, get_or, drop, refl, ap, ◌∙◌, subst}
+use Rattle.std.proofs.Common.{◌≡◌, ℕ, suc, ◌+◌, ◌<◌, ◌≤◌, List, [], ◌∷◌, length, get_or, drop, refl, sym, ap, ◌∙◌, subst, below_more}
 use Rattle.std.specs.List.{All}
 use Rattle.geo_conditions.specs.declared.cond.Cond.{Row_of-Cond, end_of-Cond, more_of-Cond, items-the_row-Cond, items_hidden-the_row-Cond-0, Cond, AtLeast, AtLeast'}
 use Rattle.geo_conditions.specs.declared.cond.Conds.{Conds}
@@ -8,7 +8,8 @@ use lib.Signed.{le_z}
 use mathlib.Core.Former.{Count}
 use Rattle.std.proofs.Math.Seq.{drop-cons}
 use Rattle.std.proofs.lemmas.List.{drop_all}
-use Rattle.std.proofs.lemmas.List.Elements.{All-nil, All-cons}
+use Rattle.std.proofs.lemmas.List.Elements.{All-nil, All-cons, All-head, All-tail}
+use Rattle.geo_conditions.proofs.Defaults.{any_default}
 use Rattle.geo_conditions.specs.Reach.{State, count}
 use Rattle.geo_conditions.specs.Conditions.{possible, how_many_possible, FitsIn, AllFitIn}
 
@@ -46,3 +47,18 @@ many_step S cs i d h = ap (many_possible S) (drop-cons cs i d h)
 
 pub many_end : (S : State) (cs : List Cond) (i : ℕ) → length cs ≤ i → many_possible S (drop i cs) ≡ 0
 many_end S cs i h = ap (many_possible S) (drop_all i cs h)
+
+fit_back : (n : _) (row : Row_of-Cond n) (S : State) → All (λ c. FitsIn c S) (items-the_row-Cond n row) → AllFitIn row S
+fit_back n end_of-Cond S h = tt
+fit_back n (more_of-Cond c cs) S h = (All-head (λ e. FitsIn e S) c _ h, fit_back _ cs S (All-tail (λ e. FitsIn e S) c _ h))
+
+pub fit_in : (n : ℤ) (children : Conds) (S : State) → All (λ c. FitsIn c S) children.items.items → FitsIn (AtLeast n children) S
+fit_in n children S h =
+    let row = row_of (AtLeast n children) in
+    let same = items_hidden-the_row-Cond-0 children.items in
+    fit_back row.0 row.1 S (subst (All (λ c. FitsIn c S)) (sym same) h)
+
+-- one condition more fits
+pub fits_more : (cs : List Cond) (S : State) (i : ℕ) (c : Cond) → c ≡ get_or cs i c → i < length cs → FitsIn c S → ((k : ℕ) → k < i → (d : Cond) → FitsIn (get_or cs k d) S) → (k : ℕ) → k < i + 1 → (d : Cond) → FitsIn (get_or cs k d) S
+fits_more cs S i c is h f before =
+    below_more (λ k. (d : Cond) → FitsIn (get_or cs k d) S) i before (λ d. subst (λ (e : Cond). FitsIn e S) (is ∙ any_default cs i c d h) f)

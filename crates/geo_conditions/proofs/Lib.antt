@@ -1,3 +1,4 @@
+pub mod Defaults
 pub mod Sets
 pub mod Flags
 pub mod Monotone

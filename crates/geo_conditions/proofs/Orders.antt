@@ -3,7 +3,7 @@ use Rattle.std.proofs.Common.{◌≡◌, ℕ, zero, suc, ◌+◌, ◌<◌, Bool,
 use Rattle.std.specs.List.{All}
 use Rattle.std.proofs.lemmas.List.{append-nil, append_assoc}
 use Rattle.std.proofs.lemmas.List.Elements.{All-head, All-tail}
-use Rattle.geo_conditions.specs.Reach.{State, IsState, dims}
+use Rattle.geo_conditions.specs.Reach.{State, IsState}
 use Rattle.geo_conditions.specs.Walk.{Variable, PlaceOf, CoordinateOf, Order, NamesEach, AreOf, coordinates_from, variables_of, variables, variables_in}
 use Rattle.geo_conditions.proofs.Few.{dims_are}
 use Rattle.geo_conditions.proofs.Full.{IsAmong, AreAll}

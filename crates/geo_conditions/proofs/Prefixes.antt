@@ -1,7 +1,7 @@
 -- Each prefix of a member of the walk is a member.
-use Rattle.std.proofs.Common.{◌≡◌, ℕ, zero, suc, ◌<◌, ◌≤◌, List, [], ◌∷◌, length, take, refl, sym, ap, subst, arith, ℤ}
+use Rattle.std.proofs.Common.{ℕ, zero, suc, ◌<◌, ◌≤◌, List, [], ◌∷◌, length, take, sym, arith, ℤ}
 use Rattle.geo_conditions.specs.declared.cond.Cond.{Cond}
-use Rattle.geo_conditions.specs.Reach.{State, HasNoEmpty, Inside}
+use Rattle.geo_conditions.specs.Reach.{State, HasNoEmpty}
 use Rattle.geo_conditions.specs.Walk.{Variable, AreOf, Begins, IsMember}
 use Rattle.geo_conditions.proofs.Walks.{fixed_first, are_of_same}
 

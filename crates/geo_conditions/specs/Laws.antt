@@ -1,5 +1,5 @@
 -- The laws of conditions, supported states and the walk, as statements.
-use Rattle.std.specs.Prelude.{◌≡◌, ℕ, ◌<◌, ◌≤◌, ◌↔◌, false, List, length, take, ℤ, None}
+use Rattle.std.specs.Prelude.{◌≡◌, ℕ, ◌<◌, ◌≤◌, ◌↔◌, false, List, length, take, ℤ}
 use Rattle.geo_conditions.specs.declared.cond.Cond.{Cond}
 use Rattle.geo_conditions.specs.Conditions.{holds, FitsIn, IsRefuted, AllFit, AllHold}
 use Rattle.geo_conditions.specs.Reach.{State, Tuple, Inside, HasNoEmpty, TupleIn, IsState, join}

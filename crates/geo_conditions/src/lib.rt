@@ -3,7 +3,9 @@
 #![tactic(auto)]
 
 mod cond;
+mod fitting;
 mod form;
+mod laws;
 mod layout;
 mod object;
 mod order;
@@ -12,7 +14,13 @@ mod shapes;
 mod state;
 
 pub use cond::{Cond, Conds};
+pub use fitting::{all_fit, fits};
 pub use form::{Form, Term};
+pub use laws::{
+    fronts_begin_the_walk, full_members_are_layouts, greatest_exists, layouts_stay,
+    listings_follow_the_walk, prefixes_are_members, refutation_is_monotone, refuted_is_false,
+    supported_states_join, values_tell_tuples,
+};
 pub use layout::Layout;
 pub use object::{MAX_OBJECTS, MAX_SHAPES, ObjId};
 pub use order::SearchOrder;

@@ -1,4 +1,4 @@
-use Rattle.std.proofs.Common.{◌≡◌, length, sym, arith}
+use Rattle.std.proofs.Common.{arith}
 use Rattle.geo_conditions.proofs.Tuples.{layout_in_greatest, tuple_from_just, spot_from_1}
 use Rattle.geo_conditions.proofs.laws.layouts_stay.Goals as goal
 
