@@ -17,7 +17,7 @@ impl<const K: usize> KBox<K> {
         ensures lo { result.lo ≡ lo.entry }
         ensures hi { result.hi ≡ hi.entry }
     {
-        KBox { lo, hi }
+        Self { lo, hi }
     }
 
     /// The corner with the low ends.
