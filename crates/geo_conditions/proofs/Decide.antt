@@ -88,7 +88,7 @@ pub decide_true : (b : Bool) → Decided (b ≡ true)
 decide_true true = inl refl
 decide_true false = inr false≢true
 
-decide_ℤ : (a b : ℤ) → Decided (a ≡ b)
+pub decide_ℤ : (a b : ℤ) → Decided (a ≡ b)
 decide_ℤ a b = elim (cases_ℤ a b) [
   | inl h ↦ inr (λ e. absurd (omega (arith, ints, e)))
   | inr h ↦ elim (cases_ℤ b a) [ inl k ↦ inr (λ e. absurd (omega (arith, ints, e))) | inr k ↦ inl (omega (arith, ints)) ]

@@ -6,7 +6,7 @@ use Rattle.std.proofs.lemmas.List.Elements.{All-head, All-tail}
 use Rattle.geo_conditions.specs.Walk.{Variable, PlaceOf, CoordinateOf, IsBefore, Precedes, Tree, IsIn, IsFront}
 
 -- the order has no two that come before one another
-before_once : (x : Variable) (v w : ℤ) → IsBefore x v w → IsBefore x w v → ⊥
+pub before_once : (x : Variable) (v w : ℤ) → IsBefore x v w → IsBefore x w v → ⊥
 before_once (PlaceOf o) v w h k = absurd (omega (arith, ints, h, k))
 before_once (CoordinateOf o d false) v w h k = absurd (omega (arith, ints, h, k))
 before_once (CoordinateOf o d true) v w h k = absurd (omega (arith, ints, h, k))

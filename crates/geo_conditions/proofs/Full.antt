@@ -32,7 +32,7 @@ first_place [] = 0
 first_place (true ∷ bs) = 1
 first_place (false ∷ bs) = suc (first_place bs)
 
-first_there : (bs : List Bool) (s : ℕ) → place_in bs s ≡ true → place_in bs (first_place bs) ≡ true
+pub first_there : (bs : List Bool) (s : ℕ) → place_in bs s ≡ true → place_in bs (first_place bs) ≡ true
 first_there bs zero h = absurd (false≢true h)
 first_there [] (suc s) h = absurd (false≢true h)
 first_there (true ∷ bs) (suc s) h = refl

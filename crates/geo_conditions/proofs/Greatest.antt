@@ -51,7 +51,7 @@ in_narrower T S o i h = omega (arith, i.objects)
 abbrev pub without_place : Reach → ℕ → Reach
 without_place r s = record { places = set r.places s false; region = r.region }
 
-set_false : (bs : List Bool) (k u : ℕ) → place_in (set bs k false) u ≡ true → place_in bs u ≡ true
+pub set_false : (bs : List Bool) (k u : ℕ) → place_in (set bs k false) u ≡ true → place_in bs u ≡ true
 set_false bs k zero h = h
 set_false bs k (suc u) h = elim (cases_eq u k) [
   | inl e ↦ elim (cases_lt k (length bs)) [
@@ -61,7 +61,7 @@ set_false bs k (suc u) h = elim (cases_eq u k) [
   | inr ne ↦ sym (get_or-set_other bs k u false false ne) ∙ h
 ]
 
-set_kept : (bs : List Bool) (k u : ℕ) → u ≢ suc k → place_in bs u ≡ true → place_in (set bs k false) u ≡ true
+pub set_kept : (bs : List Bool) (k u : ℕ) → u ≢ suc k → place_in bs u ≡ true → place_in (set bs k false) u ≡ true
 set_kept bs k zero ne h = h
 set_kept bs k (suc u) ne h = let ne' : u ≢ k = omega arith in get_or-set_other bs k u false false ne' ∙ h
 

@@ -55,12 +55,12 @@ bare_layout cs [] q f i h e = subst (IsMember cs [] []) e (layout_supported cs [
 bare_layout cs (p ∷ t) q f i h e = absurd (omega (arith, i.objects))
 
 -- a state whose objects an empty order names has none
-no_objects : (k : ℕ) (S : State) (order : Order) → NamesEach k S order → order.objects ≡ [] → S ≡ []
+pub no_objects : (k : ℕ) (S : State) (order : Order) → NamesEach k S order → order.objects ≡ [] → S ≡ []
 no_objects k [] order n e = refl
 no_objects k (r ∷ S) order n e = let c = n.each 0 (omega arith) in absurd (omega (arith, c.1, ap length e))
 
 -- with an object and a dimension the order has a variable
-some_variable : (order : Order) → 0 < length order.objects → 0 < length (variables_in order)
+pub some_variable : (order : Order) → 0 < length order.objects → 0 < length (variables_in order)
 some_variable order h = some order.objects order.down h
   where
     some : (objects : List ℕ) (down : List _) → 0 < length objects → 0 < length (Rattle.geo_conditions.specs.Walk.variables objects down)
@@ -77,11 +77,11 @@ bare_in cs [] [] q t e f fit i h v = bare_layout cs t q fit i h v
 bare_in cs (r ∷ S) xs q t e f fit i h v = absurd (omega (arith, ap length e))
 bare_in cs [] (x ∷ xs) q t e f fit i h v = absurd (omega (arith, ap length f))
 
-empty_list : {X : Type 0} (xs : List X) → length xs ≤ 0 → xs ≡ []
+pub empty_list : {X : Type 0} (xs : List X) → length xs ≤ 0 → xs ≡ []
 empty_list [] h = refl
 empty_list (x ∷ xs) h = absurd (omega arith)
 
-no_variables : (order : Order) → order.objects ≡ [] → variables_in order ≡ []
+pub no_variables : (order : Order) → order.objects ≡ [] → variables_in order ≡ []
 no_variables order e = ap (λ (l : List ℕ). Rattle.geo_conditions.specs.Walk.variables l order.down) e
 
 pub member_is_layout : (k : ℕ) (cs : List Cond) (S : State) (order : Order) (q : List ℤ) → 0 < k → IsState k S → AllFit cs S → NamesEach k S order → IsMember cs S (variables_in order) q → length q ≡ length (variables_in order) → IsOfLayout cs S order q

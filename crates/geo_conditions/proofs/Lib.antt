@@ -20,3 +20,6 @@ pub mod Orders
 pub mod Layouts
 pub mod Prefixes
 pub mod Beginnings
+pub mod Cuts
+pub mod Whole
+pub mod Tokens

@@ -1,5 +1,5 @@
 -- The variables of a search order.
-use Rattle.std.proofs.Common.{◌≡◌, ℕ, zero, suc, ◌+◌, ◌<◌, Bool, List, [], ◌∷◌, ◌++◌, length, refl, sym, ap, ◌∙◌, subst, inl, inr, arith, Contains}
+use Rattle.std.proofs.Common.{◌≡◌, ℕ, zero, suc, ◌+◌, ◌<◌, ◌≤◌, Bool, List, [], ◌∷◌, ◌++◌, length, refl, sym, ap, ◌∙◌, subst, inl, inr, arith, Contains}
 use Rattle.std.specs.List.{All}
 use Rattle.std.proofs.lemmas.List.{append-nil, append_assoc}
 use Rattle.std.proofs.lemmas.List.Elements.{All-head, All-tail}
@@ -95,3 +95,26 @@ last_variable (o ∷ u ∷ order) down h k =
       r.5,
       (suc r.6.0, omega (arith, r.6.1), r.6.2),
     )
+
+-- ---- each coordinate is of one of the k dimensions
+
+abbrev pub AreIn : ℕ → List Variable → Type 0
+AreIn k [] = Unit {0}
+AreIn k (PlaceOf o ∷ xs) = AreIn k xs
+AreIn k (CoordinateOf o d down ∷ xs) = (d < k) × AreIn k xs
+
+are_in_append : (k : ℕ) (xs ys : List Variable) → AreIn k xs → AreIn k ys → AreIn k (xs ++ ys)
+are_in_append k [] ys a b = b
+are_in_append k (PlaceOf o ∷ xs) ys a b = are_in_append k xs ys a b
+are_in_append k (CoordinateOf o d down ∷ xs) ys a b = (a.0, are_in_append k xs ys a.1 b)
+
+coordinates_in : (k o n : ℕ) (down : List Bool) → n + length down ≤ k → AreIn k (coordinates_from o n down)
+coordinates_in k o n [] h = tt
+coordinates_in k o n (b ∷ down) h = (omega arith, coordinates_in k o (suc n) down (omega arith))
+
+variables_are_in : (k : ℕ) (order : List ℕ) (down : List Bool) → length down ≤ k → AreIn k (variables order down)
+variables_are_in k [] down h = tt
+variables_are_in k (o ∷ order) down h = are_in_append k (variables_of down o) (variables order down) (coordinates_in k o 0 down (omega arith)) (variables_are_in k order down h)
+
+pub order_are_in : (k : ℕ) (S : State) (order : Order) → NamesEach k S order → AreIn k (variables_in order)
+order_are_in k S order n = variables_are_in k order.objects order.down (omega (arith, n.dimensions))

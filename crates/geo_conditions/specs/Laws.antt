@@ -1,5 +1,5 @@
 -- The laws of conditions, supported states and the walk, as statements.
-use Rattle.std.specs.Prelude.{◌≡◌, ℕ, ◌<◌, ◌≤◌, ◌↔◌, false, List, length, take, ℤ}
+use Rattle.std.specs.Prelude.{◌≡◌, ℕ, ◌<◌, ◌≤◌, ◌↔◌, false, List, length, take, ℤ, Option}
 use Rattle.geo_conditions.specs.declared.cond.Cond.{Cond}
 use Rattle.geo_conditions.specs.Conditions.{holds, FitsIn, IsRefuted, AllFit, AllHold}
 use Rattle.geo_conditions.specs.Reach.{State, Tuple, Inside, HasNoEmpty, TupleIn, IsState, join}
@@ -43,6 +43,11 @@ ValuesTellTuples = (k : ℕ) (S : State) (order : Order) (t u : Tuple) → IsSta
 -- each prefix of a member, of one value or more, is a member
 abbrev pub PrefixesAreMembers : Type 0
 PrefixesAreMembers = (k : ℕ) (cs : List Cond) (S : State) (order : Order) (q : List ℤ) (m : ℕ) → NamesEach k S order → IsMember cs S (variables_in order) q → 0 < m → m ≤ length q → IsMember cs S (variables_in order) (take m q)
+
+-- the walk is a list, also after a token
+abbrev pub WalksAreLists : Type 0
+WalksAreLists = (k : ℕ) (cs : List Cond) (S : State) (order : Order) (after : Option (List ℤ)) → IsState k S → NamesEach k S order
+    → (w : List (List ℤ)) × IsWalk (record { conditions = cs; first = S; variables = variables_in order; after = after }) w
 
 -- the fronts of a walk are its beginnings
 abbrev pub FrontsBeginTheWalk : Type 0

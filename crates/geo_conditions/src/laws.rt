@@ -1,6 +1,6 @@
 //! The laws of the definitions. Each function has a law as its contract, and does nothing.
 
-ghost use Rattle.geo_conditions.specs.Laws.{RefutationIsMonotone, RefutedIsFalse, SupportedStatesJoin, GreatestExists, LayoutsStay, FullMembersAreLayouts, ValuesTellTuples, PrefixesAreMembers, FrontsBeginTheWalk, ListingsFollowTheWalk};
+ghost use Rattle.geo_conditions.specs.Laws.{RefutationIsMonotone, RefutedIsFalse, SupportedStatesJoin, GreatestExists, LayoutsStay, FullMembersAreLayouts, ValuesTellTuples, PrefixesAreMembers, WalksAreLists, FrontsBeginTheWalk, ListingsFollowTheWalk};
 
 /// What is refuted on a state stays refuted on a smaller one.
 pub fn refutation_is_monotone()
@@ -40,6 +40,11 @@ pub fn values_tell_tuples()
 /// Each prefix of a member of the walk is a member.
 pub fn prefixes_are_members()
     ensures { PrefixesAreMembers }
+{}
+
+/// The walk is a list, also after a token.
+pub fn walks_are_lists()
+    ensures { WalksAreLists }
 {}
 
 /// The fronts of a walk are its beginnings.

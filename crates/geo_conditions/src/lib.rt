@@ -21,7 +21,7 @@ pub use form::{Form, Term};
 pub use laws::{
     fronts_begin_the_walk, full_members_are_layouts, greatest_exists, layouts_stay,
     listings_follow_the_walk, prefixes_are_members, refutation_is_monotone, refuted_is_false,
-    supported_states_join, values_tell_tuples,
+    supported_states_join, values_tell_tuples, walks_are_lists,
 };
 pub use layout::Layout;
 pub use object::{MAX_OBJECTS, MAX_SHAPES, ObjId};
