@@ -13,6 +13,10 @@ Has K lo hi p = (d : ℕ) → d < K → (coordinate lo d ≤ℤ coordinate p d) 
 abbrev pub HasNone : ℕ → List ℤ → List ℤ → Type 0
 HasNone K lo hi = (p : List ℤ) → Has K lo hi p → ⊥
 
+-- in each dimension the low end is at most the high end
+abbrev pub IsUncrossed : ℕ → List ℤ → List ℤ → Type 0
+IsUncrossed K lo hi = (d : ℕ) → d < K → coordinate lo d ≤ℤ coordinate hi d
+
 -- in some dimension the high end lies below the low end
 abbrev pub IsCrossed : ℕ → List ℤ → List ℤ → Type 0
 IsCrossed K lo hi = (d : ℕ) × (d < K) × (coordinate hi d <ℤ coordinate lo d)

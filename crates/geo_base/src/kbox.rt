@@ -1,10 +1,11 @@
-ghost use Rattle.std.specs.Prelude.{◌≡◌, ℕ, ℤ, List, ◌<◌, ◌≤◌, ◌≤ℤ◌, ◌<ℤ◌, ◌↔◌, IsTrue, MatchBool};
+ghost use Rattle.std.specs.Prelude.{◌≡◌, ℕ, ℤ, List, ◌<◌, ◌≤ℤ◌, ◌<ℤ◌, ◌↔◌, IsTrue, MatchBool};
 ghost use Rattle.std.specs.Int.{int_min, int_max};
-ghost use Rattle.geo_base.specs.Boxes.{coordinate, Has, HasNone, IsCrossed};
+ghost use Rattle.geo_base.specs.Boxes.{coordinate, Has, HasNone, IsCrossed, IsUncrossed};
 
 use super::point::Point;
 
-/// The points between two corners, both included. It has none where in some dimension `hi` is below `lo`.
+/// The points between two corners, both included. There is none where in some dimension `hi` is
+/// below `lo`.
 #[derive(Clone, Copy, Debug)]
 pub struct KBox<const K: usize> {
     pub lo: Point<K>,
@@ -38,7 +39,8 @@ impl<const K: usize> KBox<K> {
 
     /// Whether the point lies in the box.
     pub fn has(&self, p: &Point<K>) -> bool
-        ensures { IsTrue result ↔ Has K self.now.lo.coordinates self.now.hi.coordinates p.now.coordinates }
+        ensures { IsTrue result
+            ↔ Has K self.now.lo.coordinates self.now.hi.coordinates p.now.coordinates }
     {
         for d in 0..K {
             let v = p.get(d);
@@ -51,8 +53,10 @@ impl<const K: usize> KBox<K> {
 
     /// Whether the box has no point.
     pub fn is_empty(&self) -> bool
-        ensures ends { MatchBool result (IsCrossed K self.now.lo.coordinates self.now.hi.coordinates) ((d : ℕ) → d < K → coordinate self.now.lo.coordinates d ≤ℤ coordinate self.now.hi.coordinates d) }
-        ensures points { IsTrue result ↔ HasNone K self.now.lo.coordinates self.now.hi.coordinates }
+        ensures ends { let lo = self.now.lo.coordinates in let hi = self.now.hi.coordinates in
+            MatchBool result (IsCrossed K lo hi) (IsUncrossed K lo hi) }
+        ensures points { IsTrue result
+            ↔ HasNone K self.now.lo.coordinates self.now.hi.coordinates }
     {
         for d in 0..K {
             if self.hi.get(d) < self.lo.get(d) {
@@ -64,9 +68,13 @@ impl<const K: usize> KBox<K> {
 
     /// The points that both boxes have.
     pub fn meet(&self, other: &KBox<K>) -> KBox<K>
-        ensures points { (p : List ℤ) → Has K result.lo.coordinates result.hi.coordinates p ↔ (Has K self.now.lo.coordinates self.now.hi.coordinates p × Has K other.now.lo.coordinates other.now.hi.coordinates p) }
-        ensures lo { (d : ℕ) → d < K → coordinate result.lo.coordinates d ≡ int_max (coordinate self.now.lo.coordinates d) (coordinate other.now.lo.coordinates d) }
-        ensures hi { (d : ℕ) → d < K → coordinate result.hi.coordinates d ≡ int_min (coordinate self.now.hi.coordinates d) (coordinate other.now.hi.coordinates d) }
+        ensures points { (p : List ℤ) → Has K result.lo.coordinates result.hi.coordinates p
+            ↔ (Has K self.now.lo.coordinates self.now.hi.coordinates p
+            × Has K other.now.lo.coordinates other.now.hi.coordinates p) }
+        ensures lo { (d : ℕ) → d < K → coordinate result.lo.coordinates d
+            ≡ int_max (coordinate self.now.lo.coordinates d) (coordinate other.now.lo.coordinates d) }
+        ensures hi { (d : ℕ) → d < K → coordinate result.hi.coordinates d
+            ≡ int_min (coordinate self.now.hi.coordinates d) (coordinate other.now.hi.coordinates d) }
     {
         let mut lo = self.lo;
         let mut hi = self.hi;

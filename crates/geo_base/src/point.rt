@@ -33,7 +33,8 @@ impl<const K: usize> Point<K> {
         requires { d < K }
         ensures whole { self.new.coordinates ≡ slice_set self.old.coordinates d v }
         ensures same { coordinate self.new.coordinates d ≡ v }
-        ensures others { (e : ℕ) → e ≢ d → coordinate self.new.coordinates e ≡ coordinate self.old.coordinates e }
+        ensures others { (e : ℕ) → e ≢ d →
+            coordinate self.new.coordinates e ≡ coordinate self.old.coordinates e }
     {
         self.coordinates[d] = v;
     }
@@ -44,7 +45,8 @@ impl<const K: usize> Point<K> {
         requires { d < K }
         ensures whole { result.coordinates ≡ slice_set self.entry.coordinates d v }
         ensures same { coordinate result.coordinates d ≡ v }
-        ensures others { (e : ℕ) → e ≢ d → coordinate result.coordinates e ≡ coordinate self.entry.coordinates e }
+        ensures others { (e : ℕ) → e ≢ d →
+            coordinate result.coordinates e ≡ coordinate self.entry.coordinates e }
     {
         let mut changed = self;
         changed.coordinates[d] = v;

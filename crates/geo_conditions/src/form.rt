@@ -15,7 +15,8 @@ pub struct Term {
     pub factor: i64,
 }
 
-/// A sum of coordinates with factors, and a constant. Most forms compare two coordinates, and lie inline.
+/// A sum of coordinates with factors, and a constant. Most forms compare two coordinates, and lie
+/// inline.
 #[derive(Drop)]
 pub struct Form {
     terms: SmallVec<Term, 2>,
@@ -40,7 +41,8 @@ impl Form {
         constant: i64,
     ) -> Result<Form, AllocError>
         requires { IsForm (map term_of terms.now) constant }
-        ensures { IfOk result (λ f. f ≡ record { terms = map term_of terms.now; constant = constant }) }
+        ensures { IfOk result (λ f.
+            f ≡ record { terms = map term_of terms.now; constant = constant }) }
     {
         let mut list = SmallVec::new(alloc);
         for term in terms {

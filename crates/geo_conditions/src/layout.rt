@@ -51,7 +51,8 @@ impl Layout {
 
     /// Appends an object. After an error the tuple is as before.
     pub fn push(&mut self, place: u8, origin: &[i64]) -> Result<(), AllocError>
-        ensures ok { OnOk result (self.new ≡ self.old ++ record { place = place; origin = origin.now } ∷ []) }
+        ensures ok { OnOk result
+            (self.new ≡ self.old ++ record { place = place; origin = origin.now } ∷ []) }
         ensures err { OnErr result (self.new ≡ self.old) }
     {
         let origin = SmallVec::from_slice(self.alloc, origin)?;

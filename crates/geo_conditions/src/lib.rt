@@ -1,5 +1,5 @@
-//! Linear conditions and trees of conditions over placed objects, the states on which they are possible or
-//! refuted, and the definitions of supported states and of the walk of a search.
+//! Linear conditions and trees of conditions over placed objects, the states on which they are
+//! possible or refuted, and the definitions of supported states and of the walk of a search.
 #![tactic(auto)]
 
 mod cond;

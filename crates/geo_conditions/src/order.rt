@@ -5,7 +5,8 @@ use super::object::ObjId;
 use std::alloc::{AllocError, Global};
 use std::marker::Model;
 
-/// In which order a search tries values: the objects one after another, and each dimension upwards or downwards.
+/// In which order a search tries values: the objects one after another, and each dimension upwards
+/// or downwards.
 #[derive(Drop)]
 pub struct SearchOrder {
     objects: Vec<ObjId>,
@@ -25,7 +26,8 @@ impl Model for SearchOrder {
 impl SearchOrder {
     /// The order of those objects, with the dimensions downwards where `down` says so.
     pub fn new(alloc: Global, objects: &[ObjId], down: &[bool]) -> Result<SearchOrder, AllocError>
-        ensures { IfOk result (λ order. order ≡ record { objects = numbers_of objects.now; down = down.now }) }
+        ensures { IfOk result (λ order.
+            order ≡ record { objects = numbers_of objects.now; down = down.now }) }
     {
         let objects = Vec::from_slice(alloc, objects)?;
         let down = Vec::from_slice(alloc, down)?;

@@ -26,9 +26,13 @@ impl<const K: usize> Model for Held<K> {
 
     ghost view = { λ h. record { places = h.places; region = region_of h.region } };
 
-    ghost invariant = { λ h. (length h.places ≡ MAX_SHAPES) × (length h.region.lo.coordinates ≡ K) × (length h.region.hi.coordinates ≡ K) };
+    ghost invariant = { λ h. (length h.places ≡ MAX_SHAPES)
+        × (length h.region.lo.coordinates ≡ K) × (length h.region.hi.coordinates ≡ K) };
 
-    ghost inverse = { λ r. record { places = r.places; region = record { lo = record { coordinates = r.region.lo }; hi = record { coordinates = r.region.hi } } } };
+    ghost inverse = { λ r. record {
+      places = r.places;
+      region = record { lo = record { coordinates = r.region.lo }; hi = record { coordinates = r.region.hi } };
+    } };
 }
 
 impl<const K: usize> Held<K> {
@@ -95,12 +99,14 @@ impl<const K: usize> State<K> {
         }
     }
 
-    /// Appends an object that has the shapes from 1 to `shapes` and that region. After an error the state is as before.
+    /// Appends an object that has the shapes from 1 to `shapes` and that region. After an error the
+    /// state is as before.
     pub fn add_object(&mut self, shapes: u8, region: KBox<K>) -> Result<(), AllocError>
         requires k { K ≤ MAX_DIMS }
         requires shapes { (1 ≤ shapes) × (shapes ≤ MAX_SHAPES) }
         requires objects { length self.old < MAX_OBJECTS }
-        ensures ok { OnOk result (self.new ≡ self.old ++ record { places = first_places shapes; region = region_of region.entry } ∷ []) }
+        ensures ok { OnOk result (self.new ≡ self.old
+            ++ record { places = first_places shapes; region = region_of region.entry } ∷ []) }
         ensures err { OnErr result (self.new ≡ self.old) }
     {
         let places = ShapeSet::up_to(shapes);
@@ -186,7 +192,8 @@ impl<const K: usize> State<K> {
         requires k { K ≤ MAX_DIMS }
         requires object { o.0 < length self.old }
         requires dimension { d < K }
-        ensures { self.new ≡ slice_set self.old o.0 (with_interval (reach self.old o.0) d v.lo v.hi) }
+        ensures { self.new
+            ≡ slice_set self.old o.0 (with_interval (reach self.old o.0) d v.lo v.hi) }
     {
         let held = &mut self.objects[o.0 as usize];
         held.set_interval(d, v);
@@ -219,7 +226,8 @@ impl<const K: usize> State<K> {
         requires k { K ≤ MAX_DIMS }
         requires object { o.0 < length self.old }
         requires place { (1 ≤ place) × (place ≤ MAX_SHAPES) }
-        ensures { self.new ≡ slice_set self.old o.0 (with_place (reach self.old o.0) place there) }
+        ensures { self.new
+            ≡ slice_set self.old o.0 (with_place (reach self.old o.0) place there) }
     {
         let held = &mut self.objects[o.0 as usize];
         held.set_shape(place, there);

@@ -22,7 +22,7 @@ fn line(alloc: Global, a: (i64, i64), b: (i64, i64)) -> Result<State<1>, AllocEr
     Ok(s)
 }
 
-/// The literal that the sum of both coordinates, each with its factor, and the constant is at most 0.
+/// The literal that both coordinates, each with its factor, and the constant sum to at most 0.
 fn literal(alloc: Global, a: i64, b: i64, constant: i64) -> Result<Cond, AllocError>
     requires first { IsBounded a }
     requires first_there { a ≢ pos 0 }
