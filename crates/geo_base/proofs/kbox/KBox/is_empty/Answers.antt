@@ -1,0 +1,10 @@
+use Rattle.std.proofs.Common.{arith}
+use Rattle.std.proofs.lemmas.Int.{ints}
+use Rattle.geo_base.proofs.kbox.KBox.is_empty.Goals as goal
+
+-- in a box whose ends are in order lies its low corner
+pub returns-clause-points : goal.returns-clause-points
+returns-clause-points g c = (
+  λ no. absurd (cc),
+  λ none. absurd (none c.args.self.now.lo.coordinates (λ d in_k. let ends = c.loop-d.invariant d (omega arith) in (omega (arith, ints), ends))),
+)

@@ -1,0 +1,64 @@
+-- The children of a condition as a list.
+use Rattle.std.proofs.Common.{◌≡◌, ℕ, suc, ◌+◌, ◌<◌, ◌≤◌, List, [], ◌∷◌, length, get_or, drop, refl, sym, ap, ◌∙◌, subst, below_more}
+use Rattle.std.specs.List.{All}
+use Rattle.geo_conditions.specs.declared.cond.Cond.{Row_of-Cond, end_of-Cond, more_of-Cond, items-the_row-Cond, items_hidden-the_row-Cond-0, Cond, AtLeast, AtLeast'}
+use Rattle.geo_conditions.specs.declared.cond.Conds.{Conds}
+use Rattle.std.proofs.Common.{ℤ, pos}
+use lib.Signed.{le_z}
+use mathlib.Core.Former.{Count}
+use Rattle.std.proofs.Math.Seq.{drop-cons}
+use Rattle.std.proofs.lemmas.List.{drop_all}
+use Rattle.std.proofs.lemmas.List.Elements.{All-nil, All-cons, All-head, All-tail}
+use Rattle.geo_conditions.proofs.Defaults.{any_default}
+use Rattle.geo_conditions.specs.Reach.{State, count}
+use Rattle.geo_conditions.specs.Conditions.{possible, how_many_possible, FitsIn, AllFitIn}
+
+abbrev pub many_possible : State → List Cond → ℕ
+many_possible S [] = 0
+many_possible S (c ∷ cs) = count (possible c S) + many_possible S cs
+
+pub many_is : (n : _) (row : Row_of-Cond n) (S : State) → how_many_possible row S ≡ many_possible S (items-the_row-Cond n row)
+many_is n end_of-Cond S = refl
+many_is n (more_of-Cond c cs) S = ap (λ (x : ℕ). count (possible c S) + x) (many_is _ cs S)
+
+fit_is : (n : _) (row : Row_of-Cond n) (S : State) → AllFitIn row S → All (λ c. FitsIn c S) (items-the_row-Cond n row)
+fit_is n end_of-Cond S h = All-nil (λ c. FitsIn c S)
+fit_is n (more_of-Cond c cs) S h = All-cons (λ c. FitsIn c S) c _ h.0 (fit_is _ cs S h.1)
+
+abbrev row_of : Cond → (n : Count) × Row_of-Cond n
+row_of (AtLeast' n shape row) = (_, row)
+row_of _ = (_, end_of-Cond)
+
+pub at_least_is : (n : ℤ) (children : Conds) (S : State) → possible (AtLeast n children) S ≡ le_z n (pos (many_possible S children.items.items))
+at_least_is n children S =
+    let row = row_of (AtLeast n children) in
+    let same = items_hidden-the_row-Cond-0 children.items in
+    ap (λ (x : ℕ). le_z n (pos x)) (many_is row.0 row.1 S) ∙ ap (λ (xs : List Cond). le_z n (pos (many_possible S xs))) same
+
+pub fit_out : (n : ℤ) (children : Conds) (S : State) → FitsIn (AtLeast n children) S → All (λ c. FitsIn c S) children.items.items
+fit_out n children S h =
+    let row = row_of (AtLeast n children) in
+    let same = items_hidden-the_row-Cond-0 children.items in
+    subst (All (λ c. FitsIn c S)) same (fit_is row.0 row.1 S h)
+
+-- one child more
+pub many_step : (S : State) (cs : List Cond) (i : ℕ) (d : Cond) → i < length cs → many_possible S (drop i cs) ≡ count (possible (get_or cs i d) S) + many_possible S (drop (suc i) cs)
+many_step S cs i d h = ap (many_possible S) (drop-cons cs i d h)
+
+pub many_end : (S : State) (cs : List Cond) (i : ℕ) → length cs ≤ i → many_possible S (drop i cs) ≡ 0
+many_end S cs i h = ap (many_possible S) (drop_all i cs h)
+
+fit_back : (n : _) (row : Row_of-Cond n) (S : State) → All (λ c. FitsIn c S) (items-the_row-Cond n row) → AllFitIn row S
+fit_back n end_of-Cond S h = tt
+fit_back n (more_of-Cond c cs) S h = (All-head (λ e. FitsIn e S) c _ h, fit_back _ cs S (All-tail (λ e. FitsIn e S) c _ h))
+
+pub fit_in : (n : ℤ) (children : Conds) (S : State) → All (λ c. FitsIn c S) children.items.items → FitsIn (AtLeast n children) S
+fit_in n children S h =
+    let row = row_of (AtLeast n children) in
+    let same = items_hidden-the_row-Cond-0 children.items in
+    fit_back row.0 row.1 S (subst (All (λ c. FitsIn c S)) (sym same) h)
+
+-- one condition more fits
+pub fits_more : (cs : List Cond) (S : State) (i : ℕ) (c : Cond) → c ≡ get_or cs i c → i < length cs → FitsIn c S → ((k : ℕ) → k < i → (d : Cond) → FitsIn (get_or cs k d) S) → (k : ℕ) → k < i + 1 → (d : Cond) → FitsIn (get_or cs k d) S
+fits_more cs S i c is h f before =
+    below_more (λ k. (d : Cond) → FitsIn (get_or cs k d) S) i before (λ d. subst (λ (e : Cond). FitsIn e S) (is ∙ any_default cs i c d h) f)

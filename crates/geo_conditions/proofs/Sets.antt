@@ -1,0 +1,118 @@
+-- Sets of places as lists of tests.
+use Rattle.std.proofs.Common.{◌≡◌, ℕ, zero, suc, ◌+◌, ◌<◌, Bool, true, false, List, [], ◌∷◌, length, get_or, refl, sym, ap, ◌∙◌, subst, inl, inr, arith, eqb}
+use Rattle.std.proofs.lemmas.Bool.{and_from, and_parts, eq-eqb, eqb-true, false≢true, cases_Bool, cases_lt, false_from_ne_true}
+use Rattle.std.proofs.lemmas.List.{get_or_past}
+use Rattle.geo_conditions.specs.Reach.{place_in, is_only, only, how_many}
+
+-- where nothing is counted, nothing is there
+pub none_there : (bs : List Bool) (s : ℕ) → how_many bs ≡ 0 → place_in bs s ≡ true → ⊥
+none_there bs zero h k = false≢true k
+none_there [] (suc s) h k = false≢true k
+none_there (true ∷ bs) (suc s) h k = absurd (omega arith)
+none_there (false ∷ bs) (suc zero) h k = false≢true k
+none_there (false ∷ bs) (suc (suc s)) h k = let h' : how_many bs ≡ 0 = omega arith in none_there bs (suc s) h' k
+
+-- what is there is counted
+pub some_counted : (bs : List Bool) (s : ℕ) → place_in bs s ≡ true → 0 < how_many bs
+some_counted bs zero k = absurd (false≢true k)
+some_counted [] (suc s) k = absurd (false≢true k)
+some_counted (true ∷ bs) (suc s) k = omega arith
+some_counted (false ∷ bs) (suc zero) k = absurd (false≢true k)
+some_counted (false ∷ bs) (suc (suc s)) k = let h : 0 < how_many bs = some_counted bs (suc s) k in omega arith
+
+-- where one is counted, two places that are there are one
+pub one_there : (bs : List Bool) (s u : ℕ) → how_many bs ≡ 1 → place_in bs s ≡ true → place_in bs u ≡ true → s ≡ u
+one_there bs zero u h k l = absurd (false≢true k)
+one_there bs (suc s) zero h k l = absurd (false≢true l)
+one_there [] (suc s) (suc u) h k l = absurd (false≢true k)
+one_there (true ∷ bs) (suc zero) (suc zero) h k l = refl
+one_there (true ∷ bs) (suc zero) (suc (suc u)) h k l = absurd (none_there bs (suc u) (omega arith) l)
+one_there (true ∷ bs) (suc (suc s)) u h k l = absurd (none_there bs (suc s) (omega arith) k)
+one_there (false ∷ bs) (suc zero) (suc u) h k l = absurd (false≢true k)
+one_there (false ∷ bs) (suc (suc s)) (suc zero) h k l = absurd (false≢true l)
+one_there (false ∷ bs) (suc (suc s)) (suc (suc u)) h k l =
+    let h' : how_many bs ≡ 1 = omega arith in ap suc (one_there bs (suc s) (suc u) h' k l)
+
+-- where no place is there, none is counted
+pub none_counted : (bs : List Bool) → ((u : ℕ) → place_in bs u ≡ true → ⊥) → how_many bs ≡ 0
+none_counted [] all = refl
+none_counted (true ∷ bs) all = absurd (all 1 refl)
+none_counted (false ∷ bs) all =
+    let h : how_many bs ≡ 0 = none_counted bs (λ u. elim u as (λ w. place_in bs w ≡ true → ⊥) [ zero ↦ all 0 | suc v ↦ all (suc (suc v)) ]) in omega arith
+
+-- where a place is there and no other, one is counted
+pub alone_counted : (bs : List Bool) (s : ℕ) → place_in bs s ≡ true → ((u : ℕ) → place_in bs u ≡ true → u ≡ s) → how_many bs ≡ 1
+alone_counted bs zero k all = absurd (false≢true k)
+alone_counted [] (suc s) k all = absurd (false≢true k)
+alone_counted (true ∷ bs) (suc zero) k all =
+    let h : how_many bs ≡ 0 = none_counted bs (λ u. elim u as (λ w. place_in bs w ≡ true → ⊥) [ zero ↦ λ l. false≢true l | suc v ↦ λ l. let e : suc (suc v) ≡ 1 = all (suc (suc v)) l in absurd (omega arith) ]) in omega arith
+alone_counted (true ∷ bs) (suc (suc s)) k all = let e : 1 ≡ suc (suc s) = all 1 refl in absurd (omega arith)
+alone_counted (false ∷ bs) (suc zero) k all = absurd (false≢true k)
+alone_counted (false ∷ bs) (suc (suc s)) k all =
+    let h : how_many bs ≡ 1 = alone_counted bs (suc s) k (λ u. elim u as (λ w. place_in bs w ≡ true → w ≡ suc s) [ zero ↦ λ l. absurd (false≢true l) | suc v ↦ λ l. let e : suc (suc v) ≡ suc (suc s) = all (suc (suc v)) l in omega arith ]) in omega arith
+
+-- what `is_only` says
+pub only_out : (bs : List Bool) (s : ℕ) → is_only bs s ≡ true → (place_in bs s ≡ true) × ((u : ℕ) → place_in bs u ≡ true → u ≡ s)
+only_out bs s h =
+    let p = and_parts (place_in bs s) (eqb (how_many bs) 1) h in
+    (p.0, λ u k. one_there bs u s (eqb-true (how_many bs) 1 p.1) k p.0)
+
+pub only_in : (bs : List Bool) (s : ℕ) → place_in bs s ≡ true → ((u : ℕ) → place_in bs u ≡ true → u ≡ s) → is_only bs s ≡ true
+only_in bs s h k = and_from (place_in bs s) (eqb (how_many bs) 1) h (eq-eqb (how_many bs) 1 (alone_counted bs s h k))
+
+-- the set of one place has that place alone
+pub only_self : (s : ℕ) → 0 < s → place_in (only s) s ≡ true
+only_self zero h = absurd (omega arith)
+only_self (suc zero) h = refl
+only_self (suc (suc s)) h = only_self (suc s) (omega arith)
+
+pub only_same : (s u : ℕ) → place_in (only s) u ≡ true → u ≡ s
+only_same s zero h = absurd (false≢true h)
+only_same zero (suc u) h = absurd (false≢true h)
+only_same (suc zero) (suc zero) h = refl
+only_same (suc zero) (suc (suc u)) h = absurd (false≢true h)
+only_same (suc (suc s)) (suc zero) h = absurd (false≢true h)
+only_same (suc (suc s)) (suc (suc u)) h = ap suc (only_same (suc s) (suc u) h)
+
+-- three ways to decide `is_only`
+pub not_only_absent : (bs : List Bool) (s : ℕ) → place_in bs s ≡ false → false ≡ is_only bs s
+not_only_absent bs s h = sym (false_from_ne_true (is_only bs s) (λ k. false≢true (sym h ∙ (only_out bs s k).0)))
+
+pub not_only_other : (bs : List Bool) (s k : ℕ) → get_or bs k false ≡ true → (suc k ≡ s → ⊥) → false ≡ is_only bs s
+not_only_other bs s k h ne =
+    sym (false_from_ne_true (is_only bs s) (λ l. ne ((only_out bs s l).1 (suc k) h)))
+
+all_alone : (bs : List Bool) (s u : ℕ) → ((k : ℕ) → k < length bs → get_or bs k false ≡ true → k + 1 ≡ s) → place_in bs u ≡ true → u ≡ s
+all_alone bs s zero all h = absurd (false≢true h)
+all_alone bs s (suc k) all h =
+    elim (cases_lt k (length bs)) [
+      | inl b ↦ let e : k + 1 ≡ s = all k b h in omega arith
+      | inr b ↦ absurd (false≢true (sym (get_or_past bs k false b) ∙ h))
+    ]
+
+pub only_all : (bs : List Bool) (s : ℕ) → place_in bs s ≡ true → ((k : ℕ) → k < length bs → get_or bs k false ≡ true → k + 1 ≡ s) → true ≡ is_only bs s
+only_all bs s h all = sym (only_in bs s h (λ u. all_alone bs s u all))
+
+pub only_nowhere : (s : ℕ) → is_only [] s ≡ false
+only_nowhere zero = refl
+only_nowhere (suc s) = refl
+
+-- the test that a set of one place makes
+pub only_test_zero : (p s : ℕ) → p ≡ 0 → false ≡ place_in (only p) s
+only_test_zero p s h = subst (λ (v : ℕ). false ≡ place_in (only v) s) (sym h) (nothing s)
+  where
+    nothing : (s : ℕ) → false ≡ place_in [] s
+    nothing zero = refl
+    nothing (suc k) = refl
+
+pub only_test : (p s : ℕ) → 0 < p → eqb p s ≡ place_in (only p) s
+only_test p s h = elim (cases_Bool (eqb p s)) [
+  | inl e ↦ e ∙ subst (λ (v : ℕ). true ≡ place_in (only p) v) (eqb-true p s e) (sym (only_self p h))
+  | inr e ↦ e ∙ sym (false_from_ne_true (place_in (only p) s) (λ k. false≢true (sym e ∙ eq-eqb p s (sym (only_same p s k)))))
+]
+
+pub only_only : (p s : ℕ) → is_only (only p) s ≡ place_in (only p) s
+only_only p s = elim (cases_Bool (place_in (only p) s)) [
+  | inl e ↦ only_in (only p) s e (λ u k. only_same p u k ∙ sym (only_same p s e)) ∙ sym e
+  | inr e ↦ sym (not_only_absent (only p) s e) ∙ sym e
+]

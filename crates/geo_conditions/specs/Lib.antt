@@ -1,0 +1,12 @@
+pub mod Form
+pub mod Terms
+pub mod Reach
+pub mod Regions
+pub mod Order
+pub mod Conditions
+pub mod Sums
+pub mod Puts
+pub mod Supported
+pub mod Walk
+pub mod Keeps
+pub mod Laws

@@ -1,0 +1,76 @@
+ghost use Rattle.std.specs.Prelude.{◌≡◌, IfOk, map};
+ghost use Rattle.geo_conditions.specs.Form.{IsForm};
+ghost use Rattle.geo_conditions.specs.Terms.{term_of};
+
+use super::object::ObjId;
+use smallvec::SmallVec;
+use std::alloc::{AllocError, Global};
+use std::marker::Model;
+
+/// A coordinate of an object with its factor.
+#[derive(Clone, Copy, Debug, Default)]
+pub struct Term {
+    pub object: ObjId,
+    pub dimension: usize,
+    pub factor: i64,
+}
+
+/// A sum of coordinates with factors, and a constant. Most forms compare two coordinates, and lie
+/// inline.
+#[derive(Drop)]
+pub struct Form {
+    terms: SmallVec<Term, 2>,
+    constant: i64,
+}
+
+impl Model for Form {
+    ghost use Rattle.geo_conditions.specs.Form.{Sum, IsForm};
+
+    ghost Value = { Sum };
+
+    ghost view = { λ f. record { terms = f.terms.items; constant = f.constant } };
+
+    ghost invariant = { λ f. IsForm f.terms.items f.constant };
+}
+
+impl Form {
+    /// The form of those terms, which stand in order of object and dimension, each pair once.
+    pub fn new(
+        alloc: Global,
+        terms: &[(ObjId, usize, i64)],
+        constant: i64,
+    ) -> Result<Form, AllocError>
+        requires { IsForm (map term_of terms.now) constant }
+        ensures { IfOk result (λ f.
+            f ≡ record { terms = map term_of terms.now; constant = constant }) }
+    {
+        let mut list = SmallVec::new(alloc);
+        for term in terms {
+            let (object, dimension, factor) = *term;
+            list.push(Term {
+                object,
+                dimension,
+                factor,
+            })?;
+        }
+        Ok(Form {
+            terms: list,
+            constant,
+        })
+    }
+
+    /// The terms in order of object and dimension.
+    pub fn terms(&self) -> &[Term]
+        ensures value { result.now ≡ self.now.terms }
+        ensures form { IsForm self.now.terms self.now.constant }
+    {
+        self.terms.as_slice()
+    }
+
+    /// What is added to the terms.
+    pub fn constant(&self) -> i64
+        ensures { result ≡ self.now.constant }
+    {
+        self.constant
+    }
+}

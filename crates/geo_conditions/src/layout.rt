@@ -1,0 +1,88 @@
+ghost use Rattle.std.specs.Prelude.{◌≡◌, ◌<◌, length, [], ◌∷◌, ◌++◌, OnOk, OnErr};
+ghost use Rattle.geo_base.specs.Boxes.{coordinate};
+ghost use Rattle.geo_conditions.specs.Reach.{spot};
+
+use super::object::ObjId;
+use smallvec::SmallVec;
+use std::alloc::{AllocError, Global};
+use std::marker::Model;
+
+/// Where one object is put: the place of its shape, from 1, and its origin.
+#[derive(Drop)]
+struct Placed {
+    place: u8,
+    origin: SmallVec<i64, 4>,
+}
+
+impl Model for Placed {
+    ghost use Rattle.geo_conditions.specs.Reach.{Spot};
+
+    ghost Value = { Spot };
+
+    ghost view = { λ p. record { place = p.place; origin = p.origin.items } };
+}
+
+/// A tuple: a shape and an origin for each object, in the order of the objects.
+#[derive(Drop)]
+pub struct Layout {
+    alloc: Global,
+    spots: Vec<Placed>,
+}
+
+impl Model for Layout {
+    ghost use Rattle.std.specs.Prelude.{List};
+    ghost use Rattle.geo_conditions.specs.Reach.{Spot};
+
+    ghost Value = { List Spot };
+
+    ghost view = { λ l. l.spots.items };
+}
+
+impl Layout {
+    /// The tuple of no object. It takes no memory.
+    pub fn new(alloc: Global) -> Layout
+        ensures { result ≡ [] }
+    {
+        Layout {
+            alloc,
+            spots: Vec::new(alloc),
+        }
+    }
+
+    /// Appends an object. After an error the tuple is as before.
+    pub fn push(&mut self, place: u8, origin: &[i64]) -> Result<(), AllocError>
+        ensures ok { OnOk result
+            (self.new ≡ self.old ++ record { place = place; origin = origin.now } ∷ []) }
+        ensures err { OnErr result (self.new ≡ self.old) }
+    {
+        let origin = SmallVec::from_slice(self.alloc, origin)?;
+        self.spots.push(Placed { place, origin })?;
+        Ok(())
+    }
+
+    /// How many objects there are.
+    pub fn len(&self) -> usize
+        ensures { result ≡ length self.now }
+    {
+        self.spots.len()
+    }
+
+    /// The place of the object's shape.
+    pub fn place(&self, o: ObjId) -> u8
+        requires { o.0 < length self.now }
+        ensures { result ≡ (spot self.now o.0).place }
+    {
+        let placed = &self.spots[o.0 as usize];
+        placed.place
+    }
+
+    /// The object's coordinate in the dimension `d`.
+    pub fn origin(&self, o: ObjId, d: usize) -> i64
+        requires object { o.0 < length self.now }
+        requires dimension { d < length (spot self.now o.0).origin }
+        ensures { result ≡ coordinate (spot self.now o.0).origin d }
+    {
+        let placed = &self.spots[o.0 as usize];
+        placed.origin.as_slice()[d]
+    }
+}

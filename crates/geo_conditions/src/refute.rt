@@ -1,0 +1,140 @@
+ghost use Rattle.std.specs.Prelude.{◌≡◌, ◌<◌, ◌≤◌, length, not, ◌*ℤ◌};
+ghost use Rattle.std.specs.List.{All};
+ghost use Rattle.geo_conditions.specs.Conditions.{possible, least_value, least_term, FitsIn};
+ghost use Rattle.geo_conditions.specs.Form.{IsBounded};
+ghost use Rattle.geo_conditions.specs.Reach.{has, reach, with_at, is_only, dims, Exists, put_on};
+ghost use Rattle.geo_conditions.specs.Regions.{region_of};
+ghost use Rattle.geo_conditions.specs.Puts.{put_of};
+ghost use Rattle.geo_conditions.specs.Sums.{InSum};
+
+use super::cond::Cond;
+use super::form::{Form, Term};
+use super::object::ObjId;
+use super::state::State;
+use geo_base::{KBox, MAX_DIMS};
+
+/// An object put at a place in a box.
+#[derive(Clone, Copy)]
+struct Put<const K: usize> {
+    object: ObjId,
+    place: u8,
+    region: KBox<K>,
+}
+
+fn region_in<const K: usize>(s: &State<K>, put: &Option<Put<K>>, o: ObjId) -> KBox<K>
+    requires k { K ≤ MAX_DIMS }
+    requires object { o.0 < length s.now }
+    ensures value { region_of result ≡ (reach (put_on (put_of put.now) s.now) o.0).region }
+    ensures dimensions { dims s.now o.0 ≡ K }
+{
+    let held = s.region(o);
+    match put {
+        Some(p) if p.object.0 == o.0 => p.region,
+        _ => held,
+    }
+}
+
+fn has_in<const K: usize>(s: &State<K>, put: &Option<Put<K>>, o: ObjId, place: u8) -> bool
+    requires k { K ≤ MAX_DIMS }
+    requires object { o.0 < length s.now }
+    ensures { result ≡ has (put_on (put_of put.now) s.now) o.0 place }
+{
+    match put {
+        Some(p) if p.object.0 == o.0 => p.place != 0 && p.place == place,
+        _ => s.has_shape(o, place),
+    }
+}
+
+fn is_only_in<const K: usize>(s: &State<K>, put: &Option<Put<K>>, o: ObjId, place: u8) -> bool
+    requires k { K ≤ MAX_DIMS }
+    requires object { o.0 < length s.now }
+    ensures { result ≡ is_only (reach (put_on (put_of put.now) s.now) o.0).places place }
+{
+    match put {
+        Some(p) if p.object.0 == o.0 => p.place != 0 && p.place == place,
+        _ => s.is_only_shape(o, place),
+    }
+}
+
+fn product(factor: i64, end: i64) -> i128
+    ensures { result ≡ factor *ℤ end }
+{
+    factor as i128 * end as i128
+}
+
+fn least_term<const K: usize>(term: &Term, s: &State<K>, put: &Option<Put<K>>) -> i128
+    requires k { K ≤ MAX_DIMS }
+    requires bounded { IsBounded term.now.factor }
+    requires exists { Exists s.now term.now.object.0 term.now.dimension }
+    ensures value { result ≡ least_term (put_on (put_of put.now) s.now) term.now }
+    ensures bound { InSum 1 result }
+{
+    let region = region_in(s, put, term.object);
+    if term.factor < 0 {
+        product(term.factor, region.hi.get(term.dimension))
+    } else {
+        product(term.factor, region.lo.get(term.dimension))
+    }
+}
+
+fn least_value<const K: usize>(f: &Form, s: &State<K>, put: &Option<Put<K>>) -> i128
+    requires k { K ≤ MAX_DIMS }
+    requires fits { All (λ a. Exists s.now a.object.0 a.dimension) f.now.terms }
+    ensures { result ≡ least_value f.now (put_on (put_of put.now) s.now) }
+{
+    // The state has few coordinates, and a form names each of them at most once.
+    let _objects = s.objects();
+    let mut sum = f.constant() as i128;
+    for term in f.terms() {
+        sum += least_term(term, s, put);
+    }
+    sum
+}
+
+fn possible_in<const K: usize>(c: &Cond, s: &State<K>, put: &Option<Put<K>>) -> bool
+    requires k { K ≤ MAX_DIMS }
+    requires fits { FitsIn c.now s.now }
+    ensures { result ≡ possible c.now (put_on (put_of put.now) s.now) }
+{
+    match c {
+        Cond::Lin(f) => least_value(f, s, put) <= 0,
+        Cond::Shape(o, place) => has_in(s, put, *o, *place),
+        Cond::NotShape(o, place) => !is_only_in(s, put, *o, *place),
+        Cond::AtLeast(n, children) => {
+            let mut count: usize = 0;
+            for child in children.as_slice() {
+                if possible_in(child, s, put) {
+                    count += 1;
+                }
+            }
+            i128::from(*n) <= count as i128
+        }
+    }
+}
+
+/// Whether the condition is refuted on the state.
+pub fn refuted<const K: usize>(c: &Cond, s: &State<K>) -> bool
+    requires k { K ≤ MAX_DIMS }
+    requires fits { FitsIn c.now s.now }
+    ensures { result ≡ not (possible c.now s.now) }
+{
+    !possible_in(c, s, &None)
+}
+
+/// Whether the condition is refuted on the state with the object at that place in that box.
+pub fn refuted_at<const K: usize>(c: &Cond, s: &State<K>, o: ObjId, place: u8, b: &KBox<K>) -> bool
+    requires k { K ≤ MAX_DIMS }
+    requires fits { FitsIn c.now s.now }
+    requires object { o.0 < length s.now }
+    ensures { result ≡ not (possible c.now (with_at s.now o.0 place (region_of b.now))) }
+{
+    !possible_in(
+        c,
+        s,
+        &Some(Put {
+            object: o,
+            place,
+            region: *b,
+        }),
+    )
+}

@@ -1,0 +1,76 @@
+ghost use Rattle.std.specs.Prelude.{◌≡◌, ◌-◌, ◌≤◌, slice_set};
+ghost use Rattle.geo_conditions.specs.Reach.{place_in, is_only, first_places};
+
+use super::object::MAX_SHAPES;
+use std::marker::Model;
+
+/// A set of places of an object's list of shapes, which count from 1.
+#[derive(Clone, Copy)]
+pub struct ShapeSet {
+    there: [bool; MAX_SHAPES],
+}
+
+impl Model for ShapeSet {
+    ghost use Rattle.std.specs.Prelude.{List, Bool, ◌≡◌, length};
+    ghost use Rattle.geo_conditions.specs.declared.object.TheConstants.{MAX_SHAPES};
+
+    ghost Value = { List Bool };
+
+    ghost view = { λ s. s.there };
+
+    ghost invariant = { λ s. length s.there ≡ MAX_SHAPES };
+
+    ghost inverse = { λ l. record { there = l } };
+}
+
+impl ShapeSet {
+    /// The places from 1 to `n`.
+    pub fn up_to(n: u8) -> ShapeSet
+        requires { n ≤ MAX_SHAPES }
+        ensures { result ≡ first_places n }
+    {
+        let mut there = [false; MAX_SHAPES];
+        for i in 0..n as usize {
+            there[i] = true;
+        }
+        ShapeSet { there }
+    }
+
+    /// Whether the place is there.
+    pub fn has(&self, place: u8) -> bool
+        ensures { result ≡ place_in self.now place }
+    {
+        if place == 0 {
+            false
+        } else {
+            match self.there.get((place - 1) as usize) {
+                Some(there) => *there,
+                None => false,
+            }
+        }
+    }
+
+    /// Whether that place is there, and no other.
+    #[tactic(auto, using(crate::proofs::Sets::not_only_absent, crate::proofs::Sets::not_only_other, crate::proofs::Sets::only_all))]
+    pub fn is_only(&self, place: u8) -> bool
+        ensures { result ≡ is_only self.now place }
+    {
+        if !self.has(place) {
+            return false;
+        }
+        for (i, there) in self.there.iter().enumerate() {
+            if *there && i + 1 != place as usize {
+                return false;
+            }
+        }
+        true
+    }
+
+    /// Puts the place in, or takes it out.
+    pub fn set(&mut self, place: u8, there: bool)
+        requires { (1 ≤ place) × (place ≤ MAX_SHAPES) }
+        ensures { self.new ≡ slice_set self.old (place - 1) there }
+    {
+        self.there[(place - 1) as usize] = there;
+    }
+}
