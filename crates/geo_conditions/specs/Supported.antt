@@ -1,4 +1,4 @@
--- IsSupported states, and the greatest one inside a state.
+-- Supported states, and the greatest one inside a state.
 use Rattle.std.specs.Prelude.{◌≡◌, ℕ, ◌<◌, ◌-◌, ◌⊎◌, Bool, true, false, List, [], ◌∷◌, ◌++◌, length, ℤ, ◌<ℤ◌}
 use Rattle.std.specs.List.{All, range_with_len}
 use Rattle.geo_conditions.specs.declared.cond.Cond.{Cond}

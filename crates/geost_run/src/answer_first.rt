@@ -4,6 +4,7 @@ ghost use Rattle.geo_chan.specs.Written.{Writes};
 ghost use Rattle.geost_run.specs.Answer.{FirstAnswer, FrontOf};
 ghost use Rattle.geost_run.specs.Decision.{decision_text, decision_status};
 ghost use Rattle.geost_run.specs.Ends.{Ends};
+ghost use Rattle.geost_run.specs.Reading.{TakesAtMost};
 
 use crate::{Decision, ReadFault, Status, first_layout, read_first_text, write_decision};
 use geo_chan::{PutFault, Sink, Source};
@@ -13,8 +14,9 @@ use std::alloc::{AllocError, Global};
 
 /// Reads a problem and writes its first layout.
 pub fn first<S: Source, W: Sink>(alloc: Global, source: &mut S, sink: &mut W) -> Status
-    ensures { Ends FirstAnswer (FrontOf FirstAnswer) (S.left source.old) (S.faults source.old) (S.faults source.new)
+    ensures ends { Ends FirstAnswer (FrontOf FirstAnswer) (S.left source.old) (S.faults source.old) (S.faults source.new)
         (W.written sink.old) (W.written sink.new) (W.faults sink.old) (W.faults sink.new) result }
+    ensures most { TakesAtMost 1048577 (S.left source.old) (S.left source.new) }
 {
     let text = match read_first_text(alloc, source) {
         Ok(text) => text,
