@@ -1,0 +1,6 @@
+//! The formulas and expressions of rules: their trees, and reading them.
+#![tactic(auto)]
+
+pub mod expression;
+pub mod tree;
+pub mod words;
