@@ -40,3 +40,16 @@ term_behinds = product_marks ++ symbol syms.Dot
 
 abbrev pub expr_behinds : Kinds
 expr_behinds = symbols syms.Plus syms.Minus ++ term_behinds
+
+-- what may go on behind a whole conjunction, disjunction, implication and formula
+abbrev pub conjunction_behinds : Kinds
+conjunction_behinds = word keywords.And ++ expr_behinds
+
+abbrev pub disjunction_behinds : Kinds
+disjunction_behinds = word keywords.Or ++ conjunction_behinds
+
+abbrev pub implication_behinds : Kinds
+implication_behinds = word keywords.Implies ++ disjunction_behinds
+
+abbrev pub formula_behinds : Kinds
+formula_behinds = word keywords.Iff ++ implication_behinds

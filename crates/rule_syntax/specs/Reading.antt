@@ -196,3 +196,10 @@ implication_at text n = implication_over_at (disjunction_at text n)
 
 unfoldable pub formula_at : List ℕ → ℕ → Reader FormulaTree
 formula_at text n = equivalence_over_at (implication_at text n)
+
+-- an 'and' and the unary behind it, an 'or' and the conjunction behind it
+abbrev pub and_unary_at : List ℕ → ℕ → Reader FormulaTree
+and_unary_at text n w = token_at (word keywords.And) w >>= λ mark rest. unary_at text n rest
+
+abbrev pub or_conjunction_at : List ℕ → ℕ → Reader FormulaTree
+or_conjunction_at text n w = token_at (word keywords.Or) w >>= λ mark rest. conjunction_at text n rest

@@ -1,7 +1,8 @@
 -- The trees of the code, without where they lie in memory.
-use Rattle.std.specs.Prelude.{ℕ, List, [], ◌∷◌, map, Vec}
+use Rattle.std.specs.Prelude.{List, map, Vec, Option, option_map}
 use Rattle.std.specs.declared.alloc.Global.{Global}
 use Rattle.rule_syntax.specs.Tree.{ExprTree, number, field, param, shape_number, negative, sum, product, least, greatest, value_call, SumTree, plus, minus, sums, ProductTree, times, over, modulo, products, ArgumentTree, argument, arguments, CollTree, all_objects, listed, boxes_of, FormulaTree, truth, falsehood, negation, all_of, any_of, implication, equivalence, comparison, quantified, formula_call, formulas}
+use Rattle.rule_syntax.specs.declared.tree.PlacedName.{PlacedName}
 use Rattle.rule_syntax.specs.declared.tree.Expr.{Expr}
 use Rattle.rule_syntax.specs.declared.tree.SumStep.{SumStep}
 use Rattle.rule_syntax.specs.declared.tree.ProdStep.{ProdStep}
@@ -83,3 +84,9 @@ formula_views fs = map formula_view fs.items
 
 abbrev pub pair_view : Expr × Expr → ExprTree × ExprTree
 pair_view p = (expr_view p.0, expr_view p.1)
+
+abbrev pub names_view : Vec PlacedName Global → List PlacedName
+names_view ns = ns.items
+
+abbrev pub behind_view : Option Formula → Option FormulaTree
+behind_view f = option_map formula_view f

@@ -2,5 +2,7 @@
 #![tactic(auto)]
 
 pub mod expression;
+pub mod formula;
+pub mod quantifier;
 pub mod tree;
 pub mod words;

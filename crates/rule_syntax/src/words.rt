@@ -33,6 +33,7 @@ macro_rules! refuse {
         }
     };
 }
+pub(crate) use refuse;
 
 /// A name, with its place.
 pub fn placed_name<'a>(
