@@ -116,6 +116,23 @@ module _ (text : List ℕ) where
   args_good zero = symbol_cut_good syms.ParenOpen
   args_good (suc n) = args_over_good (ExprWords text n) (expr_at text n) (expr_good n)
 
+  -- ---- what opens a level, over what n levels may be opened in
+
+  pub negative_is_good : (n : ℕ) → Good (Negative (Factor text n)) (negative_at (factor_at text n)) false (symbol syms.Minus) (symbol syms.Dot)
+  negative_is_good n = negative_good (Factor text n) (factor_at text n) (factor_good n)
+
+  inner_good : (n : ℕ) → Good (ExprOver (Factor text n)) (sum_over_at (term_over_at (factor_at text n))) false factor_firsts expr_behinds
+  inner_good n = expr_over_good (Factor text n) (factor_at text n) (factor_good n)
+
+  pub parens_is_good : (n : ℕ) → Good (Parens (ExprOver (Factor text n))) (parens_at (sum_over_at (term_over_at (factor_at text n)))) false (symbol syms.ParenOpen) []
+  parens_is_good n = parens_good _ _ (inner_good n)
+
+  pub args_is_good : (n : ℕ) → Good (Args (ExprOver (Factor text n))) (args_over_at (sum_over_at (term_over_at (factor_at text n)))) false (symbol syms.ParenOpen) []
+  args_is_good n = args_over_good _ _ (inner_good n)
+
+  pub pair_is_good : (n : ℕ) → Good (Pair (ExprOver (Factor text n))) (pair_at (sum_over_at (term_over_at (factor_at text n)))) false (symbol syms.ParenOpen) []
+  pair_is_good n = pair_good _ _ (inner_good n)
+
   -- ---- where a level may be opened, and where none may
 
   pub factor_flat : (n : ℕ) (w : List Token) → n ≡ 0 → factor_at text n w ≡ factor_over_at text (cut_at (symbol syms.Minus)) (cut_at (symbol syms.ParenOpen)) (cut_at (symbol syms.ParenOpen)) (cut_at (symbol syms.ParenOpen)) w

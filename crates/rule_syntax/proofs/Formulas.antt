@@ -123,6 +123,17 @@ module _ (text : List ℕ) where
   unfolding FormulaWords formula_at implication_at disjunction_at conjunction_at
   formula_good n = formula_over_good (Unary text n) (unary_at text n) (unary_good n)
 
+  -- ---- what opens a level, over what n levels may be opened in
+
+  pub not_is_good : (n : ℕ) → Good (Not (Unary text n)) (not_at (unary_at text n)) false (word keywords.Not) expr_behinds
+  not_is_good n = not_good (Unary text n) (unary_at text n) (unary_good n)
+
+  pub brackets_is_good : (n : ℕ) → Good (Brackets (FormulaOver (Unary text n))) (brackets_at (formula_over_at (unary_at text n))) false (symbol syms.BracketOpen) []
+  brackets_is_good n = brackets_good _ _ (formula_over_good (Unary text n) (unary_at text n) (unary_good n))
+
+  pub quantified_is_good : (n : ℕ) → Good (Quantified text (Unary text n)) (quantified_at text (unary_at text n)) false quantifiers expr_behinds
+  quantified_is_good n = quantified_good (Unary text n) (unary_at text n) (unary_good n) text
+
   -- ---- where a level may be opened, and where none may
 
   pub unary_flat : (n : ℕ) (w : List Token) → n ≡ 0 → unary_at text n w ≡ unary_over_at text (cut_at (word keywords.Not)) (cut_at (symbol syms.BracketOpen)) (args_at text 0) (cut_at quantifiers) (expr_at text 0) w

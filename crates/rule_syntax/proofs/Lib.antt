@@ -1,2 +1,4 @@
 pub mod Expressions
 pub mod Formulas
+pub mod Steps
+pub mod Limits
