@@ -1,17 +1,16 @@
 -- Each reader of an expression's parts reads its language.
-use Rattle.std.proofs.Common.{◌≡◌, ℕ, zero, suc, ◌<◌, ◌-◌, List, [], ◌∷◌, ◌++◌, Option, Some, None, Bool, true, false, refl, ap, arith}
+use Rattle.std.proofs.Common.{◌≡◌, ℕ, zero, suc, ◌<◌, ◌-◌, List, [], ◌++◌, true, false, refl, ap, arith}
 use Rattle.geo_tokens.specs.declared.token.Token.{Token}
 use Rattle.geo_tokens.specs.declared.token.Kind.TheVariants as kinds
 use Rattle.geo_tokens.specs.declared.token.Keyword.TheVariants as keywords
 use Rattle.geo_tokens.specs.declared.token.Sym.TheVariants as syms
-use Rattle.geo_tokens.specs.Words.{Kinds, names, numbers, word, symbol, Lang, Cut, Tok, Bind, Placed}
+use Rattle.geo_tokens.specs.Words.{Kinds, names, numbers, word, symbol, Lang, Tok, Bind, Placed}
 use Rattle.geo_tokens.specs.Reading.{Read, cut_at}
 use Rattle.geo_tokens.proofs.Lists.{subset}
 use Rattle.geo_tokens.proofs.Good.{Good, one_good, pure_good, bind_good, either_good, opt_good, many_good, placed_good, wider_good}
 use Rattle.geo_tokens.proofs.OneToken.{of_kind, name_good, number_good, word_good, symbol_good, symbol_cut_good}
-use Rattle.rule_syntax.specs.declared.tree.PlacedName.{PlacedName}
 use Rattle.rule_syntax.specs.Marks.{words, symbols, product_marks, factor_firsts, term_behinds, expr_behinds}
-use Rattle.rule_syntax.specs.Tree.{ExprTree, param, SumTree, ProductTree, ArgumentTree, argument}
+use Rattle.rule_syntax.specs.Tree.{ExprTree, param, ArgumentTree, argument}
 use Rattle.rule_syntax.specs.Grammar.{sum_of, product_of, Named, NumberWord, Variable, ShapeNumber, Negative, Parens, ArgumentList, Args, Pair, ValueCall, Extreme, ProductStep, Term, SumStep, ExprOver, FactorOver, Factor, ExprWords, ArgsWords}
 use Rattle.rule_syntax.specs.Reading.{named_at, number_at, variable_at, shape_number_at, negative_at, parens_at, argument_at, next_argument_at, argument_list_at, args_over_at, pair_at, value_call_at, extreme_at, factor_over_at, product_step_at, term_over_at, sum_step_at, sum_over_at, factor_at, term_at, expr_at, args_at}
 
@@ -41,8 +40,8 @@ module _ (factor : Lang ExprTree) (at : List Token → Read ExprTree) (inner : G
 
   product_step_good : Good (ProductStep factor) (product_step_at at) false product_marks (symbol syms.Dot)
   product_step_good = either_good refl
-    (bind_good refl (symbol_good syms.Star) (λ t. bind_good refl inner (λ e. pure_good _)))
-    (bind_good refl (one_good (words keywords.Div keywords.Mod) _ (of_kind (kinds.Word keywords.Div)) refl) (λ t. bind_good refl number_good (λ m. pure_good _)))
+      (bind_good refl (symbol_good syms.Star) (λ t. bind_good refl inner (λ e. pure_good _)))
+      (bind_good refl (one_good (words keywords.Div keywords.Mod) _ (of_kind (kinds.Word keywords.Div)) refl) (λ t. bind_good refl number_good (λ m. pure_good _)))
 
   term_good : Good (Term factor) (term_over_at at) false factor_firsts term_behinds
   term_good = placed_good product_of (wider_good factor_firsts term_behinds refl refl refl (bind_good refl inner (λ a. bind_good refl (many_good refl product_step_good) (λ others. pure_good _))))
@@ -54,8 +53,8 @@ module _ (term : Lang ExprTree) (at : List Token → Read ExprTree) (inner : Goo
 -- an expression over factors
 expr_over_good : (factor : Lang ExprTree) (at : List Token → Read ExprTree) → Good factor at false factor_firsts (symbol syms.Dot) → Good (ExprOver factor) (sum_over_at (term_over_at at)) false factor_firsts expr_behinds
 expr_over_good factor at inner =
-  let term : Good (Term factor) (term_over_at at) false factor_firsts term_behinds = term_good factor at inner in
-  placed_good sum_of (wider_good factor_firsts expr_behinds refl refl refl (bind_good refl term (λ a. bind_good refl (many_good refl (sum_step_good (Term factor) (term_over_at at) term)) (λ others. pure_good _))))
+    let term : Good (Term factor) (term_over_at at) false factor_firsts term_behinds = term_good factor at inner in
+    placed_good sum_of (wider_good factor_firsts expr_behinds refl refl refl (bind_good refl term (λ a. bind_good refl (many_good refl (sum_step_good (Term factor) (term_over_at at) term)) (λ others. pure_good _))))
 
 -- ---- over expressions
 
@@ -71,7 +70,7 @@ module _ (expr : Lang ExprTree) (at : List Token → Read ExprTree) (inner : Goo
 
   argument_list_good : Good (ArgumentList expr) (argument_list_at at) true factor_firsts (factor_firsts ++ (symbol syms.Comma ++ expr_behinds))
   argument_list_good = wider_good factor_firsts (factor_firsts ++ (symbol syms.Comma ++ expr_behinds)) refl refl refl
-    (opt_good [] (bind_good refl (bind_good refl argument_good (λ a. bind_good refl (many_good refl next_argument_good) (λ others. pure_good _))) (λ c. pure_good _)))
+      (opt_good [] (bind_good refl (bind_good refl argument_good (λ a. bind_good refl (many_good refl next_argument_good) (λ others. pure_good _))) (λ c. pure_good _)))
 
   pub args_over_good : Good (Args expr) (args_over_at at) false (symbol syms.ParenOpen) []
   args_over_good = bind_good refl (symbol_good syms.ParenOpen) (λ t. bind_good refl argument_list_good (λ es. bind_good refl (symbol_good syms.ParenClose) (λ u. pure_good _)))
@@ -84,15 +83,15 @@ module _ (text : List ℕ) where
       → Good L r false (symbol syms.Minus) a → Good M s false (symbol syms.ParenOpen) [] → Good N u false (symbol syms.ParenOpen) [] → Good P v false (symbol syms.ParenOpen) []
       → Good (FactorOver text L M N P) (factor_over_at text r s u v) false factor_firsts (symbol syms.Dot)
   factor_over_good a i l m n p = wider_good factor_firsts (symbol syms.Dot) refl refl refl
-    (either_good refl number_word_good (either_good refl (variable_good text) (either_good refl (shape_number_good text)
+      (either_good refl number_word_good (either_good refl (variable_good text) (either_good refl (shape_number_good text)
       (either_good refl (wider_good (symbol syms.Minus) (symbol syms.Dot) refl refl i l) (either_good refl m (either_good refl (value_call_good text n) (extreme_good p)))))))
 
   pub factor_good : (n : ℕ) → Good (Factor text n) (factor_at text n) false factor_firsts (symbol syms.Dot)
   unfolding Factor factor_at
   factor_good zero = factor_over_good [] refl (symbol_cut_good syms.Minus) (symbol_cut_good syms.ParenOpen) (symbol_cut_good syms.ParenOpen) (symbol_cut_good syms.ParenOpen)
   factor_good (suc n) =
-    let inner : Good (ExprOver (Factor text n)) (sum_over_at (term_over_at (factor_at text n))) false factor_firsts expr_behinds = expr_over_good (Factor text n) (factor_at text n) (factor_good n) in
-    factor_over_good (symbol syms.Dot) refl (negative_good (Factor text n) (factor_at text n) (factor_good n)) (parens_good _ _ inner) (args_over_good _ _ inner) (pair_good _ _ inner)
+      let inner : Good (ExprOver (Factor text n)) (sum_over_at (term_over_at (factor_at text n))) false factor_firsts expr_behinds = expr_over_good (Factor text n) (factor_at text n) (factor_good n) in
+      factor_over_good (symbol syms.Dot) refl (negative_good (Factor text n) (factor_at text n) (factor_good n)) (parens_good _ _ inner) (args_over_good _ _ inner) (pair_good _ _ inner)
 
   pub product_step_is_good : (n : ℕ) → Good (ProductStep (Factor text n)) (product_step_at (factor_at text n)) false product_marks (symbol syms.Dot)
   product_step_is_good n = product_step_good (Factor text n) (factor_at text n) (factor_good n)

@@ -1,22 +1,18 @@
 -- Each reader of a formula's parts reads its language.
-use Rattle.std.proofs.Common.{◌≡◌, ℕ, zero, suc, ◌<◌, ◌-◌, List, [], ◌∷◌, ◌++◌, Option, Some, None, Bool, true, false, refl, sym, ap, ◌∙◌, arith}
+use Rattle.std.proofs.Common.{◌≡◌, ℕ, zero, suc, ◌<◌, ◌-◌, List, [], ◌++◌, Option, None, true, false, refl, sym, ap, ◌∙◌, arith}
 use Rattle.geo_tokens.specs.declared.token.Token.{Token}
-use Rattle.geo_tokens.specs.declared.token.Kind.{Kind}
 use Rattle.geo_tokens.specs.declared.token.Kind.TheVariants as kinds
-use Rattle.geo_tokens.specs.declared.token.Keyword.{Keyword}
 use Rattle.geo_tokens.specs.declared.token.Keyword.TheVariants as keywords
 use Rattle.geo_tokens.specs.declared.token.Sym.TheVariants as syms
-use Rattle.geo_tokens.specs.Words.{Kinds, names, numbers, word, symbol, Lang, Pure, Cut, Tok, Bind, Chain, Placed}
+use Rattle.geo_tokens.specs.Words.{Kinds, word, symbol, Lang, Pure, Tok, Bind, Chain, Placed}
 use Rattle.geo_tokens.specs.Reading.{Read, ◌>>=◌, token_at, cut_at}
-use Rattle.geo_tokens.proofs.Lists.{disjoint, subset}
+use Rattle.geo_tokens.proofs.Lists.{subset}
 use Rattle.geo_tokens.proofs.Good.{Good, one_good, pure_good, bind_good, either_good, opt_good, many_good, placed_good, wider_good}
 use Rattle.geo_tokens.proofs.OneToken.{of_kind, number_good, word_good, symbol_good, word_cut_good, symbol_cut_good}
-use Rattle.rule_syntax.specs.declared.tree.QuantKind.{QuantKind}
-use Rattle.rule_syntax.specs.declared.tree.PlacedName.{PlacedName}
 use Rattle.rule_syntax.specs.Marks.{words, rels, quantifiers, factor_firsts, unary_firsts, expr_behinds, conjunction_behinds, disjunction_behinds, implication_behinds, formula_behinds}
-use Rattle.rule_syntax.specs.Tree.{ExprTree, ArgumentTree, CollTree, all_objects, FormulaTree, comparison}
-use Rattle.rule_syntax.specs.Grammar.{and_of, or_of, implication_of, equivalence_of, Named, ExprWords, ArgsWords, True, False, Not, Brackets, FormulaCall, Quantifier, NameList, Collection, Quantified, Comparison, Conjunction, Disjunction, Behind, Implication, FormulaOver, UnaryOver, Unary, FormulaWords}
-use Rattle.rule_syntax.specs.Reading.{named_at, expr_at, args_over_at, args_at, true_at, false_at, not_at, brackets_at, formula_call_at, quantifier_at, next_name_at, name_list_at, collection_at, quantified_at, comparison_at, unary_over_at, conjunction_over_at, disjunction_over_at, behind_at, implication_over_at, equivalence_over_at, formula_over_at, unary_at, and_unary_at, conjunction_at, or_conjunction_at, disjunction_at, implication_at, formula_at}
+use Rattle.rule_syntax.specs.Tree.{ExprTree, ArgumentTree, all_objects, FormulaTree, comparison}
+use Rattle.rule_syntax.specs.Grammar.{and_of, or_of, implication_of, equivalence_of, Named, True, False, Not, Brackets, FormulaCall, Quantifier, NameList, Collection, Quantified, Comparison, Conjunction, Behind, FormulaOver, UnaryOver, Unary, FormulaWords}
+use Rattle.rule_syntax.specs.Reading.{expr_at, args_over_at, args_at, true_at, false_at, not_at, brackets_at, formula_call_at, quantifier_at, next_name_at, name_list_at, collection_at, quantified_at, comparison_at, unary_over_at, conjunction_over_at, disjunction_over_at, behind_at, implication_over_at, equivalence_over_at, formula_over_at, unary_at, and_unary_at, conjunction_at, or_conjunction_at, disjunction_at, implication_at, formula_at}
 use Rattle.rule_syntax.proofs.Expressions.{named_good, expr_good, args_good}
 
 true_good : Good True true_at false (word keywords.True) []
@@ -32,8 +28,8 @@ formula_call_good text l = bind_good refl (symbol_good syms.At) (λ t. bind_good
 
 pub quantifier_good : Good Quantifier quantifier_at false quantifiers []
 quantifier_good = either_good refl
-  (bind_good refl (one_good (words keywords.ForAll keywords.Exists) _ (of_kind (kinds.Word keywords.ForAll)) refl) (λ t. pure_good _))
-  (bind_good refl (one_good (words keywords.AtLeast keywords.AtMost) _ (of_kind (kinds.Word keywords.AtLeast)) refl) (λ t. bind_good refl number_good (λ m. pure_good _)))
+    (bind_good refl (one_good (words keywords.ForAll keywords.Exists) _ (of_kind (kinds.Word keywords.ForAll)) refl) (λ t. pure_good _))
+    (bind_good refl (one_good (words keywords.AtLeast keywords.AtMost) _ (of_kind (kinds.Word keywords.AtLeast)) refl) (λ t. bind_good refl number_good (λ m. pure_good _)))
 
 module _ (text : List ℕ) where
   pub next_name_good : Good (Bind (Tok (symbol syms.Comma)) (λ mark. Named text)) (next_name_at text) false (symbol syms.Comma) []
@@ -44,8 +40,8 @@ module _ (text : List ℕ) where
 
   collection_good : Good (Collection text) (collection_at text) false (word keywords.Objects ++ word keywords.Boxes) (symbol syms.ParenOpen)
   collection_good = either_good refl
-    (bind_good refl (word_good keywords.Objects) (λ t. opt_good all_objects name_list_good))
-    (bind_good refl (word_good keywords.Boxes) (λ t. bind_good refl (word_good keywords.Of) (λ u. bind_good refl (named_good text) (λ a. pure_good _))))
+      (bind_good refl (word_good keywords.Objects) (λ t. opt_good all_objects name_list_good))
+      (bind_good refl (word_good keywords.Boxes) (λ t. bind_good refl (word_good keywords.Of) (λ u. bind_good refl (named_good text) (λ a. pure_good _))))
 
 -- ---- over unaries
 
@@ -61,7 +57,7 @@ module _ (unary : Lang FormulaTree) (at : List Token → Read FormulaTree) (inne
 
   pub conjunction_over_good : Good (Conjunction unary) (conjunction_over_at at) false unary_firsts conjunction_behinds
   conjunction_over_good = placed_good and_of (wider_good unary_firsts conjunction_behinds refl refl refl
-    (bind_good refl inner (λ a. bind_good refl (many_good refl and_unary_over_good) (λ others. pure_good _))))
+      (bind_good refl inner (λ a. bind_good refl (many_good refl and_unary_over_good) (λ others. pure_good _))))
 
 module _ (conj : Lang FormulaTree) (at : List Token → Read FormulaTree) (inner : Good conj at false unary_firsts conjunction_behinds) where
   or_conjunction_over_good : Good (Bind (Tok (word keywords.Or)) (λ mark. conj)) (λ w. token_at (word keywords.Or) w >>= λ mark rest. at rest) false (word keywords.Or) conjunction_behinds
@@ -69,7 +65,7 @@ module _ (conj : Lang FormulaTree) (at : List Token → Read FormulaTree) (inner
 
   disjunction_over_good : Good (Placed (Chain conj (word keywords.Or)) or_of) (disjunction_over_at at) false unary_firsts disjunction_behinds
   disjunction_over_good = placed_good or_of (wider_good unary_firsts disjunction_behinds refl refl refl
-    (bind_good refl inner (λ a. bind_good refl (many_good refl or_conjunction_over_good) (λ others. pure_good _))))
+      (bind_good refl inner (λ a. bind_good refl (many_good refl or_conjunction_over_good) (λ others. pure_good _))))
 
 module _ (disj : Lang FormulaTree) (at : List Token → Read FormulaTree) (inner : Good disj at false unary_firsts disjunction_behinds) where
   implied_good : Good (Behind (word keywords.Implies) disj) (behind_at (word keywords.Implies) at) true (word keywords.Implies) (word keywords.Implies ++ disjunction_behinds)
@@ -102,7 +98,7 @@ module _ (text : List ℕ) where
       → subset a expr_behinds ≡ true → subset b expr_behinds ≡ true → Good L r false (word keywords.Not) a → Good M s false (symbol syms.BracketOpen) [] → Good A u false (symbol syms.ParenOpen) [] → Good N t false quantifiers b → Good E x false factor_firsts expr_behinds
       → Good (UnaryOver text L M A N E) (unary_over_at text r s u t x) false unary_firsts expr_behinds
   unary_over_good a b i j l m args n e = wider_good unary_firsts expr_behinds refl refl refl
-    (either_good refl true_good (either_good refl false_good (either_good refl (wider_good (word keywords.Not) expr_behinds refl refl i l) (either_good refl m (either_good refl (formula_call_good text args) (either_good refl (wider_good quantifiers expr_behinds refl refl j n) (comparison_good _ _ e)))))))
+      (either_good refl true_good (either_good refl false_good (either_good refl (wider_good (word keywords.Not) expr_behinds refl refl i l) (either_good refl m (either_good refl (formula_call_good text args) (either_good refl (wider_good quantifiers expr_behinds refl refl j n) (comparison_good _ _ e)))))))
 
   pub unary_good : (n : ℕ) → Good (Unary text n) (unary_at text n) false unary_firsts expr_behinds
   unfolding Unary unary_at
@@ -144,8 +140,8 @@ module _ (text : List ℕ) where
       → unary_at text n w ≡ unary_over_at text (not_at (unary_at text (n - 1))) (brackets_at (formula_at text (n - 1))) (args_at text n) (quantified_at text (unary_at text (n - 1))) (expr_at text n) w
   unfolding unary_at formula_at implication_at disjunction_at conjunction_at
   unary_nested n w h =
-    let e : n ≡ suc (n - 1) = omega arith in
-    ap (λ m. unary_at text m w) e ∙ ap (λ m. unary_over_at text (not_at (unary_at text (n - 1))) (brackets_at (formula_at text (n - 1))) (args_at text m) (quantified_at text (unary_at text (n - 1))) (expr_at text m) w) (sym e)
+      let e : n ≡ suc (n - 1) = omega arith in
+      ap (λ m. unary_at text m w) e ∙ ap (λ m. unary_over_at text (not_at (unary_at text (n - 1))) (brackets_at (formula_at text (n - 1))) (args_at text m) (quantified_at text (unary_at text (n - 1))) (expr_at text m) w) (sym e)
 
   pub args_flat : (n : ℕ) (w : List Token) → n ≡ 0 → args_at text n w ≡ cut_at (symbol syms.ParenOpen) w
   unfolding args_at

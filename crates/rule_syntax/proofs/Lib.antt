@@ -2,3 +2,4 @@ pub mod Expressions
 pub mod Formulas
 pub mod Steps
 pub mod Limits
+pub mod Outcomes

@@ -1,8 +1,7 @@
 -- A language and the same language with one level more.
-use Rattle.std.proofs.Common.{◌≡◌, ℕ, zero, suc, List, [], ◌∷◌, ◌++◌, Option, Some, None, option_map, Bool, true, false, ◌⊎◌, inl, inr, refl, sym, ap, ◌∙◌, append_assoc, subst}
-use Rattle.std.proofs.lemmas.List.{append-nil}
+use Rattle.std.proofs.Common.{◌≡◌, ℕ, zero, suc, List, [], ◌∷◌, ◌++◌, Option, Some, None, false, ◌⊎◌, inl, inr, refl, sym, ap, ◌∙◌, append_assoc, subst}
 use Rattle.geo_tokens.specs.declared.token.Token.{Token}
-use Rattle.geo_tokens.specs.Words.{Kinds, Of, Lang, Pure, Tok, Cut, Bind, cut, both, Either, left, right, Opt, there, not_there, UpTo, Many, Chain, start_of, Placed}
+use Rattle.geo_tokens.specs.Words.{Kinds, Of, Lang, Pure, Tok, Cut, Bind, cut, both, Either, left, right, Opt, there, not_there, UpTo, Many, Chain, Placed}
 use Rattle.geo_tokens.proofs.Facts.{Facts, MayBeEmpty}
 use Rattle.geo_tokens.proofs.Levels.{IsCut, Splits, Above, tok_above, pure_above, bind_above, either_above, opt_above, many_above, placed_above}
 
@@ -22,13 +21,13 @@ module _ {A B : Type 0} (L M : Lang A) (K N : A → Lang B) where
   bind_fall : Step L M → ((a : A) → Step (K a) (N a)) → (o : Option B) (w : List Token) → Bind M N o w → (Bind L K o w) ⊎ IsCut (Bind L K) w
   bind_fall s t o w (cut e l) = elim (s.fall None w l) [ inl m ↦ inl (cut e m) | inr c ↦ inr (c.0, c.1, c.2, cut refl c.3) ]
   bind_fall s t o w (both a x y l k e) =
-    elim (s.fall (Some a) x l) [
-      | inl m ↦ elim ((t a).fall o y k) [
-        | inl n ↦ inl (both a x y m n e)
-        | inr c ↦ inr (x ++ c.0, c.1, e ∙ ap (λ (u : List Token). x ++ u) c.2 ∙ sym (append_assoc x c.0 c.1), both a x c.0 m c.3 refl)
+      elim (s.fall (Some a) x l) [
+        | inl m ↦ elim ((t a).fall o y k) [
+          | inl n ↦ inl (both a x y m n e)
+          | inr c ↦ inr (x ++ c.0, c.1, e ∙ ap (λ (u : List Token). x ++ u) c.2 ∙ sym (append_assoc x c.0 c.1), both a x c.0 m c.3 refl)
+        ]
+        | inr c ↦ inr (c.0, c.1 ++ y, e ∙ ap (λ (u : List Token). u ++ y) c.2 ∙ append_assoc c.0 c.1 y, cut refl c.3)
       ]
-      | inr c ↦ inr (c.0, c.1 ++ y, e ∙ ap (λ (u : List Token). u ++ y) c.2 ∙ append_assoc c.0 c.1 y, cut refl c.3)
-    ]
 
   pub bind_step : Step L M → ((a : A) → Step (K a) (N a)) → Step (Bind L K) (Bind M N)
   bind_step s t = record { above = bind_above L M K N s.above (λ a. (t a).above); fall = bind_fall s t }
@@ -53,7 +52,7 @@ module _ {A : Type 0} (L M : Lang A) where
   up_to_step : Step L M → (k : ℕ) → Step (UpTo L k) (UpTo M k)
   up_to_step s zero = pure_step []
   up_to_step s (suc k) = opt_step _ _ [] (bind_step L M (λ a. Bind (UpTo L k) (λ others. Pure (a ∷ others))) (λ a. Bind (UpTo M k) (λ others. Pure (a ∷ others))) s
-    (λ a. bind_step (UpTo L k) (UpTo M k) (λ others. Pure (a ∷ others)) (λ others. Pure (a ∷ others)) (up_to_step s k) (λ others. pure_step (a ∷ others))))
+      (λ a. bind_step (UpTo L k) (UpTo M k) (λ others. Pure (a ∷ others)) (λ others. Pure (a ∷ others)) (up_to_step s k) (λ others. pure_step (a ∷ others))))
 
   many_fall : Step L M → (o : Option (List A)) (w : List Token) → Many M o w → (Many L o w) ⊎ IsCut (Many L) w
   many_fall s o w l = elim ((up_to_step s l.0).fall o w l.1) [ inl m ↦ inl (l.0, m) | inr c ↦ inr (c.0, c.1, c.2, (l.0, c.3)) ]
@@ -89,11 +88,11 @@ module _ {A : Type 0} (ks e : Kinds) (M : Lang A) (l : Facts M false ks e) where
 
     pub cut_step : (t : Token) → Of ks t → Step (Cut ks) M
     cut_step t i =
-      let r = rest t i in
-      record {
-        above = record { raise = λ a w q. absurd cc; fill = cut_fill; value = r.0; list = t ∷ r.1; word = r.2 };
-        fall = cut_fall
-      }
+        let r = rest t i in
+        record {
+          above = record { raise = λ a w q. absurd cc; fill = cut_fill; value = r.0; list = t ∷ r.1; word = r.2 };
+          fall = cut_fall;
+        }
 
 -- ---- any two limits
 
@@ -131,13 +130,13 @@ module _ {A : Type 0} (L : ℕ → Lang A) (step : (n : ℕ) → Step (L n) (L (
   unfolding plus
   descend zero n o w l = inl l
   descend (suc k) n o w l =
-    elim ((step (plus k n)).fall o w l) [
-      | inl m ↦ descend k n o w m
-      | inr c ↦ elim (descend k n None c.0 c.3) [
-        | inl m ↦ inr (c.0, c.1, c.2, m)
-        | inr d ↦ inr (d.0, d.1 ++ c.1, c.2 ∙ ap (λ (u : List Token). u ++ c.1) d.2 ∙ append_assoc d.0 d.1 c.1, d.3)
+      elim ((step (plus k n)).fall o w l) [
+        | inl m ↦ descend k n o w m
+        | inr c ↦ elim (descend k n None c.0 c.3) [
+          | inl m ↦ inr (c.0, c.1, c.2, m)
+          | inr d ↦ inr (d.0, d.1 ++ c.1, c.2 ∙ ap (λ (u : List Token). u ++ c.1) d.2 ∙ append_assoc d.0 d.1 c.1, d.3)
+        ]
       ]
-    ]
 
   -- what is spelled under some limit is spelled under another, or some front of it is cut there
   pub steps_split : (m n : ℕ) → Splits (L m) (L n)

@@ -130,8 +130,8 @@ Extreme pair = Bind (Tok (words keywords.Min keywords.Max)) (λ t. Bind pair (λ
 
 abbrev pub ProductStep : Lang ExprTree → Lang ProductTree
 ProductStep factor = Either
-  (Bind (Tok (symbol syms.Star)) (λ t. Bind factor (λ e. Pure (times e))))
-  (Bind (Tok (words keywords.Div keywords.Mod)) (λ t. Bind (Tok numbers) (λ m. Pure (division_in t.kind m.start (number_in m.kind)))))
+    (Bind (Tok (symbol syms.Star)) (λ t. Bind factor (λ e. Pure (times e))))
+    (Bind (Tok (words keywords.Div keywords.Mod)) (λ t. Bind (Tok numbers) (λ m. Pure (division_in t.kind m.start (number_in m.kind)))))
 
 abbrev pub Term : Lang ExprTree → Lang ExprTree
 Term factor = Placed {A = ExprTree × List ProductTree} (Bind factor (λ a. Bind (Many (ProductStep factor)) (λ others. Pure (a, others)))) product_of
@@ -177,16 +177,16 @@ FormulaCall text args = Bind (Tok (symbol syms.At)) (λ t. Bind (Named text) (λ
 -- the place of a quantifier's first word, and which one it is
 abbrev pub Quantifier : Lang (ℕ × QuantKind)
 Quantifier = Either
-  (Bind (Tok (words keywords.ForAll keywords.Exists)) (λ t. Pure (t.start, each_in t.kind)))
-  (Bind (Tok (words keywords.AtLeast keywords.AtMost)) (λ t. Bind (Tok numbers) (λ m. Pure (t.start, count_in t.kind (number_in m.kind)))))
+    (Bind (Tok (words keywords.ForAll keywords.Exists)) (λ t. Pure (t.start, each_in t.kind)))
+    (Bind (Tok (words keywords.AtLeast keywords.AtMost)) (λ t. Bind (Tok numbers) (λ m. Pure (t.start, count_in t.kind (number_in m.kind)))))
 
 abbrev pub NameList : List ℕ → Lang CollTree
 NameList text = Bind (Tok (symbol syms.ParenOpen)) (λ t. Bind (Chain (Named text) (symbol syms.Comma)) (λ c. Bind (Tok (symbol syms.ParenClose)) (λ u. Pure (listed (c.0 ∷ c.1)))))
 
 abbrev pub Collection : List ℕ → Lang CollTree
 Collection text = Either
-  (Bind (Tok (word keywords.Objects)) (λ t. Opt (NameList text) all_objects))
-  (Bind (Tok (word keywords.Boxes)) (λ t. Bind (Tok (word keywords.Of)) (λ u. Bind (Named text) (λ a. Pure (boxes_of a)))))
+    (Bind (Tok (word keywords.Objects)) (λ t. Opt (NameList text) all_objects))
+    (Bind (Tok (word keywords.Boxes)) (λ t. Bind (Tok (word keywords.Of)) (λ u. Bind (Named text) (λ a. Pure (boxes_of a)))))
 
 abbrev pub Quantified : List ℕ → Lang FormulaTree → Lang FormulaTree
 Quantified text inner = Bind Quantifier (λ q. Bind (Named text) (λ a. Bind (Tok (word keywords.In)) (λ t. Bind (Collection text) (λ c. Bind (Tok (symbol syms.Colon)) (λ u. Bind inner (λ f. Pure (quantified q.0 q.1 a c f)))))))

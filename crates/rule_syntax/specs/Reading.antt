@@ -67,7 +67,7 @@ extreme_at pair w = token_at (words keywords.Min keywords.Max) w >>= λ t rest. 
 
 abbrev pub factor_over_at : List ℕ → Reader ExprTree → Reader ExprTree → Reader (List ArgumentTree) → Reader (ExprTree × ExprTree) → Reader ExprTree
 factor_over_at text neg parens args pair =
-  either_at numbers number_at (either_at names (variable_at text) (either_at (word keywords.Shape) (shape_number_at text)
+    either_at numbers number_at (either_at names (variable_at text) (either_at (word keywords.Shape) (shape_number_at text)
     (either_at (symbol syms.Minus) neg (either_at (symbol syms.ParenOpen) parens (either_at (symbol syms.Dollar) (value_call_at text args) (extreme_at pair))))))
 
 abbrev pub times_at : Reader ExprTree → Reader ProductTree
@@ -91,7 +91,7 @@ sum_over_at term = placed_at {A = ExprTree × List SumTree} (λ w. term w >>= λ
 unfoldable pub factor_at : List ℕ → ℕ → Reader ExprTree
 factor_at text zero = factor_over_at text (cut_at (symbol syms.Minus)) (cut_at (symbol syms.ParenOpen)) (cut_at (symbol syms.ParenOpen)) (cut_at (symbol syms.ParenOpen))
 factor_at text (suc n) =
-  factor_over_at text (negative_at (factor_at text n)) (parens_at (sum_over_at (term_over_at (factor_at text n)))) (args_over_at (sum_over_at (term_over_at (factor_at text n)))) (pair_at (sum_over_at (term_over_at (factor_at text n))))
+    factor_over_at text (negative_at (factor_at text n)) (parens_at (sum_over_at (term_over_at (factor_at text n)))) (args_over_at (sum_over_at (term_over_at (factor_at text n)))) (pair_at (sum_over_at (term_over_at (factor_at text n))))
 
 unfoldable pub term_at : List ℕ → ℕ → Reader ExprTree
 term_at text n = term_over_at (factor_at text n)
@@ -156,7 +156,7 @@ comparison_at expr = placed_at {A = ExprTree × Rel × ExprTree} (λ w. expr w >
 
 abbrev pub unary_over_at : List ℕ → Reader FormulaTree → Reader FormulaTree → Reader (List ArgumentTree) → Reader FormulaTree → Reader ExprTree → Reader FormulaTree
 unary_over_at text not brackets args quant expr =
-  either_at (word keywords.True) true_at (either_at (word keywords.False) false_at (either_at (word keywords.Not) not (either_at (symbol syms.BracketOpen) brackets
+    either_at (word keywords.True) true_at (either_at (word keywords.False) false_at (either_at (word keywords.Not) not (either_at (symbol syms.BracketOpen) brackets
     (either_at (symbol syms.At) (formula_call_at text args) (either_at quantifiers quant (comparison_at expr))))))
 
 abbrev pub conjunction_over_at : Reader FormulaTree → Reader FormulaTree

@@ -15,7 +15,7 @@ use crate::words::{
     begins_expression, division, extreme_of, extreme_word, flat_factor, number, placed_name,
     product_goes_on, shape_number, sum_goes_on, sum_mark, variable,
 };
-use geo_tokens::stop::{next_is, start_of, token, Stop};
+use geo_tokens::stop::{Stop, next_is, start_of, token};
 use geo_tokens::token::{Keyword, Kind, Sym, Token};
 use std::alloc::{AllocError, Global};
 
@@ -337,12 +337,7 @@ fn more_terms<'a>(
 }
 
 /// A sum of one term is that term.
-fn sum_of(
-    alloc: Global,
-    place: u64,
-    first: Expr,
-    others: Vec<SumStep>,
-) -> Result<Expr, AllocError>
+fn sum_of(alloc: Global, place: u64, first: Expr, others: Vec<SumStep>) -> Result<Expr, AllocError>
     ensures { IfOk result (λ e. expr_view e ≡ sum_of place (expr_view first, sum_views others)) }
 {
     if others.is_empty() {

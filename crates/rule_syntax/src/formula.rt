@@ -16,8 +16,8 @@ use crate::expression::{arguments, expression};
 use crate::quantifier::{begins_quantifier, collection, quantifier};
 use crate::tree::{Argument, Formula, Rel};
 use crate::words::{placed_name, refuse, refused_arguments};
-use geo_tokens::stop::{next_is, one_of, start_of, token, Stop};
-use geo_tokens::token::{class_of, Keyword, Kind, Sym, Token};
+use geo_tokens::stop::{Stop, next_is, one_of, start_of, token};
+use geo_tokens::token::{Keyword, Kind, Sym, Token, class_of};
 use std::alloc::{AllocError, Global};
 
 /// A formula that would open a level too many at this token.
@@ -432,7 +432,10 @@ fn implication<'a>(
 {
     let (first, rest) = disjunction(alloc, text, levels, tokens)?;
     let (second, rest) = implied(alloc, text, levels, rest)?;
-    Ok((implication_of(alloc, start_of(tokens), first, second)?, rest))
+    Ok((
+        implication_of(alloc, start_of(tokens), first, second)?,
+        rest,
+    ))
 }
 
 /// What is equivalent, if an `iff` stands here.
@@ -464,11 +467,7 @@ fn equivalence_of(
 {
     match second {
         None => Ok(first),
-        Some(second) => Ok(Formula::Iff(
-            place,
-            Box::new(alloc, first)?,
-            Box::new(alloc, second)?,
-        )),
+        Some(second) => Ok(Formula::Iff(place, Box::new(alloc, first)?, Box::new(alloc, second)?)),
     }
 }
 
@@ -485,5 +484,8 @@ pub fn formula<'a>(
 {
     let (first, rest) = implication(alloc, text, levels, tokens)?;
     let (second, rest) = equivalent(alloc, text, levels, rest)?;
-    Ok((equivalence_of(alloc, start_of(tokens), first, second)?, rest))
+    Ok((
+        equivalence_of(alloc, start_of(tokens), first, second)?,
+        rest,
+    ))
 }

@@ -4,5 +4,6 @@
 pub mod expression;
 pub mod formula;
 pub mod quantifier;
+pub mod read;
 pub mod tree;
 pub mod words;

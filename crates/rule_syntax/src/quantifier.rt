@@ -12,15 +12,18 @@ ghost use Rattle.rule_syntax.specs.View.{coll_view, names_view};
 
 use crate::tree::{Coll, PlacedName, QuantKind};
 use crate::words::placed_name;
-use geo_tokens::stop::{next_in, next_is, one_of, token, Stop};
-use geo_tokens::token::{number_in, Keyword, Kind, Sym, Token};
+use geo_tokens::stop::{Stop, next_in, next_is, one_of, token};
+use geo_tokens::token::{Keyword, Kind, Sym, Token, number_in};
 use std::alloc::Global;
 
 /// One of the words `forall` and `exists`, with its place.
 fn each(tokens: &[Token]) -> Result<((u64, QuantKind), &[Token]), Stop<'_>>
     ensures { Gives (λ q. q) result (each_at tokens.now) }
 {
-    let (word, rest) = one_of(tokens, &[Kind::Word(Keyword::ForAll), Kind::Word(Keyword::Exists)])?;
+    let (word, rest) = one_of(
+        tokens,
+        &[Kind::Word(Keyword::ForAll), Kind::Word(Keyword::Exists)],
+    )?;
     let kind = match word.kind {
         Kind::Word(Keyword::ForAll) => QuantKind::ForAll,
         _ => QuantKind::Exists,
@@ -32,7 +35,10 @@ fn each(tokens: &[Token]) -> Result<((u64, QuantKind), &[Token]), Stop<'_>>
 fn count(tokens: &[Token]) -> Result<((u64, QuantKind), &[Token]), Stop<'_>>
     ensures { Gives (λ q. q) result (count_at tokens.now) }
 {
-    let (word, rest) = one_of(tokens, &[Kind::Word(Keyword::AtLeast), Kind::Word(Keyword::AtMost)])?;
+    let (word, rest) = one_of(
+        tokens,
+        &[Kind::Word(Keyword::AtLeast), Kind::Word(Keyword::AtMost)],
+    )?;
     let (number, rest) = token(rest, Kind::Number(0))?;
     let number = number_in(number.kind);
     let kind = match word.kind {
@@ -60,7 +66,10 @@ pub fn begins_quantifier(tokens: &[Token]) -> bool
 fn begins_each(tokens: &[Token]) -> bool
     ensures { result ≡ next_is (words keywords.ForAll keywords.Exists) tokens.now }
 {
-    next_in(tokens, &[Kind::Word(Keyword::ForAll), Kind::Word(Keyword::Exists)])
+    next_in(
+        tokens,
+        &[Kind::Word(Keyword::ForAll), Kind::Word(Keyword::Exists)],
+    )
 }
 
 /// The first words of a quantifier, with their place.

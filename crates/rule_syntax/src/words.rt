@@ -14,8 +14,8 @@ ghost use Rattle.rule_syntax.specs.View.{expr_view, product_view, argument_views
 
 use crate::tree::{Argument, Expr, PlacedName, ProdStep};
 use geo_tokens::name::Name;
-use geo_tokens::stop::{next_in, next_is, one_of, token, Stop};
-use geo_tokens::token::{class_of, number_in, Keyword, Kind, Sym, Token};
+use geo_tokens::stop::{Stop, next_in, next_is, one_of, token};
+use geo_tokens::token::{Keyword, Kind, Sym, Token, class_of, number_in};
 use std::alloc::{AllocError, Global};
 
 /// Refuses a token of this kind, since it would open a level too many, and any other.
@@ -33,6 +33,7 @@ macro_rules! refuse {
         }
     };
 }
+
 pub(crate) use refuse;
 
 /// A name, with its place.
@@ -127,12 +128,7 @@ fn refused_pair(tokens: &[Token]) -> Result<((Expr, Expr), &[Token]), Stop<'_>>
 }
 
 /// The least or the greatest of two, by its word.
-pub fn extreme_of(
-    alloc: Global,
-    word: Token,
-    first: Expr,
-    second: Expr,
-) -> Result<Expr, AllocError>
+pub fn extreme_of(alloc: Global, word: Token, first: Expr, second: Expr) -> Result<Expr, AllocError>
     ensures { IfOk result (λ e. expr_view e ≡ extreme_in word.kind word.start (expr_view first) (expr_view second)) }
 {
     let first = Box::new(alloc, first)?;
@@ -147,7 +143,10 @@ pub fn extreme_of(
 pub fn extreme_word(tokens: &[Token]) -> Result<(Token, &[Token]), Stop<'_>>
     ensures { Gives (λ t. t) result (token_at (words keywords.Min keywords.Max) tokens.now) }
 {
-    one_of(tokens, &[Kind::Word(Keyword::Min), Kind::Word(Keyword::Max)])
+    one_of(
+        tokens,
+        &[Kind::Word(Keyword::Min), Kind::Word(Keyword::Max)],
+    )
 }
 
 /// A call that gives a number, where no level may be opened.
@@ -202,7 +201,10 @@ pub fn flat_factor<'a>(
 pub fn division(tokens: &[Token]) -> Result<(ProdStep, &[Token]), Stop<'_>>
     ensures { Gives product_view result (division_at tokens.now) }
 {
-    let (word, rest) = one_of(tokens, &[Kind::Word(Keyword::Div), Kind::Word(Keyword::Mod)])?;
+    let (word, rest) = one_of(
+        tokens,
+        &[Kind::Word(Keyword::Div), Kind::Word(Keyword::Mod)],
+    )?;
     let (number, rest) = token(rest, Kind::Number(0))?;
     let value = number_in(number.kind);
     let step = match word.kind {
@@ -216,7 +218,14 @@ pub fn division(tokens: &[Token]) -> Result<(ProdStep, &[Token]), Stop<'_>>
 pub fn product_goes_on(tokens: &[Token]) -> bool
     ensures { result ≡ next_is product_marks tokens.now }
 {
-    next_in(tokens, &[Kind::Symbol(Sym::Star), Kind::Word(Keyword::Div), Kind::Word(Keyword::Mod)])
+    next_in(
+        tokens,
+        &[
+            Kind::Symbol(Sym::Star),
+            Kind::Word(Keyword::Div),
+            Kind::Word(Keyword::Mod),
+        ],
+    )
 }
 
 /// A sum goes on here.

@@ -1,4 +1,4 @@
-use Rattle.std.proofs.Common.{◌≡◌, ℕ, ◌+◌, ◌-◌, ◌*◌, ◌<◌, ◌≤◌, length, [], ◌∷◌}
+use Rattle.std.proofs.Common.{◌≡◌, ◌+◌, ◌*◌, length}
 use Rattle.geo_tokens.specs.Words.{word}
 use Rattle.geo_tokens.specs.Reading.{many_at}
 use Rattle.geo_tokens.specs.Gives.{with_front}

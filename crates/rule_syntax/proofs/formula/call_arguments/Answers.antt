@@ -1,4 +1,4 @@
-use Rattle.std.proofs.Common.{◌≡◌, ◌<◌, List, sym, subst, arith}
+use Rattle.std.proofs.Common.{List, sym, subst, arith}
 use Rattle.geo_tokens.specs.Gives.{Gives}
 use Rattle.geo_tokens.specs.Reading.{Read}
 use Rattle.rule_syntax.specs.Tree.{ArgumentTree}
