@@ -4,4 +4,9 @@ pub mod Reading
 pub mod Deep
 pub mod Gives
 pub mod Bytes
+pub mod Cut
+pub mod Front
+pub mod Spelled
 pub mod Fault
+pub mod FirstEnd
+pub mod Names

@@ -2,6 +2,13 @@
 #![tactic(auto)]
 
 pub mod fault;
+pub mod first_end;
+mod front;
+pub mod lexer;
+mod lookup;
 pub mod name;
+pub mod names;
 pub mod stop;
+#[cfg(test)]
+mod tests;
 pub mod token;
