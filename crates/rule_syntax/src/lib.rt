@@ -5,5 +5,7 @@ pub mod expression;
 pub mod formula;
 pub mod quantifier;
 pub mod read;
+#[cfg(test)]
+mod tests;
 pub mod tree;
 pub mod words;
