@@ -1,0 +1,5 @@
+pub mod Expressions
+pub mod Formulas
+pub mod Steps
+pub mod Limits
+pub mod Outcomes

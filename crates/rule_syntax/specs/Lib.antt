@@ -1,0 +1,6 @@
+pub mod Tree
+pub mod View
+pub mod Marks
+pub mod Grammar
+pub mod Reading
+pub mod Outcome

@@ -1,0 +1,111 @@
+//! The trees that the tokens of formulas and expressions spell.
+//!
+//! Each node has the place of its first token: how many bytes of the text stand before it. Brackets make no node.
+
+use geo_tokens::name::Name;
+
+/// A name, with the place where it stands.
+#[derive(Debug, Drop)]
+pub struct PlacedName {
+    pub place: u64,
+    pub name: Name,
+}
+
+/// An expression.
+#[cycle(expression)]
+#[derive(Debug, Drop)]
+pub enum Expr {
+    /// A number.
+    Num(u64, u32),
+    /// A field of an object or a box; the number is the place of the `.`.
+    Field(PlacedName, u64, PlacedName),
+    /// A name alone.
+    Param(PlacedName),
+    /// The number of a shape.
+    ShapeNum(u64, PlacedName),
+    /// A minus in front of a factor.
+    Neg(u64, Box<Expr>),
+    /// A term, and others that are added and taken away from the left.
+    Sum(u64, Box<Expr>, Vec<SumStep>),
+    /// A factor, and steps of multiplication and division from the left.
+    Prod(u64, Box<Expr>, Vec<ProdStep>),
+    /// The least of two.
+    Min(u64, Box<Expr>, Box<Expr>),
+    /// The greatest of two.
+    Max(u64, Box<Expr>, Box<Expr>),
+    /// A call of a macro that gives a number.
+    CallValue(u64, PlacedName, Vec<Argument>),
+}
+
+/// What is done with a term of a sum behind the first one.
+#[cycle(expression)]
+#[derive(Debug, Drop)]
+pub enum SumStep {
+    Plus(Expr),
+    Minus(Expr),
+}
+
+/// What is done with a factor of a product behind the first one. The first number of `Div` and `Mod` is the place of
+/// the second one.
+#[cycle(expression)]
+#[derive(Debug, Drop)]
+pub enum ProdStep {
+    Times(Expr),
+    Div(u64, u32),
+    Mod(u64, u32),
+}
+
+/// An argument of a call, with the place of its first token, which may be a bracket.
+#[cycle(expression)]
+#[derive(Debug, Drop)]
+pub struct Argument {
+    pub place: u64,
+    pub value: Expr,
+}
+
+/// How the two sides of a comparison are compared.
+#[derive(Clone, Copy, Debug, PartialEq, Eq)]
+pub enum Rel {
+    Lt,
+    Le,
+    Eq,
+    Ne,
+    Ge,
+    Gt,
+}
+
+/// Which elements of a collection the body has to hold for.
+#[derive(Clone, Copy, Debug, PartialEq, Eq)]
+pub enum QuantKind {
+    ForAll,
+    Exists,
+    AtLeast(u32),
+    AtMost(u32),
+}
+
+/// What a quantifier's variable ranges over.
+#[derive(Debug, Drop)]
+pub enum Coll {
+    /// All objects.
+    Objects,
+    /// The listed objects.
+    Listed(Vec<PlacedName>),
+    /// The boxes of an object's shape.
+    BoxesOf(PlacedName),
+}
+
+/// A formula.
+#[derive(Debug, Drop)]
+pub enum Formula {
+    True(u64),
+    False(u64),
+    Not(u64, Box<Formula>),
+    And(u64, Vec<Formula>),
+    Or(u64, Vec<Formula>),
+    Implies(u64, Box<Formula>, Box<Formula>),
+    Iff(u64, Box<Formula>, Box<Formula>),
+    Compare(u64, Expr, Rel, Expr),
+    Quant(u64, QuantKind, PlacedName, Coll, Box<Formula>),
+    /// A call of a macro that gives a formula.
+    Call(u64, PlacedName, Vec<Argument>),
+}
