@@ -66,7 +66,7 @@ module _ (L M : Lang ExprTree) (s : Step L M) where
       (bind_step _ _ _ _ (symbol_step syms.Star) (λ t. bind_step L M _ _ s (λ e. pure_step _)))
       (bind_step _ _ _ _ (tok_step (words keywords.Div keywords.Mod) (of_kind (kinds.Word keywords.Div)) refl) (λ t. bind_step _ _ _ _ numbers_step (λ m. pure_step _)))
 
-  term_step : Step (Term L) (Term M)
+  pub term_step : Step (Term L) (Term M)
   term_step = placed_step _ _ product_of (bind_step L M _ _ s (λ a. bind_step _ _ _ _ (many_step _ _ product_step_step) (λ others. pure_step _)))
 
   sum_step_step : Step (SumStep L) (SumStep M)
@@ -75,7 +75,7 @@ module _ (L M : Lang ExprTree) (s : Step L M) where
   comparison_step : Step (Comparison L) (Comparison M)
   comparison_step = placed_step _ _ (λ p x. comparison p x.0 x.1 x.2) (bind_step L M _ _ s (λ a. bind_step _ _ _ _ (tok_step rels (of_kind (kinds.Symbol syms.Less)) refl) (λ t. bind_step L M _ _ s (λ b. pure_step _))))
 
-expr_over_step : (L M : Lang ExprTree) → Step L M → Step (ExprOver L) (ExprOver M)
+pub expr_over_step : (L M : Lang ExprTree) → Step L M → Step (ExprOver L) (ExprOver M)
 expr_over_step L M s = placed_step _ _ sum_of (bind_step _ _ _ _ (term_step L M s) (λ a. bind_step _ _ _ _ (many_step _ _ (sum_step_step (Term L) (Term M) (term_step L M s))) (λ others. pure_step _)))
 
 module _ (text : List ℕ) where
@@ -198,19 +198,19 @@ module _ (L M : Lang FormulaTree) (s : Step L M) where
   quantified_step : (text : List ℕ) → Step (Quantified text L) (Quantified text M)
   quantified_step text = bind_step _ _ _ _ quantifier_step (λ q. bind_step _ _ _ _ (named_step text) (λ a. bind_step _ _ _ _ (word_step keywords.In) (λ t. bind_step _ _ _ _ (collection_step text) (λ c. bind_step _ _ _ _ (symbol_step syms.Colon) (λ u. bind_step L M _ _ s (λ f. pure_step _))))))
 
-  conjunction_step : Step (Conjunction L) (Conjunction M)
+  pub conjunction_step : Step (Conjunction L) (Conjunction M)
   conjunction_step = placed_step _ _ and_of (chain_step L M (word keywords.And) (of_kind (kinds.Word keywords.And)) refl s)
 
   behind_step : (k : Keyword) → Step (Behind (word k) L) (Behind (word k) M)
   behind_step k = opt_step _ _ None (bind_step _ _ _ _ (word_step k) (λ t. bind_step L M _ _ s (λ g. pure_step _)))
 
-disjunction_step : (L M : Lang FormulaTree) → Step L M → Step (Disjunction L) (Disjunction M)
+pub disjunction_step : (L M : Lang FormulaTree) → Step L M → Step (Disjunction L) (Disjunction M)
 disjunction_step L M s = placed_step _ _ or_of (chain_step _ _ (word keywords.Or) (of_kind (kinds.Word keywords.Or)) refl (conjunction_step L M s))
 
-implication_step : (L M : Lang FormulaTree) → Step L M → Step (Implication L) (Implication M)
+pub implication_step : (L M : Lang FormulaTree) → Step L M → Step (Implication L) (Implication M)
 implication_step L M s = placed_step _ _ implication_of (bind_step _ _ _ _ (disjunction_step L M s) (λ f. bind_step _ _ _ _ (behind_step (Disjunction L) (Disjunction M) (disjunction_step L M s) keywords.Implies) (λ g. pure_step _)))
 
-formula_over_step : (L M : Lang FormulaTree) → Step L M → Step (FormulaOver L) (FormulaOver M)
+pub formula_over_step : (L M : Lang FormulaTree) → Step L M → Step (FormulaOver L) (FormulaOver M)
 formula_over_step L M s = placed_step _ _ equivalence_of (bind_step _ _ _ _ (implication_step L M s) (λ f. bind_step _ _ _ _ (behind_step (Implication L) (Implication M) (implication_step L M s) keywords.Iff) (λ g. pure_step _)))
 
 module _ (text : List ℕ) where
