@@ -5,3 +5,9 @@ pub mod LineGrammar
 pub mod LineReading
 pub mod LineStatements
 pub mod LineText
+pub mod Tree
+pub mod View
+pub mod Marks
+pub mod Grammar
+pub mod Reading
+pub mod WholeText

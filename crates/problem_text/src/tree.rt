@@ -1,0 +1,142 @@
+//! What the statements of a text say, with the places of their tokens.
+//!
+//! A place is how many bytes of the text stand before a token.
+
+use rule_syntax::tree::{Expr, Formula, PlacedName};
+
+/// A whole number, with the place of its first token.
+#[derive(Clone, Copy, Debug)]
+pub struct Int {
+    pub place: u64,
+    pub value: i64,
+}
+
+/// A range of whole numbers, both ends included.
+#[derive(Clone, Copy, Debug)]
+pub struct RangeText {
+    pub low: Int,
+    pub high: Int,
+}
+
+/// A box of a shape, with the place of its word `box`.
+#[derive(Debug, Drop)]
+pub struct BoxText {
+    pub place: u64,
+    pub offsets: Vec<Int>,
+    pub sizes: Vec<Int>,
+}
+
+/// The statement of a shape.
+#[derive(Debug, Drop)]
+pub struct ShapeText {
+    pub name: PlacedName,
+    pub boxes: Vec<BoxText>,
+}
+
+/// An attribute of an object.
+#[derive(Debug, Drop)]
+pub struct AttributeText {
+    pub name: PlacedName,
+    pub value: Int,
+}
+
+/// The statement of an object.
+#[derive(Debug, Drop)]
+pub struct ObjectText {
+    pub name: PlacedName,
+    pub shapes: Vec<PlacedName>,
+    pub ranges: Vec<RangeText>,
+    pub attributes: Vec<AttributeText>,
+}
+
+/// The statement of the search order, with the place of its word.
+#[derive(Debug, Drop)]
+pub struct OrderText {
+    pub place: u64,
+    pub names: Vec<PlacedName>,
+}
+
+/// From which end the values of a coordinate are tried.
+#[derive(Clone, Copy, Debug, PartialEq, Eq)]
+pub enum Side {
+    Low,
+    High,
+}
+
+/// A side, with its place.
+#[derive(Clone, Copy, Debug)]
+pub struct SideText {
+    pub place: u64,
+    pub side: Side,
+}
+
+/// The statement of the sides, with the place of its word.
+#[derive(Debug, Drop)]
+pub struct SidesText {
+    pub place: u64,
+    pub sides: Vec<SideText>,
+}
+
+/// What a parameter of a macro stands for.
+#[derive(Clone, Copy, Debug, PartialEq, Eq)]
+pub enum ParamKind {
+    Int,
+    Object,
+    Box,
+}
+
+/// A parameter of a macro.
+#[derive(Debug, Drop)]
+pub struct ParamText {
+    pub name: PlacedName,
+    pub kind: ParamKind,
+}
+
+/// What a macro stands for.
+#[derive(Debug, Drop)]
+pub enum MacroBody {
+    Means(Formula),
+    Is(Expr),
+}
+
+/// The statement of a macro.
+#[derive(Debug, Drop)]
+pub struct MacroText {
+    pub name: PlacedName,
+    pub params: Vec<ParamText>,
+    pub body: MacroBody,
+}
+
+/// What a rule asks for.
+#[derive(Debug, Drop)]
+pub enum RuleBody {
+    Apart,
+    Within(Vec<RangeText>),
+    Plain(Formula),
+}
+
+/// The statement of a rule.
+#[derive(Debug, Drop)]
+pub struct RuleText {
+    pub name: PlacedName,
+    pub body: RuleBody,
+}
+
+/// A statement.
+#[derive(Debug, Drop)]
+pub enum Statement {
+    Shape(ShapeText),
+    Object(ObjectText),
+    Order(OrderText),
+    Sides(SidesText),
+    Macro(MacroText),
+    Rule(RuleText),
+}
+
+/// All that a text says: its version, the number of its dimensions, and its statements.
+#[derive(Debug, Drop)]
+pub struct ProblemText {
+    pub version: Int,
+    pub dims: Int,
+    pub statements: Vec<Statement>,
+}
