@@ -13,7 +13,7 @@ use geo_tokens::token::{Kind, Sym, Token, number_in};
 use std::alloc::Global;
 
 /// What a number token says.
-pub fn int_of(number: Token) -> Int
+fn int_of(number: Token) -> Int
     ensures { result ≡ plain_int number }
 {
     Int {
