@@ -1,0 +1,8 @@
+//! The events of a derivation, and what takes them down.
+#![tactic(auto)]
+
+mod event;
+mod recorder;
+
+pub use event::Event;
+pub use recorder::{NoRecord, Recorder};
