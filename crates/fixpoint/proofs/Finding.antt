@@ -5,7 +5,8 @@ use Rattle.std.specs.List.{All}
 use Rattle.std.proofs.lemmas.Bool.{cases_lt, cases_eq, false≢true}
 use Rattle.std.proofs.lemmas.List.{get_or_past, get_or-set_same}
 use Rattle.geo_conditions.specs.declared.cond.Cond.{Cond}
-use Rattle.geo_conditions.specs.Reach.{IsState, State, Reach, reach, nowhere, place_in, has, low, high, dims, Inside, NotEmpty}
+use Rattle.geo_state.proofs.Shapes.{place_few}
+use Rattle.geo_conditions.specs.Reach.{State, Reach, reach, nowhere, place_in, has, low, high, dims, Inside, NotEmpty}
 use Rattle.geo_base.specs.Boxes.{coordinate}
 use Rattle.geo_conditions.specs.Supported.{IsSupported, NoneInside, NoneRefuted, Supports}
 use Rattle.geo_conditions.proofs.Points.{unrefuted_wider}
@@ -43,10 +44,6 @@ hopeless_high cs S o d h k kh n l T s i =
         ap (λ (q : Reach). coordinate q.region.hi d) (get_or-set_same S o (lowered (reach S o) d) nowhere h) ∙ get_or-set_same (reach S o).region.hi d (high S o d +ℤ negsuc 0) (pos 0) kh in
     let m : high T o d ≤ℤ (high S o d +ℤ negsuc 0) = subst (λ (z : ℤ). high T o d ≤ℤ z) e ((j.each o).highs d) in
     absurd (omega (arith, ints, m, r, l, (i.each o).lows d))
-
-place_few : (bs : List Bool) (s : ℕ) → place_in bs s ≡ true → s ≤ length bs
-place_few bs zero h = omega arith
-place_few bs (suc k) h = elim (cases_lt k (length bs)) [ inl b ↦ omega arith | inr b ↦ absurd (false≢true (sym (get_or_past bs k false b) ∙ h)) ]
 
 -- the places before the next one are fine, and one of them is there where it says so
 pub record PlacesUpTo (cs : List Cond) (S : State) (o : ℕ) (any : Bool) (n : ℕ) : Type 0 where
@@ -100,10 +97,3 @@ all_supported cs S u f = record {
 
 pub one_more : (P : ℕ → Type 0) (n : ℕ) → ((e : ℕ) → e < n → P e) → P n → (e : ℕ) → e < n + 1 → P e
 one_more P n h p e b = elim (cases_eq e n) [ inl q ↦ subst P (sym q) p | inr ne ↦ h e (omega arith) ]
-
--- the lists of the ends of an object's intervals
-pub lo_long : (k : ℕ) (S : State) (o : ℕ) → IsState k S → o < length S → length (reach S o).region.lo ≡ k
-lo_long k S o s h = (s.dims o nowhere h).0
-
-pub hi_long : (k : ℕ) (S : State) (o : ℕ) → IsState k S → o < length S → length (reach S o).region.hi ≡ k
-hi_long k S o s h = (s.dims o nowhere h).1

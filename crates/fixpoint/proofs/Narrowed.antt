@@ -1,9 +1,9 @@
 -- A defect that is mended keeps every supported state, and makes the state smaller.
 use Rattle.std.proofs.Common.{◌≡◌, ℕ, zero, suc, ◌<◌, ◌≤◌, Bool, true, false, List, length, set, sym, ap, ◌∙◌, subst, arith, ℤ, pos, negsuc, ◌+ℤ◌}
 use Rattle.std.specs.List.{All}
-use Rattle.std.proofs.Common.{get_or}
-use Rattle.geo_conditions.specs.declared.cond.Cond.{Cond, Lin, Shape, NotShape, AtLeast', Row_of-Cond, end_of-Cond, more_of-Cond}
-use Rattle.geo_conditions.specs.Conditions.{FitsIn, AllFitIn}
+use Rattle.geo_conditions.specs.declared.cond.Cond.{Cond}
+use Rattle.geo_conditions.specs.Conditions.{FitsIn}
+use Rattle.geo_state.proofs.Fits.{all_fit}
 use Rattle.geo_conditions.specs.Supported.{IsSupported, IsGreatest, NoneInside}
 use Rattle.geo_conditions.proofs.Points.{inside_self, inside_trans}
 use Rattle.geo_conditions.specs.Reach.{State, reach, low, high, with_low, with_high, without, how_many, Inside}
@@ -42,17 +42,6 @@ place_mended cs S R o (suc k) l q =
 
 -- ---- the loop
 
-mutual
-  fits_inside : (c : Cond) (S R : State) → Inside R S → FitsIn c S → FitsIn c R
-  fits_inside (Lin f) S R i h = λ k d b. (omega (arith, i.objects, (h k d b).0), omega (arith, (i.each (get_or f.terms k d).object.0).same_lo, (h k d b).1))
-  fits_inside (Shape o s) S R i h = omega (arith, i.objects)
-  fits_inside (NotShape o s) S R i h = omega (arith, i.objects)
-  fits_inside (AtLeast' n shape cs) S R i h = row_inside cs S R i h
-
-  row_inside : {m : _} → (cs : Row_of-Cond m) (S R : State) → Inside R S → AllFitIn cs S → AllFitIn cs R
-  row_inside end_of-Cond S R i h = tt
-  row_inside (more_of-Cond c cs) S R i h = (fits_inside c S R i h.0, row_inside cs S R i h.1)
-
 -- what the loop keeps
 pub record Going (cs : List Cond) (S R : State) : Type 0 where
   pub keeps : Keeps cs S R
@@ -64,7 +53,7 @@ going_start cs S f = record { keeps = record { inside = inside_self S; all = λ 
 pub going_on : (cs : List Cond) (S R Q : State) → Going cs S R → Keeps cs R Q → Going cs S Q
 going_on cs S R Q g k = record {
   keeps = keeps_trans cs S R Q g.keeps k;
-  fits = λ j d b. fits_inside (get_or cs j d) R Q k.inside (g.fits j d b);
+  fits = all_fit cs R Q k.inside g.fits;
 }
 
 -- narrowed where it changed, and else the same

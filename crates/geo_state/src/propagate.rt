@@ -1,8 +1,8 @@
-ghost use Rattle.std.specs.Prelude.{◌≡◌, ℕ, ◌+◌, ◌-◌, ◌^◌, min, ◌≤◌, true, false, List, ◌++◌, length, IsOk, OnErr};
+ghost use Rattle.std.specs.Prelude.{◌≡◌, ℕ, ◌+◌, ◌-◌, ◌^◌, min, ◌≤◌, true, false, List, length, IsOk, OnErr};
 ghost use Rattle.std.specs.List.{All};
 ghost use Rattle.geo_conditions.specs.declared.cond.Cond.{Cond};
 ghost use Rattle.geo_conditions.specs.Conditions.{FitsIn};
-ghost use Rattle.derivation.specs.declared.event.Event.{Event};
+ghost use Rattle.derivation.specs.Events.{Continues};
 ghost use Rattle.geo_state.specs.Settle.{SettlesOr};
 
 use super::trailed::Trailed;
@@ -41,7 +41,7 @@ pub trait Propagate<const K: usize> {
         ensures levels { (t.new.levels ≡ t.old.levels) × (t.new.restores ≡ t.old.restores) }
         ensures conditions { conditions self.new ≡ conditions self.old }
         ensures count { objects self.new ≡ objects self.old }
-        ensures events { R.keeps ≡ true → (es : List Event) × (R.list rec.new ≡ R.list rec.old ++ es) }
+        ensures events { R.keeps ≡ true → Continues (R.list rec.old) (R.list rec.new) }
         ensures refused { OnErr result (min (R.refusals rec.old + 1) (2 ^ 64 - 1) ≤ R.refusals rec.new) }
         ensures refusals { R.refusals rec.old ≤ R.refusals rec.new }
         ensures no_record { R.keeps ≡ false → IsOk result };

@@ -5,7 +5,8 @@ use Rattle.geo_base.specs.Boxes.{coordinate}
 use Rattle.geo_conditions.specs.Reach.{low, high, Region}
 use Rattle.fixpoint.specs.Points.{HasEnd}
 use Rattle.geo_state.proofs.Numbers.{kept64}
-use Rattle.fixpoint.proofs.Finding.{hopeless_range, hopeless_low, hopeless_high, lo_long, hi_long}
+use Rattle.geo_state.proofs.Shapes.{lo_long}
+use Rattle.fixpoint.proofs.Finding.{hopeless_range, hopeless_low}
 use Rattle.fixpoint.proofs.defects.end_defect.Goals as goal
 
 pub returns-then-high-low : goal.returns-then-high-low

@@ -3,7 +3,8 @@ use Rattle.std.specs.Prelude.{MatchOption}
 use Rattle.geo_conditions.specs.Reach.{reach, dims}
 use Rattle.fixpoint.specs.declared.defects.Defect.{Defect}
 use Rattle.fixpoint.specs.Defects.{PlacesFine, EndsFine, IsDefect}
-use Rattle.fixpoint.proofs.Finding.{one_more, lo_long, hi_long}
+use Rattle.geo_state.proofs.Shapes.{lo_long, hi_long}
+use Rattle.fixpoint.proofs.Finding.{one_more}
 use Rattle.fixpoint.proofs.defects.object_defect.Goals as goal
 
 pub loop-d-preserved : goal.loop-d-preserved

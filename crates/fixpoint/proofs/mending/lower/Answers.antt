@@ -6,7 +6,7 @@ use Rattle.geo_base.specs.Boxes.{coordinate}
 use Rattle.geo_conditions.specs.Reach.{State, IsState, Region, reach, low, high}
 use Rattle.geo_state.specs.Trail.{IsSmall, IsSmallNumber}
 use Rattle.geo_state.proofs.Numbers.{kept64, small_kept}
-use Rattle.fixpoint.proofs.Finding.{lo_long, hi_long}
+use Rattle.geo_state.proofs.Shapes.{lo_long, hi_long}
 use Rattle.fixpoint.proofs.Narrowed.{high_mended}
 use Rattle.fixpoint.proofs.mending.lower.Goals as goal
 
