@@ -6,3 +6,5 @@ pub mod Walking
 pub mod Leaving
 pub mod Standing
 pub mod Loop
+pub mod Bare
+pub mod Resuming

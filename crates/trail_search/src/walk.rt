@@ -84,7 +84,10 @@ fn walk_empty<const K: usize, P: Propagate<K>, R: Recorder>(
     ensures no_record { R.keeps ≡ false → result ≢ Step.Memory }
     ensures walks { IsReady (P.conditions prop.old) walker.old found → GoesOnAs (P.conditions prop.old) budget walker.old result walker.new }
 {
-    if found || walker.has_token() {
+    if found {
+        return Step::Ended;
+    }
+    if walker.has_token() {
         return Step::Ended;
     }
     match walker.settle(prop, rec) {
