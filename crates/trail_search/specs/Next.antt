@@ -3,7 +3,7 @@ use Rattle.std.specs.Prelude.{◌≡◌, ℕ, Bool, ◌+◌, ◌-◌, ◌^◌, m
 use Rattle.std.specs.List.{All}
 use Rattle.geo_conditions.specs.declared.cond.Cond.{Cond}
 use Rattle.geo_conditions.specs.Conditions.{FitsIn}
-use Rattle.geo_conditions.specs.Reach.{Tuple}
+use Rattle.geo_conditions.specs.Reach.{State, IsState, Tuple}
 use Rattle.geo_conditions.specs.Walk.{Order, NamesEach, variables_in, Tree, values, is_full, IsFront, IsWhole, GoesOn}
 use Rattle.derivation.specs.declared.event.Event.{Event}
 use Rattle.trail_search.specs.Walker.{Position, IsWell, IsReady}
@@ -63,6 +63,7 @@ layout_when true l = Some l
 -- what is true of each search. Without a list of events no memory is ever wanted
 pub record IsSound (k : ℕ) (keeps : Bool) (cs : List Cond) (number n : ℕ) (p : Position) (found : Bool) (over : Option Step) : Type 0 where
   pub well : IsWell k p
+  pub state : IsState k p.first
   pub count : over ≡ None → p.walked ≤ n
   pub objects : length p.first ≡ number
   pub fits : All (λ c. FitsIn c p.first) cs

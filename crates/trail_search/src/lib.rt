@@ -2,12 +2,12 @@
 #![tactic(auto)]
 
 mod narrow;
+mod search;
+mod start;
 mod step;
 mod variable;
 mod walk;
 mod walker;
 
+pub use search::Search;
 pub use step::Step;
-pub use variable::list_variables;
-pub use walk::go_on;
-pub use walker::Walker;

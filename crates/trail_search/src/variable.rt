@@ -1,9 +1,9 @@
-ghost use Rattle.std.specs.Prelude.{◌≡◌, ◌+◌, ◌<◌, ◌++◌, length, map, OnOk, IfOk};
+ghost use Rattle.std.specs.Prelude.{◌≡◌, ◌+◌, ◌<◌, ◌++◌, length, map, OnOk, IfOk, IsTrue, ◌↔◌, pos, ◌≤ℤ◌};
 ghost use Rattle.std.specs.List.{All};
 ghost use Rattle.geo_conditions.specs.Walk.{variables, variables_of, variables_in};
 ghost use Rattle.geo_state.specs.Trail.{IsSmallNumber};
 ghost use Rattle.trail_search.specs.Cursor.{after, bound_at, IsValueOf};
-ghost use Rattle.trail_search.specs.Variables.{variable_of, split_of};
+ghost use Rattle.trail_search.specs.Variables.{variable_of, split_of, IsAt};
 
 use derivation::Event;
 use geo_conditions::{ObjId, SearchOrder};
@@ -82,4 +82,24 @@ pub fn split(x: Variable, u: i64) -> Event
             }
         }
     }
+}
+
+/// Whether the variable is the place of the object, or its coordinate in that dimension.
+pub fn is_at(x: Variable, o: ObjId, d: Option<usize>) -> bool
+    ensures { IsTrue result ↔ IsAt o.0 d (variable_of x) }
+{
+    match (x, d) {
+        (Variable::Place(u), None) => u.0 == o.0,
+        (Variable::Coordinate(u, e, _), Some(d)) => u.0 == o.0 && e == d,
+        _ => false,
+    }
+}
+
+/// The place of that number.
+pub fn place_of(v: i64) -> u8
+    requires from { pos 0 ≤ℤ v }
+    requires to { v ≤ℤ pos 16 }
+    ensures { pos result ≡ v }
+{
+    v as u8
 }

@@ -1,20 +1,20 @@
-ghost use Rattle.std.specs.Prelude.{◌≡◌, ℕ, ℤ, pos, ◌+◌, ◌-◌, ◌^◌, min, ◌<◌, ◌≤◌, ◌↔◌, ◌≢◌, None, IsTrue, true, false, List, [], ◌∷◌, ◌++◌, length, get_or, slice_set, IsOk, OnErr};
+ghost use Rattle.std.specs.Prelude.{◌≡◌, ℕ, ℤ, pos, ◌+◌, ◌-◌, ◌^◌, min, ◌<◌, ◌≤◌, ◌↔◌, ◌≢◌, None, Some, IsTrue, true, false, List, [], ◌∷◌, ◌++◌, length, get_or, slice_set, IsOk, OnErr};
 ghost use Rattle.std.specs.List.{All};
 ghost use Rattle.geo_conditions.specs.declared.cond.Cond.{Cond};
 ghost use Rattle.geo_conditions.specs.Conditions.{FitsIn};
 ghost use Rattle.geo_conditions.specs.Reach.{reach, NotEmpty, HasNoEmpty};
-ghost use Rattle.geo_conditions.specs.Walk.{object_of, IsFirstValue, IsFixed};
+ghost use Rattle.geo_conditions.specs.Walk.{Variable as Seen, object_of, IsFirstValue, IsFixed};
 ghost use Rattle.derivation.specs.Events.{Continues};
 ghost use Rattle.geo_state.specs.Settle.{SettlesOr};
 ghost use Rattle.trail_search.specs.Cursor.{Narrows, IsFrom, IsValueOf, HasDimension};
-ghost use Rattle.trail_search.specs.Variables.{variable_of};
-ghost use Rattle.trail_search.specs.Walker.{IsWell, SameWalk, depth, path, FirstBound, IsFresh, Leaves, StaysOn, Tightens, Rests, Searches, IsStuck, SettledAs};
+ghost use Rattle.trail_search.specs.Variables.{variable_of, IsAt, HasOne};
+ghost use Rattle.trail_search.specs.Walker.{IsWell, SameWalk, depth, path, FirstBound, IsFresh, Leaves, StaysOn, Tightens, Rests, Searches, IsStuck, IsReady, SettledAs};
 
 use super::narrow::{bound, first_value, fix, has_after};
-use super::variable::{Variable, after, split, token_bound};
+use super::variable::{Variable, after, is_at, place_of, split, token_bound};
 use derivation::Recorder;
 use geo_base::MAX_DIMS;
-use geo_conditions::State;
+use geo_conditions::{ObjId, State};
 use geo_state::{Propagate, Settled, Trailed};
 use std::alloc::AllocError;
 use std::marker::Model;
@@ -350,5 +350,57 @@ impl<const K: usize> Walker<K> {
             self.tighten(v);
             self.follow();
         }
+    }
+
+    /// Begins the walk: sets off on it, if there is a variable.
+    pub fn begin(&mut self)
+        requires k { K ≤ MAX_DIMS }
+        requires well { IsWell K self.old }
+        requires fresh { IsFresh self.old }
+        ensures well { IsWell K self.new }
+        ensures same { SameWalk self.old self.new }
+        ensures walked { self.new.walked ≡ 0 }
+        ensures ready { (cs : List Cond) → IsReady cs self.new false }
+    {
+        if !self.is_bare() {
+            self.set_off();
+        }
+    }
+
+    /// The number of the variable that is the place of the object, or its coordinate in that dimension.
+    fn number_of(&self, o: ObjId, d: Option<usize>) -> usize
+        requires k { K ≤ MAX_DIMS }
+        requires named { HasOne (IsAt o.0 d) self.now.variables }
+        ensures within { result < length self.now.variables }
+        ensures at { (x : Seen) → IsAt o.0 d (get_or self.now.variables result x) }
+    {
+        for (i, x) in self.variables.iter().enumerate() {
+            if is_at(*x, o, d) {
+                return i;
+            }
+        }
+        0
+    }
+
+    /// The value of the place of the object.
+    pub fn place(&self, o: ObjId) -> u8
+        requires k { K ≤ MAX_DIMS }
+        requires well { IsWell K self.now }
+        requires named { HasOne (IsAt o.0 None) self.now.variables }
+        ensures { (i : ℕ) × (i < length self.now.variables) × ((x : Seen) → IsAt o.0 None (get_or self.now.variables i x)) × (pos result ≡ get_or self.now.values i (pos 0)) }
+    {
+        let i = self.number_of(o, None);
+        place_of(self.values[i])
+    }
+
+    /// The value of the coordinate of the object.
+    pub fn coordinate(&self, o: ObjId, d: usize) -> i64
+        requires k { K ≤ MAX_DIMS }
+        requires well { IsWell K self.now }
+        requires named { HasOne (IsAt o.0 (Some d)) self.now.variables }
+        ensures { (i : ℕ) × (i < length self.now.variables) × ((x : Seen) → IsAt o.0 (Some d) (get_or self.now.variables i x)) × (result ≡ get_or self.now.values i (pos 0)) }
+    {
+        let i = self.number_of(o, Some(d));
+        self.values[i]
     }
 }
