@@ -3,6 +3,8 @@
 
 mod event;
 mod recorder;
+#[cfg(test)]
+mod tests;
 
 pub use event::Event;
 pub use recorder::{NoRecord, Recorder};

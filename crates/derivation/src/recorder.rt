@@ -3,8 +3,8 @@ ghost use Rattle.std.specs.Prelude.{◌≡◌, ℕ, ◌+◌, ◌-◌, ◌^◌, m
 use super::event::Event;
 use std::alloc::AllocError;
 
-/// Takes down events, or lets them go. A count tells how often it refused an event for want of memory; it never falls, and stays at
-/// its last value, 2^64 - 1, once it is there.
+/// Takes down events, or lets them go. A count tells how often it refused an event for want of
+/// memory; it never falls, and stays at its last value, 2^64 - 1, once it is there.
 pub trait Recorder {
     ghost use Rattle.derivation.specs.declared.event.Event.{Event};
 
@@ -34,11 +34,13 @@ pub trait Recorder {
         ensures list { keeps ≡ true → list self.new ≡ slice_set (list self.old) at e }
         ensures refusals { refusals self.new ≡ refusals self.old };
 
-    /// Appends an event. A refusal leaves the events as they were, and where none are kept there is no refusal.
+    /// Appends an event. A refusal leaves the events as they were, and where none are kept there is
+    /// no refusal.
     fn add(&mut self, e: Event) -> Result<(), AllocError>
         ensures ok { OnOk result (keeps ≡ true → list self.new ≡ list self.old ++ e ∷ []) }
         ensures err { OnErr result (keeps ≡ true → list self.new ≡ list self.old) }
-        ensures refused { OnErr result (min (refusals self.old + 1) (2 ^ 64 - 1) ≤ refusals self.new) }
+        ensures refused { OnErr result
+            (min (refusals self.old + 1) (2 ^ 64 - 1) ≤ refusals self.new) }
         ensures refusals { refusals self.old ≤ refusals self.new }
         ensures no_record { keeps ≡ false → IsOk result };
 }

@@ -1,18 +1,17 @@
 -- Finding a defect.
-use Rattle.std.proofs.Common.{◌≡◌, ◌≢◌, ℕ, zero, suc, ◌+◌, ◌<◌, ◌≤◌, Bool, true, false, List, [], ◌∷◌, length, get_or, refl, sym, ap, ◌∙◌, subst, inl, inr, ◌⊎◌, ◌↔◌, IsTrue, arith, ℤ, pos, ◌≤ℤ◌, ◌<ℤ◌, ◌+ℤ◌, negsuc, set}
-use Rattle.std.proofs.lemmas.Int.{ints, by_lt_z}
-use Rattle.std.specs.List.{All}
+use Rattle.std.proofs.Common.{◌≡◌, ℕ, zero, suc, ◌+◌, ◌<◌, ◌≤◌, Bool, true, false, List, length, refl, sym, ap, ◌∙◌, subst, inl, inr, ◌↔◌, IsTrue, arith, ℤ, pos, ◌≤ℤ◌, ◌<ℤ◌, ◌+ℤ◌, negsuc, set}
+use Rattle.std.proofs.lemmas.Int.{ints}
 use Rattle.std.proofs.lemmas.Bool.{cases_lt, cases_eq, false≢true}
 use Rattle.std.proofs.lemmas.List.{get_or_past, get_or-set_same}
 use Rattle.geo_conditions.specs.declared.cond.Cond.{Cond}
 use Rattle.geo_state.proofs.Shapes.{place_few}
-use Rattle.geo_conditions.specs.Reach.{State, Reach, reach, nowhere, place_in, has, low, high, dims, Inside, NotEmpty}
+use Rattle.geo_conditions.specs.Reach.{State, Reach, reach, nowhere, has, low, high, dims, Inside}
 use Rattle.geo_base.specs.Boxes.{coordinate}
-use Rattle.geo_conditions.specs.Supported.{IsSupported, NoneInside, NoneRefuted, Supports}
+use Rattle.geo_conditions.specs.Supported.{IsSupported, NoneInside, NoneRefuted}
 use Rattle.geo_conditions.proofs.Points.{unrefuted_wider}
 use Rattle.geo_conditions.proofs.Greatest.{raise_keeps, lower_keeps, raised, lowered}
 use Rattle.fixpoint.specs.Points.{HasSupport, HasEnd}
-use Rattle.fixpoint.specs.Defects.{PlacesFine, EndsFine, ObjectFine}
+use Rattle.fixpoint.specs.Defects.{PlacesFine, ObjectFine}
 
 pub hopeless_refuted : (cs : List Cond) (S : State) (t : Bool) → t ≡ false → (IsTrue t ↔ NoneRefuted cs S) → NoneInside cs S
 hopeless_refuted cs S t e h T s i = false≢true (sym e ∙ h.1 (unrefuted_wider cs T S i s.nonempty s.unrefuted))
@@ -32,7 +31,7 @@ hopeless_low cs S o d h k n l T s i =
     let j = (raise_keeps cs S o d h k n).all T s i in
     let r = (s.nonempty o (in_narrower T S o i h)).ranges d in
     let e : coordinate (reach (set S o (raised (reach S o) d)) o).region.lo d ≡ low S o d +ℤ pos 1 =
-        ap (λ (q : Reach). coordinate q.region.lo d) (get_or-set_same S o (raised (reach S o) d) nowhere h) ∙ get_or-set_same (reach S o).region.lo d (low S o d +ℤ pos 1) (pos 0) k in
+    ap (λ (q : Reach). coordinate q.region.lo d) (get_or-set_same S o (raised (reach S o) d) nowhere h) ∙ get_or-set_same (reach S o).region.lo d (low S o d +ℤ pos 1) (pos 0) k in
     let m : (low S o d +ℤ pos 1) ≤ℤ low T o d = subst (λ (z : ℤ). z ≤ℤ low T o d) e ((j.each o).lows d) in
     absurd (omega (arith, ints, m, r, l, (i.each o).highs d))
 
@@ -41,7 +40,7 @@ hopeless_high cs S o d h k kh n l T s i =
     let j = (lower_keeps cs S o d h k n).all T s i in
     let r = (s.nonempty o (in_narrower T S o i h)).ranges d in
     let e : coordinate (reach (set S o (lowered (reach S o) d)) o).region.hi d ≡ high S o d +ℤ negsuc 0 =
-        ap (λ (q : Reach). coordinate q.region.hi d) (get_or-set_same S o (lowered (reach S o) d) nowhere h) ∙ get_or-set_same (reach S o).region.hi d (high S o d +ℤ negsuc 0) (pos 0) kh in
+    ap (λ (q : Reach). coordinate q.region.hi d) (get_or-set_same S o (lowered (reach S o) d) nowhere h) ∙ get_or-set_same (reach S o).region.hi d (high S o d +ℤ negsuc 0) (pos 0) kh in
     let m : high T o d ≤ℤ (high S o d +ℤ negsuc 0) = subst (λ (z : ℤ). high T o d ≤ℤ z) e ((j.each o).highs d) in
     absurd (omega (arith, ints, m, r, l, (i.each o).lows d))
 
@@ -58,9 +57,9 @@ places_start cs S o = record {
   none = λ e s h t. zero_place s h t;
 }
   where
-  zero_place : (s : ℕ) → s < 1 → has S o s ≡ true → ⊥
-  zero_place zero h t = false≢true t
-  zero_place (suc s) h t = absurd (omega arith)
+    zero_place : (s : ℕ) → s < 1 → has S o s ≡ true → ⊥
+    zero_place zero h t = false≢true t
+    zero_place (suc s) h t = absurd (omega arith)
 
 pub places_there : (cs : List Cond) (S : State) (o n : ℕ) (any : Bool) → PlacesUpTo cs S o any n → has S o n ≡ true → HasSupport cs S o n → PlacesUpTo cs S o true (n + 1)
 places_there cs S o n any p t y = record {
@@ -85,10 +84,13 @@ places_hopeless cs S o n b e h p = hopeless_places cs S o b (λ s t. p.none refl
 -- all objects fine: the state is supported
 pub all_supported : (cs : List Cond) (S : State) → NoneRefuted cs S → ((o : ℕ) → o < length S → ObjectFine cs S o) → IsSupported cs S
 all_supported cs S u f = record {
-  nonempty = λ o h. record { place = (f o h).0.0; ranges = λ d. elim (cases_lt d (dims S o)) [
-    | inl b ↦ ((f o h).1 d b).0
-    | inr b ↦ rw (get_or_past (reach S o).region.lo d (pos 0) b, get_or_past (reach S o).region.hi d (pos 0) (omega (arith, b, (f o h).2))) (omega (arith, ints))
-  ] };
+  nonempty = λ o h. record {
+    place = (f o h).0.0;
+    ranges = λ d. elim (cases_lt d (dims S o)) [
+      | inl b ↦ ((f o h).1 d b).0
+      | inr b ↦ rw (get_or_past (reach S o).region.lo d (pos 0) b, get_or_past (reach S o).region.hi d (pos 0) (omega (arith, b, (f o h).2))) (omega (arith, ints))
+    ];
+  };
   unrefuted = u;
   places = λ o s h t. (f o h).0.1 s t;
   lows = λ o d h b. ((f o h).1 d b).1;

@@ -5,5 +5,7 @@ mod defects;
 mod mending;
 mod plain;
 mod points;
+#[cfg(test)]
+mod tests;
 
 pub use plain::PlainPropagate;

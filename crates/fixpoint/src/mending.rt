@@ -27,7 +27,8 @@ fn mend<const K: usize>(cs: &[Cond], t: &mut Trailed<K>, defect: Defect) -> bool
     requires k { K ≤ MAX_DIMS }
     requires defect { IsDefect cs.now t.old.state defect }
     ensures mended { IsTrue result → IsNarrower cs.now t.old.state t.new.state }
-    ensures hopeless { (result ≡ false) → NoneInside cs.now t.old.state × (t.new.state ≡ t.old.state) }
+    ensures hopeless { (result ≡ false)
+        → NoneInside cs.now t.old.state × (t.new.state ≡ t.old.state) }
     ensures levels { (t.new.levels ≡ t.old.levels) × (t.new.restores ≡ t.old.restores) }
 {
     match defect {
@@ -92,7 +93,11 @@ fn repair<const K: usize>(cs: &[Cond], t: &mut Trailed<K>, o: ObjId) -> Outcome
         }
         changed = true;
     }
-    if changed { Outcome::Changed } else { Outcome::Fine }
+    if changed {
+        Outcome::Changed
+    } else {
+        Outcome::Fine
+    }
 }
 
 /// Narrows one object after another.
@@ -114,5 +119,9 @@ pub fn pass<const K: usize>(cs: &[Cond], t: &mut Trailed<K>) -> Outcome
             Outcome::Fine => {}
         }
     }
-    if changed { Outcome::Changed } else { Outcome::Fine }
+    if changed {
+        Outcome::Changed
+    } else {
+        Outcome::Fine
+    }
 }

@@ -10,8 +10,9 @@ use geo_conditions::Cond;
 use geo_state::{Propagate, Settled, Trailed};
 use std::alloc::{AllocError, Global};
 
-/// Propagation point by point: each end of each interval and each place of each object is kept only where some point supports it, which
-/// is sought among all points of the region, one after another. It takes no memory once it is made.
+/// Propagation point by point: each end of each interval and each place of each object is kept only
+/// where some point supports it, which is sought among all points of the region, one after another.
+/// It takes no memory once it is made.
 #[derive(Drop)]
 pub struct PlainPropagate<const K: usize> {
     list: Vec<Cond>,
@@ -25,8 +26,10 @@ impl<const K: usize> PlainPropagate<K> {
         list: Vec<Cond>,
         objects: usize,
     ) -> Result<PlainPropagate<K>, AllocError>
-        ensures conditions { IfOk result (λ p. ⟦<PlainPropagate<K> as Propagate<K>>⟧.conditions p ≡ list.items) }
-        ensures objects { IfOk result (λ p. ⟦<PlainPropagate<K> as Propagate<K>>⟧.objects p ≡ objects) }
+        ensures conditions { IfOk result (λ p.
+            ⟦<PlainPropagate<K> as Propagate<K>>⟧.conditions p ≡ list.items) }
+        ensures objects { IfOk result (λ p.
+            ⟦<PlainPropagate<K> as Propagate<K>>⟧.objects p ≡ objects) }
     {
         Ok(PlainPropagate { list, objects })
     }

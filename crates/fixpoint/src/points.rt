@@ -44,8 +44,8 @@ fn none_refuted_at<const K: usize>(
     true
 }
 
-/// Whether some point of the box that agrees with `p` below `d` is one at which no condition is refuted. The points are tried in
-/// turn, and the first such point ends the search.
+/// Whether some point of the box that agrees with `p` below `d` is one at which no condition is
+/// refuted. The points are tried in turn, and the first such point ends the search.
 fn any_point<const K: usize>(
     cs: &[Cond],
     s: &State<K>,
@@ -61,7 +61,8 @@ fn any_point<const K: usize>(
     requires dimension { d ≤ K }
     requires lows { length b.now.lo.coordinates ≡ K }
     requires highs { length b.now.hi.coordinates ≡ K }
-    ensures { IsTrue result ↔ HasPoint cs.now s.now o.0 place (region_of b.now) p.entry.coordinates d }
+    ensures { IsTrue result
+        ↔ HasPoint cs.now s.now o.0 place (region_of b.now) p.entry.coordinates d }
 {
     if d == K {
         return b.has(&p) && none_refuted_at(cs, s, o, place, &KBox::new(p, p));

@@ -1,10 +1,10 @@
 -- A reach that loses a place or part of an interval lies within the old one.
-use Rattle.std.proofs.Common.{◌≡◌, ◌≢◌, ℕ, zero, suc, ◌+◌, ◌-◌, ◌<◌, ◌≤◌, Bool, true, false, List, length, set, get_or, refl, sym, ap, ◌∙◌, subst, inl, inr, arith, ℤ, pos, ◌≤ℤ◌}
+use Rattle.std.proofs.Common.{◌≡◌, ℕ, zero, suc, ◌-◌, Bool, true, false, List, length, set, get_or, refl, sym, ap, ◌∙◌, subst, inl, inr, arith, ℤ, ◌≤ℤ◌}
 use Rattle.std.proofs.lemmas.Int.{ints}
 use Rattle.std.proofs.lemmas.Bool.{cases_lt, cases_eq, false≢true}
 use Rattle.std.proofs.lemmas.List.{get_or_past, get_or-set_same, get_or-set_other}
 use Rattle.std.proofs.Math.ListN.{length-set}
-use Rattle.geo_conditions.specs.Reach.{State, Reach, reach, nowhere, place_in, with_low, with_high, without, Within}
+use Rattle.geo_conditions.specs.Reach.{State, Reach, nowhere, place_in, with_low, with_high, without, Within}
 use Rattle.geo_base.specs.Boxes.{coordinate}
 use Rattle.geo_conditions.proofs.Greatest.{at_set}
 use Rattle.geo_state.specs.Trail.{IsSmall, IsSmallNumber}

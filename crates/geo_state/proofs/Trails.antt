@@ -1,14 +1,12 @@
 -- What the calls of a trailed state keep.
-use Rattle.std.proofs.Common.{◌≡◌, ◌≢◌, ℕ, zero, suc, ◌+◌, ◌-◌, ◌<◌, ◌≤◌, List, [], ◌∷◌, ◌++◌, length, take, set, get_or, refl, sym, ap, ◌∙◌, subst, inl, inr, arith, ℤ, pos, ◌≤ℤ◌}
+use Rattle.std.proofs.Common.{◌≡◌, ℕ, suc, ◌<◌, List, [], ◌∷◌, ◌++◌, length, take, set, get_or, refl, sym, ap, ◌∙◌, subst, inl, inr, arith, ℤ, ◌≤ℤ◌}
 use Rattle.std.specs.List.{All}
-use Rattle.std.proofs.lemmas.Int.{ints}
-use Rattle.std.proofs.lemmas.Bool.{cases_lt, cases_eq}
-use Rattle.std.proofs.lemmas.List.{get_or_append_left, length-take-le}
+use Rattle.std.proofs.lemmas.Bool.{cases_lt}
+use Rattle.std.proofs.lemmas.List.{get_or_append_left}
 use Rattle.std.proofs.lemmas.List.Elements.{All-nil, All-push, All-set}
 use Rattle.std.proofs.Math.Seq.{get_or-append_seam, take-suc, take-suc-set}
 use Rattle.std.proofs.Math.ListN.{length-append, length-set}
-use Rattle.geo_conditions.specs.Reach.{State, Reach, reach, low, high, with_low, with_high, without, Inside}
-use Rattle.geo_base.specs.Boxes.{coordinate}
+use Rattle.geo_conditions.specs.Reach.{State, reach, low, high, with_low, with_high, without, Inside}
 use Rattle.geo_conditions.proofs.Points.{inside_self, inside_trans}
 use Rattle.geo_conditions.proofs.Greatest.{narrowed, at_set}
 use Rattle.geo_state.specs.Trail.{IsSmall, IsSmallNumber, ShrinkTo, IsTrail}
@@ -25,17 +23,17 @@ shrink_push R S h i l = elim (cases_lt i (length R)) [
       let n : i ≡ length R = omega (arith, l, length-append R (S ∷ [])) in
       let m : suc i ≡ length (R ++ S ∷ []) = omega (arith, n, length-append R (S ∷ [])) in
       subst (λ (T : State). Inside (get_or ((R ++ S ∷ []) ++ S ∷ []) (suc i) []) T) (sym (ap (λ (j : ℕ). get_or (R ++ S ∷ []) j []) n ∙ get_or-append_seam R S [] []))
-        (subst (λ (T : State). Inside T S) (sym (ap (λ (j : ℕ). get_or ((R ++ S ∷ []) ++ S ∷ []) j []) m ∙ get_or-append_seam (R ++ S ∷ []) S [] [])) (inside_self S))
+      (subst (λ (T : State). Inside T S) (sym (ap (λ (j : ℕ). get_or ((R ++ S ∷ []) ++ S ∷ []) j []) m ∙ get_or-append_seam (R ++ S ∷ []) S [] [])) (inside_self S))
 ]
 
 -- the last state taken away
 pub shrink_pop : (R : List State) (G S : State) → ShrinkTo (R ++ G ∷ []) S → ShrinkTo R G × Inside S G
 shrink_pop R G S h = (
   λ i l. subst (λ (T : State). Inside (get_or (R ++ G ∷ []) (suc i) []) T) (get_or_append_left R (G ∷ []) [] i l)
-    (subst (λ (T : State). Inside T (get_or (R ++ G ∷ []) i [])) (get_or_append_left (R ++ G ∷ []) (S ∷ []) [] (suc i) (omega (arith, l, length-append R (G ∷ [])))) (h i (omega (arith, l, length-append R (G ∷ []))))),
+      (subst (λ (T : State). Inside T (get_or (R ++ G ∷ []) i [])) (get_or_append_left (R ++ G ∷ []) (S ∷ []) [] (suc i) (omega (arith, l, length-append R (G ∷ [])))) (h i (omega (arith, l, length-append R (G ∷ []))))),
   let m : suc (length R) ≡ length (R ++ G ∷ []) = omega (arith, length-append R (G ∷ [])) in
-  subst (λ (T : State). Inside S T) (get_or-append_seam R G [] [])
-    (subst (λ (T : State). Inside T (get_or (R ++ G ∷ []) (length R) [])) (ap (λ (j : ℕ). get_or ((R ++ G ∷ []) ++ S ∷ []) j []) m ∙ get_or-append_seam (R ++ G ∷ []) S [] []) (h (length R) (omega (arith, length-append R (G ∷ []))))),
+      subst (λ (T : State). Inside S T) (get_or-append_seam R G [] [])
+      (subst (λ (T : State). Inside T (get_or (R ++ G ∷ []) (length R) [])) (ap (λ (j : ℕ). get_or ((R ++ G ∷ []) ++ S ∷ []) j []) m ∙ get_or-append_seam (R ++ G ∷ []) S [] []) (h (length R) (omega (arith, length-append R (G ∷ []))))),
 )
 
 -- the state shrinks
@@ -94,8 +92,7 @@ trail_pop S G saved n m t e g =
     let h : m < length saved = omega (arith, e, t.within) in
     let f : take n saved ≡ take m saved ++ G ∷ [] = ap (λ (k : ℕ). take k saved) e ∙ take-suc saved m G h ∙ ap (λ (X : State). take m saved ++ X ∷ []) (sym g) in
     let s = all_last IsSmall (take m saved) G (subst (All IsSmall) f t.restores_small) in
-    let k = shrink_pop (take m saved) G S (subst (λ (R : List State). ShrinkTo R S) f t.shrinks) in
-    (
+    let k = shrink_pop (take m saved) G S (subst (λ (R : List State). ShrinkTo R S) f t.shrinks) in (
       record {
         within = omega (arith, h);
         objects = λ i d b. t.objects i d b ∙ k.1.objects;
@@ -110,17 +107,17 @@ trail_pop S G saved n m t e g =
 pub trail_low : (S T : State) (saved : List State) (n o d : ℕ) (v : ℤ) → IsTrail S saved n → o < length S → IsSmallNumber v → low S o d ≤ℤ v → T ≡ set S o (with_low (reach S o) d v) → IsTrail T saved n
 trail_low S T saved n o d v t h s l e = subst (λ (X : State). IsTrail X saved n) (sym e)
     (trail_on S (set S o (with_low (reach S o) d v)) saved n t
-      (narrowed S o (with_low (reach S o) d v) (low_within (reach S o) d v l) h)
-      (small_set S o (with_low (reach S o) d v) t.small (λ j. (at_set (λ k z. IsSmallNumber z) (reach S o).region.lo d v (λ b. s) (λ k. (t.small o k).0) j, (t.small o j).1))))
+    (narrowed S o (with_low (reach S o) d v) (low_within (reach S o) d v l) h)
+    (small_set S o (with_low (reach S o) d v) t.small (λ j. (at_set (λ k z. IsSmallNumber z) (reach S o).region.lo d v (λ b. s) (λ k. (t.small o k).0) j, (t.small o j).1))))
 
 pub trail_high : (S T : State) (saved : List State) (n o d : ℕ) (v : ℤ) → IsTrail S saved n → o < length S → IsSmallNumber v → v ≤ℤ high S o d → T ≡ set S o (with_high (reach S o) d v) → IsTrail T saved n
 trail_high S T saved n o d v t h s l e = subst (λ (X : State). IsTrail X saved n) (sym e)
     (trail_on S (set S o (with_high (reach S o) d v)) saved n t
-      (narrowed S o (with_high (reach S o) d v) (high_within (reach S o) d v l) h)
-      (small_set S o (with_high (reach S o) d v) t.small (λ j. ((t.small o j).0, at_set (λ k z. IsSmallNumber z) (reach S o).region.hi d v (λ b. s) (λ k. (t.small o k).1) j))))
+    (narrowed S o (with_high (reach S o) d v) (high_within (reach S o) d v l) h)
+    (small_set S o (with_high (reach S o) d v) t.small (λ j. ((t.small o j).0, at_set (λ k z. IsSmallNumber z) (reach S o).region.hi d v (λ b. s) (λ k. (t.small o k).1) j))))
 
 pub trail_without : (S T : State) (saved : List State) (n o s : ℕ) → IsTrail S saved n → o < length S → T ≡ set S o (without (reach S o) s) → IsTrail T saved n
 trail_without S T saved n o s t h e = subst (λ (X : State). IsTrail X saved n) (sym e)
     (trail_on S (set S o (without (reach S o) s)) saved n t
-      (narrowed S o (without (reach S o) s) (without_within (reach S o) s) h)
-      (small_set S o (without (reach S o) s) t.small (λ j. t.small o j)))
+    (narrowed S o (without (reach S o) s) (without_within (reach S o) s) h)
+    (small_set S o (without (reach S o) s) t.small (λ j. t.small o j)))

@@ -2,7 +2,11 @@
 #![tactic(auto)]
 
 mod propagate;
+mod small;
+#[cfg(test)]
+mod tests;
 mod trailed;
 
 pub use propagate::{Propagate, Settled};
+pub use small::is_small;
 pub use trailed::{MAX_LEVELS, Trailed};

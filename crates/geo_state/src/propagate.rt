@@ -19,7 +19,8 @@ pub enum Settled {
     Dead,
 }
 
-/// Narrows a state to the greatest supported state inside it, for a list of conditions and a number of objects that never change.
+/// Narrows a state to the greatest supported state inside it, for a list of conditions and a number
+/// of objects that never change.
 pub trait Propagate<const K: usize> {
     // the conditions
     ghost conditions: { Self → List Cond };
@@ -27,8 +28,9 @@ pub trait Propagate<const K: usize> {
     // the number of objects
     ghost objects: { Self → ℕ };
 
-    /// Settles the state. What the open levels restore stays as it is, and so do the events that the recorder has at the call. The
-    /// answer is want of memory only where the recorder refused an event.
+    /// Settles the state. What the open levels restore stays as it is, and so do the events that
+    /// the recorder has at the call. The answer is want of memory only where the recorder refused
+    /// an event.
     fn settle<R: Recorder>(
         &mut self,
         t: &mut Trailed<K>,
@@ -42,7 +44,8 @@ pub trait Propagate<const K: usize> {
         ensures conditions { conditions self.new ≡ conditions self.old }
         ensures count { objects self.new ≡ objects self.old }
         ensures events { R.keeps ≡ true → Continues (R.list rec.old) (R.list rec.new) }
-        ensures refused { OnErr result (min (R.refusals rec.old + 1) (2 ^ 64 - 1) ≤ R.refusals rec.new) }
+        ensures refused { OnErr result
+            (min (R.refusals rec.old + 1) (2 ^ 64 - 1) ≤ R.refusals rec.new) }
         ensures refusals { R.refusals rec.old ≤ R.refusals rec.new }
         ensures no_record { R.keeps ≡ false → IsOk result };
 }

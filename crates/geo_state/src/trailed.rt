@@ -24,13 +24,18 @@ impl<const K: usize> Model for Trailed<K> {
 
     ghost Value = { Trail };
 
-    ghost view = { λ t. record { state = t.state; levels = length t.saved.items; restores = take t.depth t.saved.items } };
+    ghost view = { λ t. record {
+      state = t.state;
+      levels = length t.saved.items;
+      restores = take t.depth t.saved.items;
+    } };
 
     ghost invariant = { λ t. IsTrail t.state t.saved.items t.depth };
 }
 
 impl<const K: usize> Trailed<K> {
-    /// Begins in that state, with room for that many levels. Its ends lie in -2,000,000 to 2,000,000.
+    /// Begins in that state, with room for that many levels. Its ends lie in -2,000,000 to
+    /// 2,000,000.
     pub fn start(alloc: Global, first: State<K>, levels: usize) -> Result<Trailed<K>, AllocError>
         requires k { K ≤ MAX_DIMS }
         requires few { levels ≤ MAX_LEVELS }
@@ -80,7 +85,8 @@ impl<const K: usize> Trailed<K> {
         self.depth += 1;
     }
 
-    /// Closes the last level that was opened, and restores the state in which it was opened. Since then the state has only shrunk.
+    /// Closes the last level that was opened, and restores the state in which it was opened. Since
+    /// then the state has only shrunk.
     pub fn undo(&mut self)
         requires k { K ≤ MAX_DIMS }
         requires depth { 0 < length self.old.restores }
@@ -100,7 +106,8 @@ impl<const K: usize> Trailed<K> {
         requires dimension { d < K }
         requires small { IsSmallNumber v }
         requires narrower { low self.old.state o.0 d ≤ℤ v }
-        ensures state { self.new.state ≡ slice_set self.old.state o.0 (with_low (reach self.old.state o.0) d v) }
+        ensures state { self.new.state
+            ≡ slice_set self.old.state o.0 (with_low (reach self.old.state o.0) d v) }
         ensures levels { self.new.levels ≡ self.old.levels }
         ensures restores { self.new.restores ≡ self.old.restores }
     {
@@ -114,7 +121,8 @@ impl<const K: usize> Trailed<K> {
         requires dimension { d < K }
         requires small { IsSmallNumber v }
         requires narrower { v ≤ℤ high self.old.state o.0 d }
-        ensures state { self.new.state ≡ slice_set self.old.state o.0 (with_high (reach self.old.state o.0) d v) }
+        ensures state { self.new.state
+            ≡ slice_set self.old.state o.0 (with_high (reach self.old.state o.0) d v) }
         ensures levels { self.new.levels ≡ self.old.levels }
         ensures restores { self.new.restores ≡ self.old.restores }
     {
@@ -126,7 +134,8 @@ impl<const K: usize> Trailed<K> {
         requires k { K ≤ MAX_DIMS }
         requires object { o.0 < length self.old.state }
         requires place { (1 ≤ place) × (place ≤ 16) }
-        ensures state { self.new.state ≡ slice_set self.old.state o.0 (without (reach self.old.state o.0) place) }
+        ensures state { self.new.state
+            ≡ slice_set self.old.state o.0 (without (reach self.old.state o.0) place) }
         ensures levels { self.new.levels ≡ self.old.levels }
         ensures restores { self.new.restores ≡ self.old.restores }
     {

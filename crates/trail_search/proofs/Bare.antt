@@ -65,8 +65,8 @@ pub no_token : (t : Option (List ℤ)) → ((t ≢ None) → ⊥) → t ≡ None
 no_token None h = refl
 no_token (Some a) h = absurd (h (λ e. some_none a e))
   where
-  some_none : (a : List ℤ) → Some a ≡ None → ⊥
-  some_none a e = cc
+    some_none : (a : List ℤ) → Some a ≡ None → ⊥
+    some_none a e = cc
 
 -- the token's part of what is known, where there are no variables
 token_empty : (xs : List Variable) (t : Option (List ℤ)) → xs ≡ [] → IsToken xs t → (t ≢ None) → (a : List ℤ) × (t ≡ Some a) × (length a ≡ 0)
@@ -122,8 +122,7 @@ bare_found k cs n p q e t r s same w m h =
     let z : [] ≡ path q = ap (λ (i : ℕ). take i q.values) (sym d) in
     let c : bare cs p.first None ≡ tree_of cs p = ap (λ (t : Option (List ℤ)). bare cs p.first t) (sym t) ∙ bare_tree cs p e in
     let one : q.walked ≡ 1 = omega (arith, m, y.0) in
-    let ready : ReadyFor [] cs q true = (one, subst (IsSupported cs) (sym same.first) s, same.token ∙ t) in
-    (
+    let ready : ReadyFor [] cs q true = (one, subst (IsSupported cs) (sym same.first) s, same.token ∙ t) in (
       [],
       sym y.0,
       (

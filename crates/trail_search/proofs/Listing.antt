@@ -28,7 +28,7 @@ pushed all more start o d e b x down m v w s h i =
     ap (map variable_of) m ∙ map-append variable_of all (x ∷ []) ∙ ap (λ (l : List Seen). l ++ variable_of x ∷ []) i
     ∙ append_assoc (map variable_of start) (PlaceOf o ∷ coordinates_from o 0 (take d down)) (variable_of x ∷ [])
     ∙ ap (λ (l : List Seen). map variable_of start ++ PlaceOf o ∷ l)
-      (ap (λ (y : Seen). coordinates_from o 0 (take d down) ++ y ∷ []) (v ∙ ap (CoordinateOf o d) w) ∙ ap (λ (n : ℕ). coordinates_from o 0 (take d down) ++ CoordinateOf o n (get_or down d false) ∷ []) z ∙ sym (coordinates_more o 0 d down h) ∙ ap (λ (n : ℕ). coordinates_from o 0 (take n down)) (sym s))
+    (ap (λ (y : Seen). coordinates_from o 0 (take d down) ++ y ∷ []) (v ∙ ap (CoordinateOf o d) w) ∙ ap (λ (n : ℕ). coordinates_from o 0 (take d down) ++ CoordinateOf o n (get_or down d false) ∷ []) z ∙ sym (coordinates_more o 0 d down h) ∙ ap (λ (n : ℕ). coordinates_from o 0 (take n down)) (sym s))
 
 -- the variables of one object more
 pub listed : (items : List ObjId) (down down' : List Bool) (i j : ℕ) (D : ObjId) (old new : List Seen) → new ≡ old ++ variables_of down' (get_or items i D).0 → down' ≡ down → old ≡ variables (take i (numbers_of items)) down → i < length items → j ≡ suc i → new ≡ variables (take j (numbers_of items)) down

@@ -60,8 +60,7 @@ loop_ended k cs n p q s r g d e f x i j y m w h =
     let st = same_trans p s r (same_trans p q s g.same e) i in
     let c = back cs p r st in
     let o : 0 < length r.variables = omega (arith, g.below, ap length i.variables, ap length e.variables) in
-    let z = stuck_whole k cs r (w ++ t.0) x o y u in
-    (
+    let z = stuck_whole k cs r (w ++ t.0) x o y u in (
       t.0,
       subst (λ (V : Tree). IsFront V (w ++ t.0)) c z.0,
       subst (λ (V : Tree). IsWhole V (w ++ t.0)) c z.1,
@@ -80,8 +79,7 @@ loop_budget k cs n p q s x u g d e y o v f m w h =
     let z = first_at s x u k y o in
     let at = at_number s.variables (path s) (λ x. IsFirstValue s.trail.state x u) x (omega (arith, z, o)) (subst (λ (i : Variable). IsFirstValue s.trail.state i u) (sym (ap (λ (j : ℕ). get_or s.variables j x) z ∙ v)) f) in
     let i = visit_in (tree_of cs s) s.along (path s) r.0 (w ++ t.0) u s.trail.state r.1 r.3 at in
-    let c = back cs p s (same_trans p q s g.same e) in
-    (
+    let c = back cs p s (same_trans p q s g.same e) in (
       t.0,
       subst (λ (V : Tree). IsFront V (w ++ t.0)) c r.1.front,
       subst (λ (V : Tree). GoesOn V (w ++ t.0)) c (path s ++ u ∷ [], i.0, i.1),
@@ -100,12 +98,11 @@ loop_visit k cs n p q s r u g d e f b w i j y o m = record {
   count = omega (arith, g.count, f, b, j);
   below = let l : depth r ≤ length r.variables = w.depth in omega (arith, l, o);
   walks = λ v h. let t = g.walks v h in
-      let x : Searches cs r ((v ++ t.0) ++ (path s ++ u ∷ []) ∷ []) = m cs (v ++ t.0) (d.1 (v ++ t.0) t.1) in
-      (
+      let x : Searches cs r ((v ++ t.0) ++ (path s ++ u ∷ []) ∷ []) = m cs (v ++ t.0) (d.1 (v ++ t.0) t.1) in (
         t.0 ++ (path s ++ u ∷ []) ∷ [],
         subst (Searches cs r) (append_assoc v t.0 ((path s ++ u ∷ []) ∷ [])) x,
         All-push (λ z. is_full (tree_of cs p) z ≡ false) t.0 (path s ++ u ∷ []) t.2
-          (not_eq (length (path s ++ u ∷ [])) (length p.variables) (λ z. o (let l : length (path r) ≡ depth r = path_length r (omega (arith, w.values, w.depth)) in
+            (not_eq (length (path s ++ u ∷ [])) (length p.variables) (λ z. o (let l : length (path r) ≡ depth r = path_length r (omega (arith, w.values, w.depth)) in
             let a : length r.variables ≡ length p.variables = ap length (same_trans p q r g.same (same_trans q s r e i)).variables in omega (arith, l, z, ap length y, a)))),
       );
 }
@@ -113,17 +110,16 @@ loop_visit k cs n p q s r u g d e f b w i j y o m = record {
 ready_full : (cs : List Cond) (r : Position) (w : List (List ℤ)) → 0 < length r.variables → depth r ≡ length r.variables → Searches cs r w → IsReady cs r true
 ready_full cs r w l h s = go r.variables l
   where
-  go : (xs : List Variable) → 0 < length xs → ReadyFor xs cs r true
-  go [] l = absurd (omega arith)
-  go (x ∷ xs) l = (h, w, s)
+    go : (xs : List Variable) → 0 < length xs → ReadyFor xs cs r true
+    go [] l = absurd (omega arith)
+    go (x ∷ xs) l = (h, w, s)
 
 pub loop_found : (k : ℕ) (cs : List Cond) (n : ℕ) (p q s r : Position) (u : ℤ) → Walking k cs n p q → KeptAs cs q s → SameWalk q s → s.walked ≡ q.walked → (s.walked ≡ n → ⊥) → SameWalk s r → r.walked ≡ s.walked + 1 → path r ≡ path s ++ u ∷ [] → depth r ≡ length r.variables → ((ds : List Cond) (w : List (List ℤ)) → Rests ds s w → Searches ds r (w ++ (path s ++ u ∷ []) ∷ [])) → (w : List (List ℤ)) → Searches cs p w → Walks cs n p w Found r
 loop_found k cs n p q s r u g d e f c i j y o m w h =
     let t = g.walks w h in
     let x : Searches cs r ((w ++ t.0) ++ (path s ++ u ∷ []) ∷ []) = m cs (w ++ t.0) (d.1 (w ++ t.0) t.1) in
     let z : Searches cs r (w ++ t.0 ++ path r ∷ []) = subst (λ (l : List ℤ). Searches cs r (w ++ t.0 ++ l ∷ [])) (sym y) x in
-    let l : 0 < length r.variables = omega (arith, g.below, ap length i.variables, ap length e.variables) in
-    (
+    let l : 0 < length r.variables = omega (arith, g.below, ap length i.variables, ap length e.variables) in (
       t.0,
       subst (λ (V : Tree). IsFront V (w ++ t.0 ++ path r ∷ [])) (back cs p r (same_trans p s r (same_trans p q s g.same e) i)) z.1.front,
       z.4,
@@ -138,7 +134,7 @@ loop_found k cs n p q s r u g d e f c i j y o m w h =
 pub measure_dead : (n : ℕ) (q s r : Position) → SameWalk q s → SameWalk s r → s.walked ≡ q.walked → r.walked ≡ s.walked → depth s ≡ depth q → depth r < depth s → (n - r.walked) * (length r.variables + 2) + depth r < (n - q.walked) * (length q.variables + 2) + depth q
 measure_dead n q s r e f g h i j =
     let a : (n - r.walked) * (length r.variables + 2) ≡ (n - q.walked) * (length q.variables + 2) =
-        ap (λ (w : ℕ). (n - w) * (length r.variables + 2)) (h ∙ g) ∙ ap (λ (v : List Variable). (n - q.walked) * (length v + 2)) (f.variables ∙ e.variables) in
+    ap (λ (w : ℕ). (n - w) * (length r.variables + 2)) (h ∙ g) ∙ ap (λ (v : List Variable). (n - q.walked) * (length v + 2)) (f.variables ∙ e.variables) in
     omega (arith, a, i, j)
 
 more : (a m d e : ℕ) → e ≡ d + 1 → 2 ≤ m → a * m + e < suc a * m + d

@@ -17,9 +17,9 @@ use Rattle.trail_search.proofs.Standing.{tree_same, path_length}
 all_since : (W : Tree) (w v : List (List ℤ)) (m : ℕ) → length w ≡ m → All (λ q. is_full W q ≡ false) v → All (λ q. is_full W q ≡ false) (drop m (w ++ v))
 all_since W w v m e h = subst (All (λ q. is_full W q ≡ false)) (sym (ap (λ (n : ℕ). drop n (w ++ v)) (sym e) ∙ dropped w v)) h
   where
-  dropped : (w v : List (List ℤ)) → drop (length w) (w ++ v) ≡ v
-  dropped [] v = refl
-  dropped (x ∷ w) v = dropped w v
+    dropped : (w v : List (List ℤ)) → drop (length w) (w ++ v) ≡ v
+    dropped [] v = refl
+    dropped (x ∷ w) v = dropped w v
 
 whole_path : (k : ℕ) (q : Position) → IsWell k q → depth q ≡ length q.variables → path q ≡ q.values
 whole_path k q w h = ap (λ (m : ℕ). take m q.values) (h ∙ sym w.values) ∙ take-length q.values
@@ -32,8 +32,7 @@ found_answer cs k n p q a b s x e f m g y l o t =
     let h = t.2 in
     let v = h.0 in
     let z : tree_of cs p ≡ tree_of cs q = tree_same cs p q s in
-    let d : length w ≡ a.walked = t.1 ∙ sym m in
-    (
+    let d : length w ≡ a.walked = t.1 ∙ sym m in (
       w ++ v,
       path q,
       (subst (λ (V : Tree). IsFront V (w ++ v ++ path q ∷ [])) (z ∙ sym f) h.1, h.2 ∙ sym y),
@@ -50,8 +49,7 @@ ended_answer cs n p q a b e f m g y o t =
     let w = t.0 in
     let h = t.2 in
     let v = h.0 in
-    let d : length w ≡ a.walked = t.1 ∙ sym m in
-    (
+    let d : length w ≡ a.walked = t.1 ∙ sym m in (
       w ++ v,
       (subst (λ (V : Tree). IsFront V (w ++ v)) (sym f) h.1, h.3 ∙ sym y),
       subst (λ (V : Tree). IsWhole V (w ++ v)) (sym e) h.2,
@@ -65,8 +63,7 @@ budget_answer cs n p q a b e f m g y o t =
     let w = t.0 in
     let h = t.2 in
     let v = h.0 in
-    let d : length w ≡ a.walked = t.1 ∙ sym m in
-    (
+    let d : length w ≡ a.walked = t.1 ∙ sym m in (
       w ++ v,
       (subst (λ (V : Tree). IsFront V (w ++ v)) (sym f) h.1, h.3 ∙ sym y),
       y ∙ h.5 ∙ sym g,
@@ -82,10 +79,10 @@ as_before a b s e h = subst (λ (o : Option Step). AsBefore o a s b) (sym e) h
 pub stands_at : (cs : List Cond) (p : Position) (f : Bool) → IsReady cs p f → StandsAt p f
 stands_at cs p f r = over p.variables f r
   where
-  over : (xs : List Variable) (f : Bool) → ReadyFor xs cs p f → StandsFor xs p f
-  over [] f r = tt
-  over (x ∷ xs) false r = r.0
-  over (x ∷ xs) true r = r.0
+    over : (xs : List Variable) (f : Bool) → ReadyFor xs cs p f → StandsFor xs p f
+    over [] f r = tt
+    over (x ∷ xs) false r = r.0
+    over (x ∷ xs) true r = r.0
 
 -- ---- what is true of each search
 
@@ -115,11 +112,12 @@ sound_found k b cs ds a c n p q found over i o x s e d h = record {
   fits = subst (λ (z : List Cond). All (λ c. FitsIn c q.first) z) (sym e) (subst (λ (z : State). All (λ c. FitsIn c z) cs) (sym s.first) i.fits);
   ready = λ y. subst (λ (z : List Cond). IsReady z q true) (sym e) h.2.6;
   memory = λ y. absurd (not_none Memory (sym y ∙ o));
+  last = i.last;
   named = named_on k p q s i.named;
 }
 
-pub sound_over : (k : ℕ) (b : Bool) (cs ds : List Cond) (a c n : ℕ) (p q : Position) (found found' : Bool) (over : Option Step) (e : Step) → IsSound k b cs a n p found over → IsWell k q → SameWalk p q → ds ≡ cs → c ≡ a → (e ≡ Memory → b ≡ true) → IsSound k b ds c n q found' (Some e)
-sound_over k b cs ds a c n p q found found' over e i x s f d m = record {
+pub sound_over : (k : ℕ) (b : Bool) (cs ds : List Cond) (a c n : ℕ) (p q : Position) (found found' : Bool) (over : Option Step) (e : Step) → IsSound k b cs a n p found over → IsWell k q → SameWalk p q → ds ≡ cs → c ≡ a → (e ≡ Memory → b ≡ true) → e ≢ Found → IsSound k b ds c n q found' (Some e)
+sound_over k b cs ds a c n p q found found' over e i x s f d m not_found = record {
   well = x;
   state = subst (λ (S : State). IsState k S) (sym s.first) i.state;
   count = λ o. absurd (not_none e o);
@@ -127,11 +125,12 @@ sound_over k b cs ds a c n p q found found' over e i x s f d m = record {
   fits = subst (λ (z : List Cond). All (λ c. FitsIn c q.first) z) (sym f) (subst (λ (z : State). All (λ c. FitsIn c z) cs) (sym s.first) i.fits);
   ready = λ o. absurd (not_none e o);
   memory = λ o. m (some_same e Memory o);
+  last = λ o. not_found (some_same e Found o);
   named = named_on k p q s i.named;
 }
   where
-  some_same : (s t : Step) → Some s ≡ Some t → s ≡ t
-  some_same s t o = cc
+    some_same : (s t : Step) → Some s ≡ Some t → s ≡ t
+    some_same s t o = cc
 
 pub not_memory : (s : Step) → s ≢ Memory → s ≡ Memory → (b : Bool) → b ≡ true
 not_memory s n e b = absurd (n e)

@@ -53,9 +53,9 @@ left_start W = record {
   all = λ T s i m. i;
 }
   where
-  none : (xs : List Variable) (T : State) → Meets xs [] None T
-  none [] T = tt
-  none (x ∷ xs) T = tt
+    none : (xs : List Variable) (T : State) → Meets xs [] None T
+    none [] T = tt
+    none (x ∷ xs) T = tt
 
 at_both : (xs : List Variable) (q : List ℤ) (P Q R : Variable → Type 0) → ((x : Variable) → P x → Q x → R x) → AtNext xs q P → AtNext xs q Q → AtNext xs q R
 at_both [] q P Q R f h k = h
@@ -84,7 +84,7 @@ left_fix W q b u x G N a l g e f n = record {
   inside = inside_trans N G W.first n.inside g.inside;
   meet = λ T o i. let j : Inside T G = inside_trans T N G i n.inside in
       meets_push T W.variables q b u (meets_inside T G W.variables q b o (are_of W.first T W.variables (inside_trans T G W.first j g.inside).objects a) j g.meets)
-        (at_number W.variables q (λ y. IsFixed T y u) x l (subst (λ (y : Variable). IsFixed T y u) (sym e) (n.meet T o i)));
+      (at_number W.variables q (λ y. IsFixed T y u) x l (subst (λ (y : Variable). IsFixed T y u) (sym e) (n.meet T o i)));
   all = λ T s i m.
       let r = meets_pop T G W.variables q b None u g.meets (at_number W.variables q (λ y. IsFirstValue G y u) x l (subst (λ (y : Variable). IsFirstValue G y u) (sym e) f)) m in
       n.all T s.nonempty (g.greatest T s i r.0) (subst (λ (y : Variable). IsFixed T y u) e (at_number_out W.variables q (λ y. IsFixed T y u) x r.1));
@@ -95,7 +95,7 @@ left_past W q b u v x G N a l g e f p n = record {
   inside = inside_trans N G W.first n.inside g.inside;
   meet = λ T o i. let j : Inside T G = inside_trans T N G i n.inside in
       meets_bound T W.variables q b v (meets_inside T G W.variables q b o (are_of W.first T W.variables (inside_trans T G W.first j g.inside).objects a) j g.meets)
-        (at_number W.variables q (λ y. IsFrom T y v) x l (subst (λ (y : Variable). IsFrom T y v) (sym e) (n.meet T o i)));
+      (at_number W.variables q (λ y. IsFrom T y v) x l (subst (λ (y : Variable). IsFrom T y v) (sym e) (n.meet T o i)));
   all = λ T s i m.
       let r = meets_looser T G W.variables q b u v g.meets (at_number W.variables q (λ y. IsFirstValue G y u × (v ≡ after y u)) x l (subst (λ (y : Variable). IsFirstValue G y u × (v ≡ after y u)) (sym e) (f, p))) m in
       n.all T s.nonempty (g.greatest T s i r.0) (subst (λ (y : Variable). IsFrom T y v) e (at_number_out W.variables q (λ y. IsFrom T y v) x r.1));
@@ -106,7 +106,7 @@ left_bound W q v x G N a l g e n = record {
   inside = inside_trans N G W.first n.inside g.inside;
   meet = λ T o i. let j : Inside T G = inside_trans T N G i n.inside in
       meets_bound T W.variables q None v (g.meet T o j)
-        (at_number W.variables q (λ y. IsFrom T y v) x l (subst (λ (y : Variable). IsFrom T y v) (sym e) (n.meet T o i)));
+      (at_number W.variables q (λ y. IsFrom T y v) x l (subst (λ (y : Variable). IsFrom T y v) (sym e) (n.meet T o i)));
   all = λ T s i m.
       let r = meets_some T W.variables q v l m in
       n.all T s.nonempty (g.all T s i r.0) (subst (λ (y : Variable). IsFrom T y v) e (at_number_out W.variables q (λ y. IsFrom T y v) x r.1));
@@ -134,27 +134,26 @@ levels_push W q saved u G a g = record {
   ];
 }
   where
-  moved : (W : Tree) (q p : List ℤ) (u v : ℤ) (G H : State) → q ≡ p → u ≡ v → G ≡ H → IsLevel W q u G → IsLevel W p v H
-  moved W q p u v G H e f k l = subst (λ (S : State). IsLevel W p v S) k (subst (λ (z : ℤ). IsLevel W p z G) f (subst (λ (s : List ℤ). IsLevel W s u G) e l))
+    moved : (W : Tree) (q p : List ℤ) (u v : ℤ) (G H : State) → q ≡ p → u ≡ v → G ≡ H → IsLevel W q u G → IsLevel W p v H
+    moved W q p u v G H e f k l = subst (λ (S : State). IsLevel W p v S) k (subst (λ (z : ℤ). IsLevel W p z G) f (subst (λ (s : List ℤ). IsLevel W s u G) e l))
 
 pub levels_pop : (W : Tree) (q : List ℤ) (saved : List State) (u : ℤ) (G : State) → AreLevels W (q ++ u ∷ []) (saved ++ G ∷ []) → AreLevels W q saved × IsLevel W q u G
 levels_pop W q saved u G a =
     let n : length saved ≡ length q = omega (arith, a.number, length-append saved (G ∷ []), length-append q (u ∷ [])) in
-    let h : length q < length (q ++ u ∷ []) = omega (arith, length-append q (u ∷ [])) in
-    (
+    let h : length q < length (q ++ u ∷ []) = omega (arith, length-append q (u ∷ [])) in (
       record {
         number = n;
         each = λ i l. let m : i < length saved = omega (arith, n) in
             let o : i < length (q ++ u ∷ []) = omega (arith, h) in
             moved W (take i (q ++ u ∷ [])) (take i q) (get_or (q ++ u ∷ []) i (pos 0)) (get_or q i (pos 0)) (get_or (saved ++ G ∷ []) i []) (get_or saved i [])
-              (take-append-le i q (u ∷ []) (omega arith)) (get_or_append_left q (u ∷ []) (pos 0) i l) (get_or_append_left saved (G ∷ []) [] i m) (a.each i o);
+            (take-append-le i q (u ∷ []) (omega arith)) (get_or_append_left q (u ∷ []) (pos 0) i l) (get_or_append_left saved (G ∷ []) [] i m) (a.each i o);
       },
       moved W (take (length q) (q ++ u ∷ [])) q (get_or (q ++ u ∷ []) (length q) (pos 0)) u (get_or (saved ++ G ∷ []) (length q) []) G
-        (take-append_seam q (u ∷ [])) (get_or-append_seam q u [] (pos 0)) (ap (λ (j : ℕ). get_or (saved ++ G ∷ []) j []) (sym n) ∙ get_or-append_seam saved G [] []) (a.each (length q) h),
+          (take-append_seam q (u ∷ [])) (get_or-append_seam q u [] (pos 0)) (ap (λ (j : ℕ). get_or (saved ++ G ∷ []) j []) (sym n) ∙ get_or-append_seam saved G [] []) (a.each (length q) h),
     )
   where
-  moved : (W : Tree) (q p : List ℤ) (u v : ℤ) (G H : State) → q ≡ p → u ≡ v → G ≡ H → IsLevel W q u G → IsLevel W p v H
-  moved W q p u v G H e f k l = subst (λ (S : State). IsLevel W p v S) k (subst (λ (z : ℤ). IsLevel W p z G) f (subst (λ (s : List ℤ). IsLevel W s u G) e l))
+    moved : (W : Tree) (q p : List ℤ) (u v : ℤ) (G H : State) → q ≡ p → u ≡ v → G ≡ H → IsLevel W q u G → IsLevel W p v H
+    moved W q p u v G H e f k l = subst (λ (S : State). IsLevel W p v S) k (subst (λ (z : ℤ). IsLevel W p z G) f (subst (λ (s : List ℤ). IsLevel W s u G) e l))
 
 -- ---- the invariant
 
@@ -173,8 +172,7 @@ in_range (x ∷ xs) q P h = omega arith
 -- the first value of the next variable makes a member that comes after those walked
 pub visit_in : (W : Tree) (along : Bool) (q : List ℤ) (b : Option ℤ) (w : List (List ℤ)) (u : ℤ) (G : State) → Stands W along q b w → IsBest W q b G → AtNext W.variables q (λ x. IsFirstValue G x u) → IsIn W (q ++ u ∷ []) × All (λ r. Precedes W.variables r (q ++ u ∷ [])) w
 visit_in W along q b w u G s g f =
-    let h = rest_here G W.variables q b u g.meets f in
-    (
+    let h = rest_here G W.variables q b u g.meets f in (
       (member_of W.conditions W.first W.variables q (q ++ u ∷ []) (λ x. IsFirstValue G x u) f (G, g.supported, g.inside, begins_push G W.variables q b u g.meets f), token_in W W.after along q b u s.token h),
       s.beyond (q ++ u ∷ []) h,
     )
@@ -283,10 +281,10 @@ stands_whole W along b w a l s none = front_whole W w s.front (λ r n p.
     let m = member_out W.conditions W.first W.variables r l n.0 in
     none m.0 m.1 m.2 (met W.variables m.0 b r m.1.nonempty (are_of W.first m.0 W.variables m.2.objects a) m.3 (s.rest r n p)))
   where
-  met : (xs : List Variable) (T : State) (b : Option ℤ) (r : List ℤ) → HasNoEmpty T → AreOf T xs → Begins T xs r → Rest xs [] b r → Meets xs [] b T
-  met [] T b r n a g h = absurd h
-  met (x ∷ xs) T b [] n a g h = absurd h
-  met (x ∷ xs) T b (w ∷ r) n a g h = begins_from T x xs w r b n a.0 g h
+    met : (xs : List Variable) (T : State) (b : Option ℤ) (r : List ℤ) → HasNoEmpty T → AreOf T xs → Begins T xs r → Rest xs [] b r → Meets xs [] b T
+    met [] T b r n a g h = absurd h
+    met (x ∷ xs) T b [] n a g h = absurd h
+    met (x ∷ xs) T b (w ∷ r) n a g h = begins_from T x xs w r b n a.0 g h
 
 -- ---- the start
 
@@ -353,14 +351,14 @@ descend_off cs p r w u x a m v e f s o i k l n t h =
     let e' : get_or p.variables (length q) x ≡ x = ap (λ (j : ℕ). get_or p.variables j x) z ∙ e in
     let g : AtNext p.variables q (λ y. IsFirstValue p.trail.state y u) = at_number p.variables q (λ y. IsFirstValue p.trail.state y u) x m' (subst (λ (y : Variable). IsFirstValue p.trail.state y u) (sym e') f) in
     let leave : p.along ≡ true → (c : List ℤ) → p.token ≡ Some c → get_or c (length q) (pos 0) ≡ u → suc (length q) ≡ length p.variables =
-        λ y c d j. ap suc z ∙ t y c d (ap (λ (n : ℕ). get_or c n (pos 0)) (sym z) ∙ j) in
+    λ y c d j. ap suc z ∙ t y c d (ap (λ (n : ℕ). get_or c n (pos 0)) (sym z) ∙ j) in
     let st : Stands W p.along q h.0 w = h.1 in
     let bs : IsBest W q h.0 p.trail.state = h.3 in
     searches_as cs r W false (q ++ u ∷ []) None (w ++ (q ++ u ∷ []) ∷ []) (p.trail.restores ++ p.trail.state ∷ []) (tree_same cs p r s) (sym l) (sym (path_entered p r u (omega (arith, m, v)) o i)) (sym o)
-      (enter_stands W p.along q h.0 w u p.trail.state a st bs g leave)
-      (levels_push W q p.trail.restores u p.trail.state h.2 (h.0, bs, g))
-      (left_fix W q h.0 u x p.trail.state r.trail.state a m' bs e' f n)
-      (length-append w ((q ++ u ∷ []) ∷ []) ∙ ap (λ (j : ℕ). j + 1) h.4 ∙ sym k)
+    (enter_stands W p.along q h.0 w u p.trail.state a st bs g leave)
+    (levels_push W q p.trail.restores u p.trail.state h.2 (h.0, bs, g))
+    (left_fix W q h.0 u x p.trail.state r.trail.state a m' bs e' f n)
+    (length-append w ((q ++ u ∷ []) ∷ []) ∙ ap (λ (j : ℕ). j + 1) h.4 ∙ sym k)
 
 -- a level is opened along the token
 pub descend_on : (cs : List Cond) (p r : Position) (w : List (List ℤ)) (u c : ℤ) (x y : Variable) (N : State) → AreOf p.first p.variables → depth p < length p.variables → length p.values ≡ length p.variables → get_or p.variables (depth p) x ≡ x → IsFirstValue p.trail.state x u → SameWalk p r → r.trail.restores ≡ p.trail.restores ++ p.trail.state ∷ [] → r.values ≡ set p.values (depth p) u → r.walked ≡ p.walked + 1 → r.along ≡ p.along → Narrows p.trail.state N (λ T. IsFixed T x u) → StaysOn p u (Some c) → get_or p.variables (suc (depth p)) y ≡ y → Narrows N r.trail.state (λ T. IsFrom T y c) → Rests cs p w → Searches cs r (w ++ (path p ++ u ∷ []) ∷ [])
@@ -378,12 +376,12 @@ descend_on cs p r w u c x y N a m v e f s o i k l n t d j h =
     let len : length (q ++ u ∷ []) ≡ suc (depth p) = length-append q (u ∷ []) ∙ (let b : length q + 1 ≡ suc (depth p) = omega (arith, z) in b) in
     let d' : get_or p.variables (length (q ++ u ∷ [])) y ≡ y = ap (λ (j : ℕ). get_or p.variables j y) len ∙ d in
     let sn : Stands W true (q ++ u ∷ []) (Some c) (w ++ (q ++ u ∷ []) ∷ []) = subst (λ (b : ℤ). Stands W true (q ++ u ∷ []) (Some b) (w ++ (q ++ u ∷ []) ∷ [])) ce
-        (visit_stay W T q h.0 w u p.trail.state a st bs g t.2 (ap (λ (n : ℕ). get_or T n (pos 0)) z ∙ t.3) (omega (arith, z, t.4))) in
+    (visit_stay W T q h.0 w u p.trail.state a st bs g t.2 (ap (λ (n : ℕ). get_or T n (pos 0)) z ∙ t.3) (omega (arith, z, t.4))) in
     searches_as cs r W true (q ++ u ∷ []) (Some c) (w ++ (q ++ u ∷ []) ∷ []) (p.trail.restores ++ p.trail.state ∷ []) (tree_same cs p r s) (sym (l ∙ t.1)) (sym (path_entered p r u (omega (arith, m, v)) o i)) (sym o)
-      sn
-      (levels_push W q p.trail.restores u p.trail.state h.2 (h.0, bs, g))
-      (left_bound W (q ++ u ∷ []) c y N r.trail.state a (omega (arith, len, t.4)) (left_fix W q h.0 u x p.trail.state N a m' bs e' f n) d' j)
-      (length-append w ((q ++ u ∷ []) ∷ []) ∙ ap (λ (j : ℕ). j + 1) h.4 ∙ sym k)
+    sn
+    (levels_push W q p.trail.restores u p.trail.state h.2 (h.0, bs, g))
+    (left_bound W (q ++ u ∷ []) c y N r.trail.state a (omega (arith, len, t.4)) (left_fix W q h.0 u x p.trail.state N a m' bs e' f n) d' j)
+    (length-append w ((q ++ u ∷ []) ∷ []) ∙ ap (λ (j : ℕ). j + 1) h.4 ∙ sym k)
 
 stuck_as : (cs : List Cond) (r : Position) (W : Tree) (along : Bool) (q : List ℤ) (b : Option ℤ) (w : List (List ℤ)) (saved : List State) → W ≡ tree_of cs r → along ≡ r.along → q ≡ path r → saved ≡ r.trail.restores → Stands W along q b w → AreLevels W q saved → IsDone W q b → length w ≡ r.walked → IsStuck cs r w
 stuck_as cs r W along q b w saved e f g h s a l n = (
@@ -464,7 +462,7 @@ pub values_set : (xs : List Variable) (vs : List ℤ) (m : ℕ) (x : Variable) (
 values_set xs vs m x u h l e k a i y b = elim (cases_eq i m) [
   | inl q ↦ subst (λ (n : ℕ). IsValueOf (get_or xs n y) (get_or (set vs m u) n (pos 0))) (sym q)
       (subst (λ (z : ℤ). IsValueOf (get_or xs m y) z) (sym (get_or-set_same vs m u (pos 0) (omega (arith, h, l))))
-        (subst (λ (z : Variable). IsValueOf z u) (sym (any_default xs m y x h ∙ e)) k))
+      (subst (λ (z : Variable). IsValueOf z u) (sym (any_default xs m y x h ∙ e)) k))
   | inr ne ↦ subst (λ (z : ℤ). IsValueOf (get_or xs i y) z) (sym (get_or-set_other vs m i u (pos 0) ne)) (a i y b)
 ]
 
@@ -511,9 +509,12 @@ rests_as cs r W along q b w saved e f g h s a l n = (
 )
 
 pub settled_in : {E : Type 0} (cs : List Cond) (p q : Position) (a : Result Settled E) → SameWalk p q → SettlesOr cs p.trail.state a q.trail.state → q.trail.restores ≡ p.trail.restores → q.values ≡ p.values → q.along ≡ p.along → q.walked ≡ p.walked → SettledAs cs p a q
-settled_in cs p q (Ok Kept) s h o v l n = (h.supported.nonempty, λ w t.
-    let e = path_kept p q o v in
-    rests_as cs q (tree_of cs p) p.along (path p) t.0 w p.trail.restores (tree_same cs p q s) (sym l) e (sym o) t.1 t.2 (best_of_left (tree_of cs p) (path p) t.0 p.trail.state q.trail.state t.3 h) (t.4 ∙ sym n))
+settled_in cs p q (Ok Kept) s h o v l n = (
+  h.supported.nonempty,
+  λ w t.
+      let e = path_kept p q o v in
+      rests_as cs q (tree_of cs p) p.along (path p) t.0 w p.trail.restores (tree_same cs p q s) (sym l) e (sym o) t.1 t.2 (best_of_left (tree_of cs p) (path p) t.0 p.trail.state q.trail.state t.3 h) (t.4 ∙ sym n),
+)
 settled_in cs p q (Ok Dead) s h o v l n = λ w t.
     let e = path_kept p q o v in
     stuck_as cs q (tree_of cs p) p.along (path p) t.0 w p.trail.restores (tree_same cs p q s) (sym l) e (sym o) t.1 t.2 (inr (none_of_left (tree_of cs p) (path p) t.0 p.trail.state t.3 h.0)) (t.4 ∙ sym n)

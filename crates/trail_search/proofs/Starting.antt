@@ -38,8 +38,8 @@ variables_have : (k : ℕ) (os : List ℕ) (down : List Bool) → length down �
 variables_have k [] down h = All-nil (HasDimension k)
 variables_have k (o ∷ os) down h =
     all_append (HasDimension k) (variables_of down o) (variables os down)
-      (All-cons (HasDimension k) (PlaceOf o) (coordinates_from o 0 down) tt (coordinates_have k o 0 down (omega (arith, h))))
-      (variables_have k os down h)
+    (All-cons (HasDimension k) (PlaceOf o) (coordinates_from o 0 down) tt (coordinates_have k o 0 down (omega (arith, h))))
+    (variables_have k os down h)
 
 pub order_have : (k : ℕ) (S : State) (order : Order) → NamesEach k S order → All (HasDimension k) (variables_in order)
 order_have k S order n = variables_have k order.objects order.down n.dimensions

@@ -142,10 +142,10 @@ meets_looser T G [] q b u v g f m = absurd f
 meets_looser T G (x ∷ xs) [] None u v g f m = (tt, m)
 meets_looser T G (x ∷ xs) [] (Some c) u v g f m = (from_looser T x v c m (λ k. from_first G x c u g f.0 (before_trans x u v c (λ l. not_past x u v f.1 l) k)), m)
   where
-  not_past : (x : Variable) (u v : ℤ) → v ≡ after x u → IsBefore x v u → ⊥
-  not_past (PlaceOf o) u v e l = absurd (omega (arith, ints, e, l))
-  not_past (CoordinateOf o d false) u v e l = absurd (omega (arith, ints, e, l))
-  not_past (CoordinateOf o d true) u v e l = absurd (omega (arith, ints, e, l))
+    not_past : (x : Variable) (u v : ℤ) → v ≡ after x u → IsBefore x v u → ⊥
+    not_past (PlaceOf o) u v e l = absurd (omega (arith, ints, e, l))
+    not_past (CoordinateOf o d false) u v e l = absurd (omega (arith, ints, e, l))
+    not_past (CoordinateOf o d true) u v e l = absurd (omega (arith, ints, e, l))
 meets_looser T G (x ∷ xs) (w ∷ q) b u v g f m = let r = meets_looser T G xs q b u v g.1 f m.1 in ((m.0, r.0), r.1)
 
 -- the bound alone
@@ -176,10 +176,10 @@ rest_visited G (x ∷ xs) (v ∷ q) b u [] m f h = absurd h
 rest_visited G (x ∷ xs) [] None u (w ∷ r) m f h = tt
 rest_visited G (x ∷ xs) [] (Some v) u (w ∷ r) m f (inl k) = λ l. from_first G x v u m f (before_trans x u w v (λ z. twice x u w k z) l)
   where
-  twice : (x : Variable) (u w : ℤ) → IsBefore x u w → IsBefore x w u → ⊥
-  twice (PlaceOf o) u w k l = absurd (omega (arith, ints, k, l))
-  twice (CoordinateOf o d false) u w k l = absurd (omega (arith, ints, k, l))
-  twice (CoordinateOf o d true) u w k l = absurd (omega (arith, ints, k, l))
+    twice : (x : Variable) (u w : ℤ) → IsBefore x u w → IsBefore x w u → ⊥
+    twice (PlaceOf o) u w k l = absurd (omega (arith, ints, k, l))
+    twice (CoordinateOf o d false) u w k l = absurd (omega (arith, ints, k, l))
+    twice (CoordinateOf o d true) u w k l = absurd (omega (arith, ints, k, l))
 rest_visited G (x ∷ xs) [] (Some v) u (w ∷ r) m f (inr k) = λ l. from_first G x v u m f (subst (λ (z : ℤ). IsBefore x z v) (sym k.0) l)
 rest_visited G (x ∷ xs) (v ∷ q) b u (w ∷ r) m f (inl k) = inl k
 rest_visited G (x ∷ xs) (v ∷ q) b u (w ∷ r) m f (inr k) = inr (k.0, rest_visited G xs q b u r m.1 f k.1)
@@ -202,16 +202,16 @@ visit_cases T G (x ∷ xs) [] b u (w ∷ r) n a g h f k =
       | inr d ↦ elim d [ inl e ↦ same T x xs u w r e g | inr c ↦ inr (inl c) ]
     ]
   where
-  same : (T : State) (x : Variable) (xs : List Variable) (u w : ℤ) (r : List ℤ) → w ≡ u → Begins T (x ∷ xs) (w ∷ r) → ((w ∷ r) ≡ u ∷ []) ⊎ Rest (x ∷ xs) (u ∷ []) None (w ∷ r)
-  same T x xs u w [] e g = inl (ap (λ (z : ℤ). z ∷ []) e)
-  same T x [] u w (w' ∷ r) e g = absurd g.1
-  same T x (y ∷ xs) u w (w' ∷ r) e g = inr (inr (sym e, tt))
+    same : (T : State) (x : Variable) (xs : List Variable) (u w : ℤ) (r : List ℤ) → w ≡ u → Begins T (x ∷ xs) (w ∷ r) → ((w ∷ r) ≡ u ∷ []) ⊎ Rest (x ∷ xs) (u ∷ []) None (w ∷ r)
+    same T x xs u w [] e g = inl (ap (λ (z : ℤ). z ∷ []) e)
+    same T x [] u w (w' ∷ r) e g = absurd g.1
+    same T x (y ∷ xs) u w (w' ∷ r) e g = inr (inr (sym e, tt))
 visit_cases T G (x ∷ xs) (v ∷ q) b u (w ∷ r) n a g (inl h) f k = inr (inl h)
 visit_cases T G (x ∷ xs) (v ∷ q) b u (w ∷ []) n a g (inr h) f k = absurd (no_rest xs q b h.1)
   where
-  no_rest : (xs : List Variable) (q : List ℤ) (b : Option ℤ) → Rest xs q b [] → ⊥
-  no_rest [] q b h = h
-  no_rest (x ∷ xs) q b h = h
+    no_rest : (xs : List Variable) (q : List ℤ) (b : Option ℤ) → Rest xs q b [] → ⊥
+    no_rest [] q b h = h
+    no_rest (x ∷ xs) q b h = h
 visit_cases T G (x ∷ xs) (v ∷ q) b u (w ∷ w' ∷ r) n a g (inr h) f k =
     let l : IsFixed T x v = subst (IsFixed T x) (sym h.0) g.0 in
     elim (visit_cases T G xs q b u (w' ∷ r) n a.1 g.1 h.1 f (λ m. k (l, m))) [

@@ -58,11 +58,11 @@ bound_small [] t m a = (omega (arith, ints), omega (arith, ints))
 bound_small (x ∷ xs) [] m a = (omega (arith, ints), omega (arith, ints))
 bound_small (x ∷ xs) (t ∷ ts) zero a = base x xs t (a 0 (pos 0) (omega arith))
   where
-  base : (x : Seen) (xs : List Seen) (t : ℤ) → IsSmallNumber t → (negsuc 2000000 ≤ℤ token_bound x xs t) × (token_bound x xs t ≤ℤ pos 2000001)
-  base (PlaceOf o) [] t h = (omega (arith, ints, h.0), omega (arith, ints, h.1))
-  base (CoordinateOf o d false) [] t h = (omega (arith, ints, h.0), omega (arith, ints, h.1))
-  base (CoordinateOf o d true) [] t h = (omega (arith, ints, h.0), omega (arith, ints, h.1))
-  base x (y ∷ ys) t h = (omega (arith, ints, h.0), omega (arith, ints, h.1))
+    base : (x : Seen) (xs : List Seen) (t : ℤ) → IsSmallNumber t → (negsuc 2000000 ≤ℤ token_bound x xs t) × (token_bound x xs t ≤ℤ pos 2000001)
+    base (PlaceOf o) [] t h = (omega (arith, ints, h.0), omega (arith, ints, h.1))
+    base (CoordinateOf o d false) [] t h = (omega (arith, ints, h.0), omega (arith, ints, h.1))
+    base (CoordinateOf o d true) [] t h = (omega (arith, ints, h.0), omega (arith, ints, h.1))
+    base x (y ∷ ys) t h = (omega (arith, ints, h.0), omega (arith, ints, h.1))
 bound_small (x ∷ xs) (t ∷ ts) (suc m) a = bound_small xs ts m (λ i d l. a (suc i) d (omega (arith, l)))
 
 pub bound_fits : (v : ℤ) → (negsuc 2000000 ≤ℤ v) × (v ≤ℤ pos 2000001) → mag v < 2 ^ 63

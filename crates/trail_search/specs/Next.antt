@@ -1,5 +1,5 @@
 -- What a search is seen as, and what `next` answers.
-use Rattle.std.specs.Prelude.{◌≡◌, ℕ, Bool, ◌+◌, ◌-◌, ◌^◌, min, ◌<◌, ◌≤◌, true, false, List, [], ◌∷◌, ◌++◌, length, drop, Option, Some, None, ℤ}
+use Rattle.std.specs.Prelude.{◌≡◌, ◌≢◌, ℕ, Bool, ◌+◌, ◌-◌, ◌^◌, min, ◌<◌, ◌≤◌, true, false, List, [], ◌∷◌, ◌++◌, length, drop, Option, Some, None, ℤ}
 use Rattle.std.specs.List.{All}
 use Rattle.geo_conditions.specs.declared.cond.Cond.{Cond}
 use Rattle.geo_conditions.specs.Conditions.{FitsIn}
@@ -69,4 +69,5 @@ pub record IsSound (k : ℕ) (keeps : Bool) (cs : List Cond) (number n : ℕ) (p
   pub fits : All (λ c. FitsIn c p.first) cs
   pub ready : over ≡ None → IsReady cs p found
   pub memory : over ≡ Some Memory → keeps ≡ true
+  pub last : over ≢ Some Found
   pub named : (order : Order) × NamesEach k p.first order × (p.variables ≡ variables_in order)

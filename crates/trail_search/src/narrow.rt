@@ -156,7 +156,8 @@ fn raise_to<const K: usize>(t: &mut Trailed<K>, o: ObjId, d: usize, v: i64)
     requires k { K ≤ MAX_DIMS }
     requires object { o.0 < length t.old.state }
     requires dimension { d < K }
-    ensures narrows { Narrows t.old.state t.new.state (λ T. IsFrom T (CoordinateOf o.0 d false) v) }
+    ensures narrows { Narrows t.old.state t.new.state
+        (λ T. IsFrom T (CoordinateOf o.0 d false) v) }
     ensures levels { t.new.levels ≡ t.old.levels }
     ensures restores { t.new.restores ≡ t.old.restores }
 {

@@ -20,8 +20,9 @@ use geo_state::Propagate;
 use std::alloc::{AllocError, Global};
 use std::marker::Model;
 
-/// A search for the layouts, in order. It walks over the prefixes of values for which a supported state is left, counts each once, and
-/// stops where the next one would exceed its budget. Its memory is taken at the start.
+/// A search for the layouts, in order. It walks over the prefixes of values for which a supported
+/// state is left, counts each once, and stops where the next one would exceed its budget. Its
+/// memory is taken at the start.
 #[derive(Drop)]
 pub struct Search<const K: usize, P: Propagate<K>, R: Recorder> {
     prop: P,
@@ -52,12 +53,14 @@ impl<const K: usize, P: Propagate<K>, R: Recorder> Model for Search<K, P, R> {
       refusals = R.refusals s.rec;
     } };
 
-    ghost invariant = { λ s. IsSound K R.keeps (P.conditions s.prop) (P.objects s.prop) s.budget s.walker s.found s.over };
+    ghost invariant = { λ s.
+        IsSound K R.keeps (P.conditions s.prop) (P.objects s.prop) s.budget s.walker s.found s.over };
 }
 
 impl<const K: usize, P: Propagate<K> + Drop, R: Recorder + Drop> Search<K, P, R> {
-    /// A search that begins in the state `first`, and after the tuple `after` where one is given, which lies inside that state. The
-    /// ends of that state lie in -2,000,000 to 2,000,000, and the order names each of its objects once.
+    /// A search that begins in the state `first`, and after the tuple `after` where one is given,
+    /// which lies inside that state. The ends of that state lie in -2,000,000 to 2,000,000, and the
+    /// order names each of its objects once.
     pub fn start(
         alloc: Global,
         first: State<K>,
@@ -73,7 +76,12 @@ impl<const K: usize, P: Propagate<K> + Drop, R: Recorder + Drop> Search<K, P, R>
         requires token { IfSome (option_copied after) (λ t. TupleIn t first) }
         requires objects { length first ≡ P.objects prop }
         requires fits { AllFit (P.conditions prop) first }
-        ensures walk { IfOk result (λ s. s.walk ≡ record { conditions = P.conditions prop; first = first.entry; variables = variables_in order; after = option_map (values (variables_in order)) (option_copied after.entry) }) }
+        ensures walk { IfOk result (λ s. s.walk ≡ record {
+          conditions = P.conditions prop;
+          first = first.entry;
+          variables = variables_in order;
+          after = option_map (values (variables_in order)) (option_copied after.entry);
+        }) }
         ensures budget { IfOk result (λ s. s.budget ≡ budget) }
         ensures walked { IfOk result (λ s. s.walked ≡ 0) }
         ensures layout { IfOk result (λ s. s.layout ≡ None) }
@@ -103,6 +111,7 @@ impl<const K: usize, P: Propagate<K>, R: Recorder> Search<K, P, R> {
     pub fn next(&mut self) -> Step
         requires k { K ≤ MAX_DIMS }
         ensures steps { Steps self.old result self.new }
+        ensures found { result ≡ Step.Found → IsSome self.new.layout }
         ensures events { R.keeps ≡ true → Continues self.old.events self.new.events }
         ensures refusals { self.old.refusals ≤ self.new.refusals }
         ensures no_record { R.keeps ≡ false → result ≢ Step.Memory }
@@ -112,7 +121,13 @@ impl<const K: usize, P: Propagate<K>, R: Recorder> Search<K, P, R> {
         }
         let found = self.found;
         self.found = false;
-        match go_on(&mut self.prop, &mut self.rec, &mut self.walker, self.budget, found) {
+        match go_on(
+            &mut self.prop,
+            &mut self.rec,
+            &mut self.walker,
+            self.budget,
+            found,
+        ) {
             Step::Found => {
                 self.found = true;
                 Step::Found
@@ -148,7 +163,8 @@ impl<const K: usize, P: Propagate<K>, R: Recorder> Search<K, P, R> {
         requires found { IsSome self.now.layout }
         requires object { o.0 < length self.now.walk.first }
         requires dimension { d < K }
-        ensures { (t : Tuple) → HasFound self.now t → result ≡ coordinate (spot t o.0).origin d }
+        ensures { (t : Tuple) → HasFound self.now t
+            → result ≡ coordinate (spot t o.0).origin d }
     {
         self.walker.coordinate(o, d)
     }

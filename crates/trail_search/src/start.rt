@@ -61,7 +61,8 @@ fn token_values<const K: usize>(
     requires inside { IfSome (option_copied after) (λ t. TupleIn t first.now) }
     requires objects { AreOf first.now (map variable_of variables.now) }
     requires dimensions { All (HasDimension K) (map variable_of variables.now) }
-    ensures { IfOk result (λ v. token_of v ≡ option_map (values (map variable_of variables.now)) (option_copied after.entry)) }
+    ensures { IfOk result (λ v. token_of v
+        ≡ option_map (values (map variable_of variables.now)) (option_copied after.entry)) }
 {
     match after {
         None => Ok(None),
@@ -98,7 +99,8 @@ pub fn start_walker<const K: usize>(
     ensures shape { IfOk result (λ p. IsState K p.first) }
     ensures first { IfOk result (λ p. p.first ≡ first.entry) }
     ensures variables { IfOk result (λ p. p.variables ≡ variables_in order.now) }
-    ensures token { IfOk result (λ p. p.token ≡ option_map (values (variables_in order.now)) (option_copied after.entry)) }
+    ensures token { IfOk result (λ p. p.token
+        ≡ option_map (values (variables_in order.now)) (option_copied after.entry)) }
     ensures well { IfOk result (λ p. IsWell K p) }
     ensures fresh { IfOk result (λ p. IsFresh p) }
 {

@@ -20,7 +20,8 @@ pub enum Variable {
 
 /// Appends the variables of an object.
 fn push_variables(all: &mut Vec<Variable>, o: ObjId, down: &[bool]) -> Result<(), AllocError>
-    ensures { OnOk result (map variable_of all.new.items ≡ map variable_of all.old.items ++ variables_of down.now o.0) }
+    ensures { OnOk result (map variable_of all.new.items
+        ≡ map variable_of all.old.items ++ variables_of down.now o.0) }
 {
     all.push(Variable::Place(o))?;
     for (d, b) in down.iter().enumerate() {
@@ -47,13 +48,12 @@ pub fn after(x: Variable, v: i64) -> i64
 {
     match x {
         Variable::Place(_) => v + 1,
-        Variable::Coordinate(_, _, down) => {
-            if down { v - 1 } else { v + 1 }
-        }
+        Variable::Coordinate(_, _, down) => { if down { v - 1 } else { v + 1 } }
     }
 }
 
-/// The bound that a token sets at the variable of that number: its own value, and past it at the last variable.
+/// The bound that a token sets at the variable of that number: its own value, and past it at the
+/// last variable.
 pub fn token_bound(variables: &[Variable], t: &[i64], m: usize) -> i64
     requires lengths { length t.now ≡ length variables.now }
     requires number { m < length variables.now }

@@ -31,7 +31,8 @@ fn walk<const K: usize, P: Propagate<K>, R: Recorder>(
     ensures refused { IsRefused result (R.refusals rec.old) (R.refusals rec.new) }
     ensures refusals { R.refusals rec.old ≤ R.refusals rec.new }
     ensures no_record { R.keeps ≡ false → result ≢ Step.Memory }
-    ensures walks { (w : List (List ℤ)) → Searches (P.conditions prop.old) walker.old w → Walks (P.conditions prop.old) budget walker.old w result walker.new }
+    ensures walks { (w : List (List ℤ)) → Searches (P.conditions prop.old) walker.old w
+        → Walks (P.conditions prop.old) budget walker.old w result walker.new }
 {
     loop {
         match walker.settle(prop, rec) {
@@ -59,7 +60,8 @@ fn walk<const K: usize, P: Propagate<K>, R: Recorder>(
     }
 }
 
-/// The walk without variables: the empty tuple is its only member, where the first state is supported and there is no token.
+/// The walk without variables: the empty tuple is its only member, where the first state is
+/// supported and there is no token.
 fn walk_empty<const K: usize, P: Propagate<K>, R: Recorder>(
     prop: &mut P,
     rec: &mut R,
@@ -82,7 +84,8 @@ fn walk_empty<const K: usize, P: Propagate<K>, R: Recorder>(
     ensures refused { IsRefused result (R.refusals rec.old) (R.refusals rec.new) }
     ensures refusals { R.refusals rec.old ≤ R.refusals rec.new }
     ensures no_record { R.keeps ≡ false → result ≢ Step.Memory }
-    ensures walks { IsReady (P.conditions prop.old) walker.old found → GoesOnAs (P.conditions prop.old) budget walker.old result walker.new }
+    ensures walks { IsReady (P.conditions prop.old) walker.old found
+        → GoesOnAs (P.conditions prop.old) budget walker.old result walker.new }
 {
     if found {
         return Step::Ended;
@@ -126,7 +129,8 @@ pub fn go_on<const K: usize, P: Propagate<K>, R: Recorder>(
     ensures refused { IsRefused result (R.refusals rec.old) (R.refusals rec.new) }
     ensures refusals { R.refusals rec.old ≤ R.refusals rec.new }
     ensures no_record { R.keeps ≡ false → result ≢ Step.Memory }
-    ensures walks { IsReady (P.conditions prop.old) walker.old found → GoesOnAs (P.conditions prop.old) budget walker.old result walker.new }
+    ensures walks { IsReady (P.conditions prop.old) walker.old found
+        → GoesOnAs (P.conditions prop.old) budget walker.old result walker.new }
 {
     if walker.is_bare() {
         return walk_empty(prop, rec, walker, budget, found);

@@ -127,14 +127,16 @@ impl<const K: usize> Walker<K> {
         ensures conditions { P.conditions prop.new ≡ P.conditions prop.old }
         ensures number { P.objects prop.new ≡ P.objects prop.old }
         ensures events { R.keeps ≡ true → Continues (R.list rec.old) (R.list rec.new) }
-        ensures refused { OnErr result (min (R.refusals rec.old + 1) (2 ^ 64 - 1) ≤ R.refusals rec.new) }
+        ensures refused { OnErr result
+            (min (R.refusals rec.old + 1) (2 ^ 64 - 1) ≤ R.refusals rec.new) }
         ensures refusals { R.refusals rec.old ≤ R.refusals rec.new }
         ensures no_record { R.keeps ≡ false → IsOk result }
     {
         prop.settle(&mut self.trail, rec)
     }
 
-    /// Records the two cases of a variable: its first value, and the later ones. Where there are none, nothing is recorded.
+    /// Records the two cases of a variable: its first value, and the later ones. Where there are
+    /// none, nothing is recorded.
     pub fn record_split<R: Recorder>(
         &self,
         rec: &mut R,
@@ -146,7 +148,8 @@ impl<const K: usize> Walker<K> {
         requires dimension { HasDimension K (variable_of x) }
         requires fits { IsValueOf (variable_of x) u }
         ensures events { R.keeps ≡ true → Continues (R.list rec.old) (R.list rec.new) }
-        ensures refused { OnErr result (min (R.refusals rec.old + 1) (2 ^ 64 - 1) ≤ R.refusals rec.new) }
+        ensures refused { OnErr result
+            (min (R.refusals rec.old + 1) (2 ^ 64 - 1) ≤ R.refusals rec.new) }
         ensures refusals { R.refusals rec.old ≤ R.refusals rec.new }
         ensures no_record { R.keeps ≡ false → IsOk result }
     {
@@ -183,7 +186,8 @@ impl<const K: usize> Walker<K> {
     pub fn variable(&self) -> Variable
         requires k { K ≤ MAX_DIMS }
         requires number { depth self.now < length self.now.variables }
-        ensures { get_or self.now.variables (depth self.now) (variable_of result) ≡ variable_of result }
+        ensures { get_or self.now.variables (depth self.now) (variable_of result)
+            ≡ variable_of result }
     {
         self.variables[self.trail.depth()]
     }
@@ -198,9 +202,11 @@ impl<const K: usize> Walker<K> {
         requires number { depth self.old < length self.old.values }
         requires first { IsFirstValue self.old.trail.state (variable_of x) u }
         requires count { self.old.walked < 2 ^ 64 - 1 }
-        ensures narrows { Narrows self.old.trail.state self.new.trail.state (λ T. IsFixed T (variable_of x) u) }
+        ensures narrows { Narrows self.old.trail.state self.new.trail.state
+            (λ T. IsFixed T (variable_of x) u) }
         ensures levels { self.new.trail.levels ≡ self.old.trail.levels }
-        ensures restores { self.new.trail.restores ≡ self.old.trail.restores ++ self.old.trail.state ∷ [] }
+        ensures restores { self.new.trail.restores
+            ≡ self.old.trail.restores ++ self.old.trail.state ∷ [] }
         ensures values { self.new.values ≡ slice_set self.old.values (depth self.old) u }
         ensures same { SameWalk self.old self.new }
         ensures along { self.new.along ≡ self.old.along }
@@ -258,7 +264,8 @@ impl<const K: usize> Walker<K> {
         requires k { K ≤ MAX_DIMS }
         requires well { IsWell K self.old }
         requires number { depth self.old < length self.old.variables }
-        requires variable { get_or self.old.variables (depth self.old) (variable_of x) ≡ variable_of x }
+        requires variable { get_or self.old.variables (depth self.old) (variable_of x)
+            ≡ variable_of x }
         requires full { HasNoEmpty self.old.trail.state }
         requires first { IsFirstValue self.old.trail.state (variable_of x) u }
         requires fits { IsValueOf (variable_of x) u }
@@ -268,7 +275,8 @@ impl<const K: usize> Walker<K> {
         ensures walked { self.new.walked ≡ self.old.walked + 1 }
         ensures path { path self.new ≡ path self.old ++ u ∷ [] }
         ensures depth { depth self.new ≡ depth self.old + 1 }
-        ensures searches { (cs : List Cond) (w : List (List ℤ)) → Rests cs self.old w → Searches cs self.new (w ++ (path self.old ++ u ∷ []) ∷ []) }
+        ensures searches { (cs : List Cond) (w : List (List ℤ)) → Rests cs self.old w
+            → Searches cs self.new (w ++ (path self.old ++ u ∷ []) ∷ []) }
     {
         let stay = self.along_bound(u);
         self.enter(x, u);
@@ -278,7 +286,8 @@ impl<const K: usize> Walker<K> {
         }
     }
 
-    /// Closes a level. Where its variable has a later value it goes past the level's; false where it has none.
+    /// Closes a level. Where its variable has a later value it goes past the level's; false where
+    /// it has none.
     fn leave(&mut self) -> bool
         requires k { K ≤ MAX_DIMS }
         requires well { IsWell K self.old }
@@ -310,8 +319,10 @@ impl<const K: usize> Walker<K> {
         ensures walked { self.new.walked ≡ self.old.walked }
         ensures depth { IsTrue result → depth self.new < depth self.old }
         ensures none { (result ≡ false) → depth self.new ≡ 0 }
-        ensures searches { IsTrue result → (cs : List Cond) (w : List (List ℤ)) → IsStuck cs self.old w → Searches cs self.new w }
-        ensures stuck { (result ≡ false) → (cs : List Cond) (w : List (List ℤ)) → IsStuck cs self.old w → IsStuck cs self.new w }
+        ensures searches { IsTrue result → (cs : List Cond) (w : List (List ℤ))
+            → IsStuck cs self.old w → Searches cs self.new w }
+        ensures stuck { (result ≡ false) → (cs : List Cond) (w : List (List ℤ))
+            → IsStuck cs self.old w → IsStuck cs self.new w }
     {
         while self.depth() > 0 {
             if self.leave() {
@@ -367,7 +378,8 @@ impl<const K: usize> Walker<K> {
         }
     }
 
-    /// The number of the variable that is the place of the object, or its coordinate in that dimension.
+    /// The number of the variable that is the place of the object, or its coordinate in that
+    /// dimension.
     fn number_of(&self, o: ObjId, d: Option<usize>) -> usize
         requires k { K ≤ MAX_DIMS }
         requires named { HasOne (IsAt o.0 d) self.now.variables }
@@ -387,7 +399,9 @@ impl<const K: usize> Walker<K> {
         requires k { K ≤ MAX_DIMS }
         requires well { IsWell K self.now }
         requires named { HasOne (IsAt o.0 None) self.now.variables }
-        ensures { (i : ℕ) × (i < length self.now.variables) × ((x : Seen) → IsAt o.0 None (get_or self.now.variables i x)) × (pos result ≡ get_or self.now.values i (pos 0)) }
+        ensures { (i : ℕ) × (i < length self.now.variables)
+            × ((x : Seen) → IsAt o.0 None (get_or self.now.variables i x))
+            × (pos result ≡ get_or self.now.values i (pos 0)) }
     {
         let i = self.number_of(o, None);
         place_of(self.values[i])
@@ -398,7 +412,9 @@ impl<const K: usize> Walker<K> {
         requires k { K ≤ MAX_DIMS }
         requires well { IsWell K self.now }
         requires named { HasOne (IsAt o.0 (Some d)) self.now.variables }
-        ensures { (i : ℕ) × (i < length self.now.variables) × ((x : Seen) → IsAt o.0 (Some d) (get_or self.now.variables i x)) × (result ≡ get_or self.now.values i (pos 0)) }
+        ensures { (i : ℕ) × (i < length self.now.variables)
+            × ((x : Seen) → IsAt o.0 (Some d) (get_or self.now.variables i x))
+            × (result ≡ get_or self.now.values i (pos 0)) }
     {
         let i = self.number_of(o, Some(d));
         self.values[i]

@@ -1,4 +1,4 @@
-use Rattle.std.proofs.Common.{◌≡◌, ◌<◌, ◌≤ℤ◌, ◌<ℤ◌, ap, sym, ◌∙◌, subst, arith, ℤ}
+use Rattle.std.proofs.Common.{◌≡◌, ap, sym, ◌∙◌, subst, arith, ℤ}
 use Rattle.std.proofs.lemmas.Int.{ints}
 use Rattle.std.proofs.lemmas.Bool.{false≢true}
 use Rattle.geo_base.specs.Boxes.{coordinate}
@@ -27,8 +27,8 @@ returns-then-not-end_supported g c =
     let ha : c.get-high.result ≡ high S o d = c.get-high.ensures ∙ ap (λ (x : Region). coordinate x.hi d) c.region-region.ensures.value in
     let v = kept64 c.get-low.result c.get-low.type_inv ∙ la in
     hopeless_low c.args.cs.now S o d c.requires.object (omega (arith, lo_long g.row.K S o c.objects-objects.ensures.shape c.requires.object, c.requires.dimension))
-      (λ y. false≢true (sym c.if-not-end_supported.true ∙ c.end_supported.ensures.1 (subst (λ (z : ℤ). HasEnd c.args.cs.now S o d z) (sym v) y)))
-      (omega (arith, ints, c.if-low-high.false, la, ha))
+    (λ y. false≢true (sym c.if-not-end_supported.true ∙ c.end_supported.ensures.1 (subst (λ (z : ℤ). HasEnd c.args.cs.now S o d z) (sym v) y)))
+    (omega (arith, ints, c.if-low-high.false, la, ha))
 
 pub returns-then-low-high-2 : goal.returns-then-low-high-2
 returns-then-low-high-2 g c =
@@ -53,8 +53,7 @@ returns g c =
     let la : c.get-low.result ≡ low S o d = c.get-low.ensures ∙ ap (λ (x : Region). coordinate x.lo d) c.region-region.ensures.value in
     let ha : c.get-high.result ≡ high S o d = c.get-high.ensures ∙ ap (λ (x : Region). coordinate x.hi d) c.region-region.ensures.value in
     let v = kept64 c.get-low.result c.get-low.type_inv ∙ la in
-    let w = kept64 c.get-high.result c.get-high.type_inv ∙ ha in
-    (
+    let w = kept64 c.get-high.result c.get-high.type_inv ∙ ha in (
       omega (arith, ints, c.if-high-low.false, la, ha),
       subst (λ (z : ℤ). HasEnd c.args.cs.now S o d z) v (c.end_supported.ensures.0 c.if-not-end_supported.false),
       subst (λ (z : ℤ). HasEnd c.args.cs.now S o d z) w (c.end_supported-2.ensures.0 c.if-not-end_supported-2.false),

@@ -1,6 +1,5 @@
-use Rattle.std.proofs.Common.{◌≡◌, ◌<◌, sym, ◌∙◌, subst, arith, length, Option}
+use Rattle.std.proofs.Common.{sym, ◌∙◌, subst, arith, Option}
 use Rattle.std.specs.Prelude.{MatchOption}
-use Rattle.geo_conditions.specs.Reach.{reach, dims}
 use Rattle.fixpoint.specs.declared.defects.Defect.{Defect}
 use Rattle.fixpoint.specs.Defects.{PlacesFine, EndsFine, IsDefect}
 use Rattle.geo_state.proofs.Shapes.{lo_long, hi_long}
@@ -15,8 +14,7 @@ returns g c =
     let S = c.args.s.now in
     let o = c.args.o.0 in
     let p = subst (λ (a : Option Defect). MatchOption a (PlacesFine c.args.cs.now S o) (IsDefect c.args.cs.now S)) c.in_default.is c.place_defect.ensures in
-    let l = lo_long g.row.K S o c.objects-objects.ensures.shape c.requires.object in
-    (
+    let l = lo_long g.row.K S o c.objects-objects.ensures.shape c.requires.object in (
       p,
       (λ d b. c.loop-d.invariant d (omega (arith, b, l, c.loop-d-test.false))),
       l ∙ sym (hi_long g.row.K S o c.objects-objects.ensures.shape c.requires.object),

@@ -1,8 +1,7 @@
-use Rattle.std.proofs.Common.{◌≡◌, ◌<◌, ◌+◌, Bool, refl, sym, ap, ◌∙◌, subst, arith, length}
+use Rattle.std.proofs.Common.{◌≡◌, ◌+◌, Bool, ap, ◌∙◌, subst, arith, length}
 use Rattle.geo_conditions.specs.Reach.{State}
 use Rattle.geo_conditions.proofs.Points.{inside_self}
 use Rattle.fixpoint.specs.declared.mending.Outcome.{Outcome}
-use Rattle.fixpoint.specs.declared.mending.Outcome.TheVariants.{Changed, Fine}
 use Rattle.geo_conditions.specs.Supported.{NoneInside, NoneRefuted}
 use Rattle.fixpoint.specs.Passes.{Repairs}
 use Rattle.fixpoint.proofs.Finding.{hopeless_refuted, all_supported}
@@ -13,8 +12,7 @@ use Rattle.fixpoint.proofs.mending.pass.Goals.{in-Changed, in-Fine}
 
 pub returns-then-not-none_refuted-clause-passes : goal.returns-then-not-none_refuted-clause-passes
 returns-then-not-none_refuted-clause-passes g c =
-    let cs = c.args.cs.now in
-    (
+    let cs = c.args.cs.now in (
       subst (NoneInside cs) c.state.ensures.value (hopeless_refuted cs c.state.result.now c.none_refuted.result c.if-not-none_refuted.true c.none_refuted.ensures),
       inside_self c.args.t.now.state,
     )
@@ -41,6 +39,8 @@ returns-else-changed-clause-passes g c =
     let i = c.loop-o.invariant in
     let same : c.loop-o.t.state ≡ S = subst (λ (b : Bool). Unless b cs S c.loop-o.t.state) c.if-changed.false i.1 in
     let fine : FineBelow c.loop-o.changed cs S c.loop-o.o = subst (λ (T : State). FineBelow c.loop-o.changed cs T c.loop-o.o) same i.2 in
-    let all = subst (λ (b : Bool). FineBelow b cs S c.loop-o.o) c.if-changed.false fine in
-    (same, all_supported cs S (subst (NoneRefuted cs) c.state.ensures.value (c.none_refuted.ensures.0 c.if-not-none_refuted.false))
-      (λ o h. all o (omega (arith, h, c.objects-objects.ensures.number, ap length c.state-2.ensures.value, c.loop-o-test.false))))
+    let all = subst (λ (b : Bool). FineBelow b cs S c.loop-o.o) c.if-changed.false fine in (
+      same,
+      all_supported cs S (subst (NoneRefuted cs) c.state.ensures.value (c.none_refuted.ensures.0 c.if-not-none_refuted.false))
+          (λ o h. all o (omega (arith, h, c.objects-objects.ensures.number, ap length c.state-2.ensures.value, c.loop-o-test.false))),
+    )

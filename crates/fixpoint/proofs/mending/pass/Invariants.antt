@@ -1,5 +1,4 @@
-use Rattle.std.proofs.Common.{◌≡◌, ◌<◌, ◌≤◌, ℕ, length}
-use Rattle.std.specs.List.{All}
+use Rattle.std.proofs.Common.{◌≡◌}
 use Rattle.fixpoint.proofs.Narrowed.{Going, Unless, FineBelow}
 use Rattle.fixpoint.proofs.mending.pass.Given as goal
 

@@ -1,4 +1,4 @@
-use Rattle.std.proofs.Common.{◌≡◌, Bool, refl, sym, ap, ◌∙◌, subst, Option}
+use Rattle.std.proofs.Common.{◌≡◌, Bool, ◌∙◌, subst, Option}
 use Rattle.std.specs.Prelude.{MatchOption}
 use Rattle.geo_conditions.specs.Reach.{State}
 use Rattle.fixpoint.specs.declared.defects.Defect.{Defect}
@@ -9,8 +9,7 @@ use Rattle.fixpoint.proofs.mending.repair.Goals as goal
 pub loop-defect-preserved : goal.loop-defect-preserved
 loop-defect-preserved g c =
     let i = c.loop-defect.invariant in
-    let m : Mended c.args.cs.now c.loop-defect.t.state c.mend.new.t.state = c.mend.ensures.mended c.if-not-mend.false in
-    (
+    let m : Mended c.args.cs.now c.loop-defect.t.state c.mend.new.t.state = c.mend.ensures.mended c.if-not-mend.false in (
       going_on c.args.cs.now c.args.t.now.state c.loop-defect.t.state c.mend.new.t.state i.0 m.0,
       unless_on c.loop-defect.changed c.args.cs.now c.args.t.now.state c.loop-defect.t.state c.mend.new.t.state i.1 m,
       c.mend.ensures.levels.0 ∙ i.2,

@@ -24,7 +24,7 @@ returns-then-has g t c =
     let p = c.args.p.coordinates in
     let w : length p ≡ g.row.K = search rules in
     whole_in c.args.cs.now c.args.s.now c.args.o.0 c.args.place b (region_of c.new.result) p g.row.K c.args.d c.none_refuted_at.result c.if-d.true w
-      ((box_test b p g.row.K c.has.result w c.requires.lows c.requires.highs c.has.ensures).0 c.if-has.true) (ap (λ (q : Point g.row.K). q.coordinates) c.new.ensures.lo) (ap (λ (q : Point g.row.K). q.coordinates) c.new.ensures.hi) c.none_refuted_at.ensures
+    ((box_test b p g.row.K c.has.result w c.requires.lows c.requires.highs c.has.ensures).0 c.if-has.true) (ap (λ (q : Point g.row.K). q.coordinates) c.new.ensures.lo) (ap (λ (q : Point g.row.K). q.coordinates) c.new.ensures.hi) c.none_refuted_at.ensures
 
 pub returns-else-d : goal.returns-else-d
 returns-else-d g t c =

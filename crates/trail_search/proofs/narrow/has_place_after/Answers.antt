@@ -20,8 +20,7 @@ loop-place-preserved g c =
 
 pub returns : goal.returns
 returns g c =
-    let none : NoneAfter c.args.s.now c.args.o.0 c.args.v c.loop-place.place = subst (λ (z : ℤ). NoneAfter c.args.s.now c.args.o.0 z c.loop-place.place) (kept64 c.args.v c.ranges.v.sfits) c.loop-place.invariant in
-    (
+    let none : NoneAfter c.args.s.now c.args.o.0 c.args.v c.loop-place.place = subst (λ (z : ℤ). NoneAfter c.args.s.now c.args.o.0 z c.loop-place.place) (kept64 c.args.v c.ranges.v.sfits) c.loop-place.invariant in (
       λ t. absurd (false≢true t),
       λ y. absurd (none_after_end c.args.s.now c.args.o.0 c.loop-place.place c.args.v none (omega (arith, c.loop-place-test.false)) c.region-region.ensures.places y),
     )

@@ -18,7 +18,7 @@ returns-then-v-low-clause-narrows g c =
     let ha = kept64 c.get-high.result c.get-high.type_inv ∙ c.get-high.ensures ∙ ap (λ (x : Region). coordinate x.hi d) c.region-region.ensures.value ∙ ap (λ (T : State). high T o d) e in
     let v = kept64 c.args.v c.ranges.v.sfits in
     bound_none S c.shed.new.t.state o _ (places_long g.row.K S o shape c.requires.object) c.requires.object c.shed.ensures.sheds
-      (none_down S o d c.args.v c.requires.object (omega (arith, ints, c.if-v-low.true, la, ha, v)))
+    (none_down S o d c.args.v c.requires.object (omega (arith, ints, c.if-v-low.true, la, ha, v)))
 
 pub returns-then-v-high-clause-narrows : goal.returns-then-v-high-clause-narrows
 returns-then-v-high-clause-narrows g c =
@@ -31,7 +31,7 @@ returns-then-v-high-clause-narrows g c =
     let ha = kept64 c.get-high.result c.get-high.type_inv ∙ c.get-high.ensures ∙ ap (λ (x : Region). coordinate x.hi d) c.region-region.ensures.value ∙ ap (λ (T : State). high T o d) e in
     let v = kept64 c.args.v c.ranges.v.sfits in
     bound_down S c.set_high.new.self.state o d c.args.v c.requires.object (omega (arith, hi_long g.row.K S o shape c.requires.object, c.requires.dimension))
-      (omega (arith, ints, c.if-v-high.true, la, ha, v)) (c.set_high.ensures.state ∙ ap (λ (z : ℤ). set S o (with_high (reach S o) d z)) v)
+    (omega (arith, ints, c.if-v-high.true, la, ha, v)) (c.set_high.ensures.state ∙ ap (λ (z : ℤ). set S o (with_high (reach S o) d z)) v)
 
 pub returns-else-v-high-clause-narrows : goal.returns-else-v-high-clause-narrows
 returns-else-v-high-clause-narrows g c =

@@ -18,7 +18,7 @@ returns-then-high-v-clause-narrows g c =
     let ha = kept64 c.get-high.result c.get-high.type_inv ∙ c.get-high.ensures ∙ ap (λ (x : Region). coordinate x.hi d) c.region-region.ensures.value ∙ ap (λ (T : State). high T o d) e in
     let v = kept64 c.args.v c.ranges.v.sfits in
     bound_none S c.shed.new.t.state o _ (places_long g.row.K S o shape c.requires.object) c.requires.object c.shed.ensures.sheds
-      (none_up S o d c.args.v c.requires.object (omega (arith, ints, c.if-high-v.true, la, ha, v)))
+    (none_up S o d c.args.v c.requires.object (omega (arith, ints, c.if-high-v.true, la, ha, v)))
 
 pub returns-then-low-v-clause-narrows : goal.returns-then-low-v-clause-narrows
 returns-then-low-v-clause-narrows g c =
@@ -31,7 +31,7 @@ returns-then-low-v-clause-narrows g c =
     let ha = kept64 c.get-high.result c.get-high.type_inv ∙ c.get-high.ensures ∙ ap (λ (x : Region). coordinate x.hi d) c.region-region.ensures.value ∙ ap (λ (T : State). high T o d) e in
     let v = kept64 c.args.v c.ranges.v.sfits in
     bound_up S c.set_low.new.self.state o d c.args.v c.requires.object (omega (arith, lo_long g.row.K S o shape c.requires.object, c.requires.dimension))
-      (omega (arith, ints, c.if-low-v.true, la, ha, v)) (c.set_low.ensures.state ∙ ap (λ (z : ℤ). set S o (with_low (reach S o) d z)) v)
+    (omega (arith, ints, c.if-low-v.true, la, ha, v)) (c.set_low.ensures.state ∙ ap (λ (z : ℤ). set S o (with_low (reach S o) d z)) v)
 
 pub returns-else-low-v-clause-narrows : goal.returns-else-low-v-clause-narrows
 returns-else-low-v-clause-narrows g c =

@@ -34,5 +34,5 @@ returns-clause-well g c =
     let t = c.in_ok-trail.ensures in
     let e = ap (map variable_of) c.deref.ensures.value ∙ c.in_ok-variables.ensures in
     started_well g.row.K c.args.order.now _ _ c.objects-objects.ensures.shape c.requires.small c.requires.order c.requires.token c.in_ok-variables.ensures
-      (c.in_ok-token.ensures ∙ ap (λ (xs : List Seen). option_map (values xs) (option_copied c.args.after)) e) (t.state ∙ c.in_ok-copy.ensures) (omega (arith, t.levels, c.len-2.ensures, n)) t.restores
-      (omega (arith, c.in_ok-values.ensures.length, c.len.ensures, n)) c.in_ok-values.ensures.zero
+    (c.in_ok-token.ensures ∙ ap (λ (xs : List Seen). option_map (values xs) (option_copied c.args.after)) e) (t.state ∙ c.in_ok-copy.ensures) (omega (arith, t.levels, c.len-2.ensures, n)) t.restores
+    (omega (arith, c.in_ok-values.ensures.length, c.len.ensures, n)) c.in_ok-values.ensures.zero

@@ -11,7 +11,7 @@ returns-then-not-retreat-clause-walks g c = λ r.
     let cs = g.P.Propagate.conditions c.args.prop.now in
     let p = c.args.walker.now in
     resumed_ended g.row.K cs c.args.budget p c.retreat.new.self c.requires.well (λ e. false≢true (sym c.if-is_bare.false ∙ c.is_bare.ensures.1 e)) c.requires.count c.retreat.ensures.well c.retreat.ensures.same c.retreat.ensures.walked
-      (c.retreat.ensures.none c.if-not-retreat.true) (c.retreat.ensures.stuck c.if-not-retreat.true) (subst (IsReady cs p) c.if-found.true r)
+    (c.retreat.ensures.none c.if-not-retreat.true) (c.retreat.ensures.stuck c.if-not-retreat.true) (subst (IsReady cs p) c.if-found.true r)
 
 pub returns-clause-walks : goal.returns-clause-walks
 returns-clause-walks g c = λ r.

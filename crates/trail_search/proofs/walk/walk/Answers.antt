@@ -30,8 +30,7 @@ pub loop-walker-preserved-else-not-retreat : goal.loop-walker-preserved-else-not
 loop-walker-preserved-else-not-retreat g c =
     let i = c.loop-walker.invariant in
     let cs = g.P.Propagate.conditions c.args.prop.now in
-    let d = dead_as (g.P.Propagate.conditions c.loop-walker.prop) cs c.loop-walker.walker c.settle.new.self c.settle.result c.in-Ok-Dead.field-0 c.settle.ensures.settled c.in-Ok-Dead.is c.in-Ok-Dead.field-0-is i.1 in
-    (
+    let d = dead_as (g.P.Propagate.conditions c.loop-walker.prop) cs c.loop-walker.walker c.settle.new.self c.settle.result c.in-Ok-Dead.field-0 c.settle.ensures.settled c.in-Ok-Dead.is c.in-Ok-Dead.field-0-is i.1 in (
       loop_dead g.row.K cs c.args.budget c.args.walker.now c.loop-walker.walker c.settle.new.self c.retreat.new.self i.0 d c.settle.ensures.same c.settle.ensures.walked c.settle.ensures.depth c.retreat.ensures.well c.retreat.ensures.same c.retreat.ensures.walked (c.retreat.ensures.depth c.if-not-retreat.false) (c.retreat.ensures.searches c.if-not-retreat.false),
       c.settle.ensures.conditions ∙ i.1,
       c.settle.ensures.number ∙ i.2,
@@ -101,8 +100,7 @@ loop-walker-preserved g c =
     let s = c.settle.new.self in
     let r = c.descend.new.self in
     let cs = g.P.Propagate.conditions c.args.prop.now in
-    let d = kept_as (g.P.Propagate.conditions c.loop-walker.prop) cs c.loop-walker.walker s c.settle.result c.in-Ok-Kept.field-0 c.settle.ensures.settled c.in-Ok-Kept.is c.in-Ok-Kept.field-0-is i.1 in
-    (
+    let d = kept_as (g.P.Propagate.conditions c.loop-walker.prop) cs c.loop-walker.walker s c.settle.result c.in-Ok-Kept.field-0 c.settle.ensures.settled c.in-Ok-Kept.is c.in-Ok-Kept.field-0-is i.1 in (
       loop_visit g.row.K cs c.args.budget c.args.walker.now c.loop-walker.walker s r _ i.0 d c.settle.ensures.same c.settle.ensures.walked (λ e. c.if-count-budget.false (c.count.ensures ∙ e)) c.descend.ensures.well c.descend.ensures.same c.descend.ensures.walked c.descend.ensures.path (λ e. false≢true (sym c.if-is_full.false ∙ c.is_full.ensures.1 e)) c.descend.ensures.searches,
       c.settle.ensures.conditions ∙ i.1,
       c.settle.ensures.number ∙ i.2,

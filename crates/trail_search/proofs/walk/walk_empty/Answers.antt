@@ -28,7 +28,7 @@ returns-in-Ok-Dead-clause-walks g c = λ r.
     let cs = g.P.Propagate.conditions c.args.prop.now in
     let p = c.args.walker.now in
     bare_dead cs c.args.budget p c.settle.new.self c.requires.bare c.requires.count c.settle.ensures.walked (subst (IsReady cs p) c.if-found.false r)
-      (settled_dead cs p.trail.state c.settle.new.self.trail.state c.settle.result c.in-Ok-Dead.field-0 c.settle.ensures.state c.in-Ok-Dead.is c.in-Ok-Dead.field-0-is)
+    (settled_dead cs p.trail.state c.settle.new.self.trail.state c.settle.result c.in-Ok-Dead.field-0 c.settle.ensures.state c.in-Ok-Dead.is c.in-Ok-Dead.field-0-is)
 
 pub returns-then-count-budget-clause-walks : goal.returns-then-count-budget-clause-walks
 returns-then-count-budget-clause-walks g c = λ r.
@@ -37,7 +37,7 @@ returns-then-count-budget-clause-walks g c = λ r.
     let y = subst (IsReady cs p) c.if-found.false r in
     let s = settled_kept cs p.trail.state c.settle.new.self.trail.state c.settle.result c.in-Ok-Kept.field-0 c.settle.ensures.state c.in-Ok-Kept.is c.in-Ok-Kept.field-0-is in
     bare_budget cs c.args.budget p c.settle.new.self c.requires.bare (no_token p.token (λ n. false≢true (sym c.if-has_token.false ∙ c.has_token.ensures.1 n))) y
-      (bare_kept cs p c.settle.new.self.trail.state c.requires.bare c.requires.none y s) c.settle.ensures.walked (sym c.count.ensures ∙ c.if-count-budget.true)
+    (bare_kept cs p c.settle.new.self.trail.state c.requires.bare c.requires.none y s) c.settle.ensures.walked (sym c.count.ensures ∙ c.if-count-budget.true)
 
 pub returns-else-count-budget-clause-walks : goal.returns-else-count-budget-clause-walks
 returns-else-count-budget-clause-walks g c = λ r.
@@ -48,7 +48,7 @@ returns-else-count-budget-clause-walks g c = λ r.
     let y = subst (IsReady cs p) c.if-found.false r in
     let s = settled_kept cs p.trail.state c.settle.new.self.trail.state c.settle.result c.in-Ok-Kept.field-0 c.settle.ensures.state c.in-Ok-Kept.is c.in-Ok-Kept.field-0-is in
     bare_found g.row.K cs c.args.budget p c.visit_empty.new.self c.requires.bare (no_token p.token (λ n. false≢true (sym c.if-has_token.false ∙ c.has_token.ensures.1 n))) y
-      (bare_kept cs p c.settle.new.self.trail.state c.requires.bare c.requires.none y s) (same_trans p c.settle.new.self q c.settle.ensures.same c.visit_empty.ensures.same)
-      (well_settled g.row.K c.settle.new.self q c.settle.ensures.well c.visit_empty.ensures.same (ap (λ (t : Trail). t.levels) e) (ap (λ (t : Trail). t.restores) e) c.visit_empty.ensures.values (subst (λ (S : State). Inside S c.settle.new.self.trail.state) (sym (ap (λ (t : Trail). t.state) e)) (inside_self c.settle.new.self.trail.state)))
-      (c.visit_empty.ensures.walked ∙ ap (λ (m : ℕ). m + 1) c.settle.ensures.walked)
-      (omega (arith, c.requires.count, c.count.ensures, c.settle.ensures.walked, c.if-count-budget.false))
+    (bare_kept cs p c.settle.new.self.trail.state c.requires.bare c.requires.none y s) (same_trans p c.settle.new.self q c.settle.ensures.same c.visit_empty.ensures.same)
+    (well_settled g.row.K c.settle.new.self q c.settle.ensures.well c.visit_empty.ensures.same (ap (λ (t : Trail). t.levels) e) (ap (λ (t : Trail). t.restores) e) c.visit_empty.ensures.values (subst (λ (S : State). Inside S c.settle.new.self.trail.state) (sym (ap (λ (t : Trail). t.state) e)) (inside_self c.settle.new.self.trail.state)))
+    (c.visit_empty.ensures.walked ∙ ap (λ (m : ℕ). m + 1) c.settle.ensures.walked)
+    (omega (arith, c.requires.count, c.count.ensures, c.settle.ensures.walked, c.if-count-budget.false))

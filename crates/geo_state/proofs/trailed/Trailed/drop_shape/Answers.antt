@@ -1,4 +1,4 @@
-use Rattle.std.proofs.Common.{◌≡◌, ◌<◌, length, arith, ap, sym, ◌∙◌, subst}
+use Rattle.std.proofs.Common.{◌≡◌, ◌<◌, length, ap, sym, subst}
 use Rattle.geo_conditions.specs.Reach.{State}
 use Rattle.geo_state.specs.Trail.{Trail}
 use Rattle.geo_state.proofs.Trails.{trail_without}

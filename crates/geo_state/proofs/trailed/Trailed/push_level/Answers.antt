@@ -12,4 +12,4 @@ invariant_of-self g c =
     let restores : length (take p.depth p.saved.items) ≡ length c.args.self.now.restores = ap (λ (t : Trail). length t.restores) c.self.view_is in
     let room : p.depth < length p.saved.items = omega (arith, levels, restores, c.requires.room, length-take-le p.depth p.saved.items c.self.invariant.within) in
     subst (λ (T : State). IsTrail p.state (set p.saved.items p.depth T) (p.depth + 1)) (sym c.copy_from.ensures)
-      (trail_push p.state p.saved.items p.depth (p.depth + 1) c.self.invariant room (omega arith))
+    (trail_push p.state p.saved.items p.depth (p.depth + 1) c.self.invariant room (omega arith))

@@ -11,4 +11,4 @@ invariant_of-self g c =
     let o = c.args.o.0 in
     let e : c.args.self.now.state ≡ p.state = sym (ap (λ (t : Trail). t.state) c.self.view_is) in
     trail_low p.state c.set_low.new.self p.saved.items p.depth o c.args.d c.args.v c.self.invariant (subst (λ (S : State). o < length S) e c.requires.object) c.requires.small (subst (λ (S : State). low S o c.args.d ≤ℤ c.args.v) e c.requires.narrower)
-      (c.set_low.ensures ∙ ap (λ (z : ℤ). set p.state o (with_low (reach p.state o) c.args.d z)) (small_kept c.args.v c.requires.small))
+    (c.set_low.ensures ∙ ap (λ (z : ℤ). set p.state o (with_low (reach p.state o) c.args.d z)) (small_kept c.args.v c.requires.small))

@@ -1,4 +1,3 @@
-use Rattle.std.proofs.Common.{◌≡◌, arith, length}
 use Rattle.geo_state.proofs.Trails.{trail_start}
 use Rattle.geo_state.proofs.trailed.Trailed.start.Goals as goal
 

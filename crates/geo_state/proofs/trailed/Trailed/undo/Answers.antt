@@ -1,4 +1,4 @@
-use Rattle.std.proofs.Common.{◌≡◌, ◌-◌, suc, arith, ap, sym, ◌∙◌, subst, get_or, length, take}
+use Rattle.std.proofs.Common.{◌≡◌, ◌-◌, suc, arith, ap, sym, subst, length, take}
 use Rattle.std.proofs.lemmas.List.{length-take-le}
 use Rattle.geo_conditions.specs.Reach.{State, Inside}
 use Rattle.geo_state.specs.Trail.{Trail, IsTrail}
@@ -11,7 +11,7 @@ invariant_of-self g c =
     let restores : length (take p.depth p.saved.items) ≡ length c.args.self.now.restores = ap (λ (t : Trail). length t.restores) c.self.view_is in
     let deep : p.depth ≡ suc (p.depth - 1) = omega (arith, restores, c.requires.depth, length-take-le p.depth p.saved.items c.self.invariant.within) in
     subst (λ (T : State). IsTrail T p.saved.items (p.depth - 1)) (sym c.copy_from.ensures)
-      (trail_pop p.state c.index-level.result.now p.saved.items p.depth (p.depth - 1) c.self.invariant deep c.index-level.ensures).0
+    (trail_pop p.state c.index-level.result.now p.saved.items p.depth (p.depth - 1) c.self.invariant deep c.index-level.ensures).0
 
 pub returns-clause-shrunk : goal.returns-clause-shrunk
 returns-clause-shrunk g c =
@@ -19,5 +19,5 @@ returns-clause-shrunk g c =
     let restores : length (take p.depth p.saved.items) ≡ length c.args.self.now.restores = ap (λ (t : Trail). length t.restores) c.self.view_is in
     let deep : p.depth ≡ suc (p.depth - 1) = omega (arith, restores, c.requires.depth, length-take-le p.depth p.saved.items c.self.invariant.within) in
     subst (λ (T : State). Inside T c.copy_from.new.self) (ap (λ (t : Trail). t.state) c.self.view_is)
-      (subst (λ (T : State). Inside p.state T) (sym c.copy_from.ensures)
-        (trail_pop p.state c.index-level.result.now p.saved.items p.depth (p.depth - 1) c.self.invariant deep c.index-level.ensures).1)
+    (subst (λ (T : State). Inside p.state T) (sym c.copy_from.ensures)
+    (trail_pop p.state c.index-level.result.now p.saved.items p.depth (p.depth - 1) c.self.invariant deep c.index-level.ensures).1)

@@ -25,11 +25,16 @@ tighten-requires g c =
     let e = c.enter.new.self in
     let k = kept64 c.args.u c.ranges.u.sfits in
     let v = c.enter.ensures.values ∙ ap (set p.values (depth p)) k in
-    let t : StaysOn p c.args.u (Some c.in-Some.v) = subst (λ (z : ℤ). StaysOn p z (Some c.in-Some.v)) k (subst (StaysOn p _) c.in-Some.is c.along_bound-stay.ensures) in
-    (omega arith, (c.requires.k, (
-      well_entered g.row.K p e (variable_of c.args.x) c.args.u c.requires.well c.requires.number c.requires.variable c.requires.fits c.enter.ensures.same c.enter.ensures.levels c.enter.ensures.restores v c.enter.ensures.narrows.inside,
-      omega (arith, depth_entered p e c.enter.ensures.restores, t.4, ap length c.enter.ensures.same.variables),
-    )))
+    let t : StaysOn p c.args.u (Some c.in-Some.v) = subst (λ (z : ℤ). StaysOn p z (Some c.in-Some.v)) k (subst (StaysOn p _) c.in-Some.is c.along_bound-stay.ensures) in (
+      omega arith,
+      (
+        c.requires.k,
+        (
+          well_entered g.row.K p e (variable_of c.args.x) c.args.u c.requires.well c.requires.number c.requires.variable c.requires.fits c.enter.ensures.same c.enter.ensures.levels c.enter.ensures.restores v c.enter.ensures.narrows.inside,
+          omega (arith, depth_entered p e c.enter.ensures.restores, t.4, ap length c.enter.ensures.same.variables),
+        ),
+      ),
+    )
 
 pub returns-in-Some-clause-well : goal.returns-in-Some-clause-well
 returns-in-Some-clause-well g c =

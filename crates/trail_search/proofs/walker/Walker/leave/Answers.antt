@@ -19,7 +19,7 @@ has_after-requires g c =
     let u = c.index-u.result.now in
     let r : p.trail.restores ≡ t.restores ++ t.state ∷ [] = sym (ap (λ (q : Position). q.trail.restores) c.self.view_is) ∙ c.undo.ensures.restored in
     let l : LeftAt g.row.K p t x u = left_at g.row.K p t c.self.inside.variables.items c.self.inside.values.items c.depth-depth.result c.index-x.result.now u c.requires.well r
-        (ap (λ (q : Position). q.variables) c.self.view_is) (ap (λ (q : Position). q.values) c.self.view_is) c.depth-depth.ensures.value c.index-x.ensures c.index-u.ensures in
+    (ap (λ (q : Position). q.variables) c.self.view_is) (ap (λ (q : Position). q.values) c.self.view_is) c.depth-depth.ensures.value c.index-x.ensures c.index-u.ensures in
     (omega arith, (c.requires.k, (subst (λ (S : State). object_of x < length S) (sym c.state.ensures.value) l.object, l.dimension)))
 
 pub after-requires : goal.after-requires
@@ -30,7 +30,7 @@ after-requires g c =
     let u = c.index-u.result.now in
     let r : p.trail.restores ≡ t.restores ++ t.state ∷ [] = sym (ap (λ (q : Position). q.trail.restores) c.self.view_is) ∙ c.undo.ensures.restored in
     let l : LeftAt g.row.K p t x u = left_at g.row.K p t c.self.inside.variables.items c.self.inside.values.items c.depth-depth.result c.index-x.result.now u c.requires.well r
-        (ap (λ (q : Position). q.variables) c.self.view_is) (ap (λ (q : Position). q.values) c.self.view_is) c.depth-depth.ensures.value c.index-x.ensures c.index-u.ensures in
+    (ap (λ (q : Position). q.variables) c.self.view_is) (ap (λ (q : Position). q.values) c.self.view_is) c.depth-depth.ensures.value c.index-x.ensures c.index-u.ensures in
     record { small = subst IsSmallNumber (sym (small_kept u l.small)) l.small }
 
 pub bound-requires : goal.bound-requires
@@ -41,7 +41,7 @@ bound-requires g c =
     let u = c.index-u.result.now in
     let r : p.trail.restores ≡ t.restores ++ t.state ∷ [] = sym (ap (λ (q : Position). q.trail.restores) c.self.view_is) ∙ c.undo.ensures.restored in
     let l : LeftAt g.row.K p t x u = left_at g.row.K p t c.self.inside.variables.items c.self.inside.values.items c.depth-depth.result c.index-x.result.now u c.requires.well r
-        (ap (λ (q : Position). q.variables) c.self.view_is) (ap (λ (q : Position). q.values) c.self.view_is) c.depth-depth.ensures.value c.index-x.ensures c.index-u.ensures in
+    (ap (λ (q : Position). q.variables) c.self.view_is) (ap (λ (q : Position). q.values) c.self.view_is) c.depth-depth.ensures.value c.index-x.ensures c.index-u.ensures in
     (omega arith, (c.requires.k, (l.object, l.dimension)))
 
 pub returns-then-not-has_after-clause-left : goal.returns-then-not-has_after-clause-left
@@ -52,14 +52,13 @@ returns-then-not-has_after-clause-left g c =
     let u = c.index-u.result.now in
     let r : p.trail.restores ≡ t.restores ++ t.state ∷ [] = sym (ap (λ (q : Position). q.trail.restores) c.self.view_is) ∙ c.undo.ensures.restored in
     let l : LeftAt g.row.K p t x u = left_at g.row.K p t c.self.inside.variables.items c.self.inside.values.items c.depth-depth.result c.index-x.result.now u c.requires.well r
-        (ap (λ (q : Position). q.variables) c.self.view_is) (ap (λ (q : Position). q.values) c.self.view_is) c.depth-depth.ensures.value c.index-x.ensures c.index-u.ensures in
-    let levels : t.levels ≡ p.trail.levels = c.undo.ensures.levels ∙ ap (λ (q : Position). q.trail.levels) c.self.view_is in
-    (
+    (ap (λ (q : Position). q.variables) c.self.view_is) (ap (λ (q : Position). q.values) c.self.view_is) c.depth-depth.ensures.value c.index-x.ensures c.index-u.ensures in
+    let levels : t.levels ≡ p.trail.levels = c.undo.ensures.levels ∙ ap (λ (q : Position). q.trail.levels) c.self.view_is in (
       x,
       after x u,
       record { restored = r; variable = l.variable; next = ap (after x) l.value; levels = levels },
       none_from t.state x u (after x u) l.object
-        (λ y. false≢true (sym c.if-not-has_after.true ∙ c.has_after.ensures.1 (subst (λ (z : ℤ). HasAfter c.state.result.now x z) (sym (small_kept u l.small)) (subst (λ (S : State). HasAfter S x u) (sym c.state.ensures.value) y)))) refl,
+          (λ y. false≢true (sym c.if-not-has_after.true ∙ c.has_after.ensures.1 (subst (λ (z : ℤ). HasAfter c.state.result.now x z) (sym (small_kept u l.small)) (subst (λ (S : State). HasAfter S x u) (sym c.state.ensures.value) y)))) refl,
     )
 
 pub returns-clause-left : goal.returns-clause-left
@@ -70,13 +69,12 @@ returns-clause-left g c =
     let u = c.index-u.result.now in
     let r : p.trail.restores ≡ t.restores ++ t.state ∷ [] = sym (ap (λ (q : Position). q.trail.restores) c.self.view_is) ∙ c.undo.ensures.restored in
     let l : LeftAt g.row.K p t x u = left_at g.row.K p t c.self.inside.variables.items c.self.inside.values.items c.depth-depth.result c.index-x.result.now u c.requires.well r
-        (ap (λ (q : Position). q.variables) c.self.view_is) (ap (λ (q : Position). q.values) c.self.view_is) c.depth-depth.ensures.value c.index-x.ensures c.index-u.ensures in
+    (ap (λ (q : Position). q.variables) c.self.view_is) (ap (λ (q : Position). q.values) c.self.view_is) c.depth-depth.ensures.value c.index-x.ensures c.index-u.ensures in
     let levels : t.levels ≡ p.trail.levels = c.undo.ensures.levels ∙ ap (λ (q : Position). q.trail.levels) c.self.view_is in
     let same : c.bound.new.t.restores ≡ t.restores = c.bound.ensures.restores in
     let n : length t.restores ≡ length c.bound.new.t.restores = ap length (sym same) in
     let v : c.after.result ≡ after x (get_or p.values (length c.bound.new.t.restores) (pos 0)) =
-        c.after.ensures ∙ ap (after x) (small_kept u l.small ∙ l.value ∙ ap (λ (i : ℕ). get_or p.values i (pos 0)) n) in
-    (
+    c.after.ensures ∙ ap (after x) (small_kept u l.small ∙ l.value ∙ ap (λ (i : ℕ). get_or p.values i (pos 0)) n) in (
       t.state,
       x,
       c.after.result,

@@ -26,8 +26,7 @@ loop-self-preserved g c =
     let p = c.loop-self.self in
     let r = c.leave.new.self in
     let l = subst (λ (b : Bool). Leaves b p r) c.if-leave.false c.leave.ensures.left in
-    let n : length p.trail.restores ≡ length (r.trail.restores ++ r.trail.state ∷ []) = ap length l.2.restored in
-    (
+    let n : length p.trail.restores ≡ length (r.trail.restores ++ r.trail.state ∷ []) = ap length l.2.restored in (
       well_left g.row.K p r r.trail.state l.0 l.1 o c.leave.ensures.same l.2 (inside_self r.trail.state) c.leave.ensures.values,
       same_trans c.args.self.now p r i.1 c.leave.ensures.same,
       c.leave.ensures.walked ∙ i.2,

@@ -20,7 +20,7 @@ returns-in-Some-clause-searches g c = λ cs.
     let y = c.tighten.ensures.tight.0 in
     let j : Narrows p.trail.state e.trail.state (λ T. IsFrom T y c.in-Some.v) = subst (λ (z : ℤ). Narrows p.trail.state e.trail.state (λ T. IsFrom T y z)) (kept64 c.in-Some.v (bound_fits c.in-Some.v f)) c.tighten.ensures.tight.2 in
     set_off_after g.row.K cs p r c.in-Some.v y c.requires.well c.requires.some c.requires.fresh b (same_trans p e r c.tighten.ensures.same c.follow.ensures.same) (ap (λ (t : Trail). t.restores) q ∙ c.tighten.ensures.restores) c.follow.ensures.along (c.follow.ensures.walked ∙ c.tighten.ensures.walked) c.tighten.ensures.tight.1
-      (subst (λ (S : State). Narrows p.trail.state S (λ T. IsFrom T y c.in-Some.v)) (sym (ap (λ (t : Trail). t.state) q)) j)
+    (subst (λ (S : State). Narrows p.trail.state S (λ T. IsFrom T y c.in-Some.v)) (sym (ap (λ (t : Trail). t.state) q)) j)
 
 pub returns-in_default-clause-searches : goal.returns-in_default-clause-searches
 returns-in_default-clause-searches g c = λ cs.

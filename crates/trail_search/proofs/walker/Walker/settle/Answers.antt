@@ -20,12 +20,12 @@ returns-clause-settled g c =
     let cs = g.P.Propagate.conditions c.args.prop.now in
     let h : SettlesOr cs p.trail.state c.settle.result c.settle.new.t.state = subst (λ (S : State). SettlesOr cs S c.settle.result c.settle.new.t.state) (ap (λ (q : Position). q.trail.state) c.self.view_is) c.settle.ensures.settles in
     settled_in cs p _ c.settle.result
-      (record { first = ap (λ (q : Position). q.first) c.self.view_is; variables = ap (λ (q : Position). q.variables) c.self.view_is; token = ap (λ (q : Position). q.token) c.self.view_is })
-      h
-      (c.settle.ensures.levels.1 ∙ ap (λ (q : Position). q.trail.restores) c.self.view_is)
-      (ap (λ (q : Position). q.values) c.self.view_is)
-      (ap (λ (q : Position). q.along) c.self.view_is)
-      (ap (λ (q : Position). q.walked) c.self.view_is)
+    (record { first = ap (λ (q : Position). q.first) c.self.view_is; variables = ap (λ (q : Position). q.variables) c.self.view_is; token = ap (λ (q : Position). q.token) c.self.view_is })
+    h
+    (c.settle.ensures.levels.1 ∙ ap (λ (q : Position). q.trail.restores) c.self.view_is)
+    (ap (λ (q : Position). q.values) c.self.view_is)
+    (ap (λ (q : Position). q.along) c.self.view_is)
+    (ap (λ (q : Position). q.walked) c.self.view_is)
 
 pub returns-clause-well : goal.returns-clause-well
 returns-clause-well g c =
@@ -33,8 +33,8 @@ returns-clause-well g c =
     let cs = g.P.Propagate.conditions c.args.prop.now in
     let h : SettlesOr cs p.trail.state c.settle.result c.settle.new.t.state = subst (λ (S : State). SettlesOr cs S c.settle.result c.settle.new.t.state) (ap (λ (q : Position). q.trail.state) c.self.view_is) c.settle.ensures.settles in
     well_settled g.row.K p _ c.requires.well
-      (record { first = ap (λ (q : Position). q.first) c.self.view_is; variables = ap (λ (q : Position). q.variables) c.self.view_is; token = ap (λ (q : Position). q.token) c.self.view_is })
-      (c.settle.ensures.levels.0 ∙ ap (λ (q : Position). q.trail.levels) c.self.view_is)
-      (c.settle.ensures.levels.1 ∙ ap (λ (q : Position). q.trail.restores) c.self.view_is)
-      (ap (λ (q : Position). q.values) c.self.view_is)
-      (settles_inside cs p.trail.state c.settle.new.t.state c.settle.result h)
+    (record { first = ap (λ (q : Position). q.first) c.self.view_is; variables = ap (λ (q : Position). q.variables) c.self.view_is; token = ap (λ (q : Position). q.token) c.self.view_is })
+    (c.settle.ensures.levels.0 ∙ ap (λ (q : Position). q.trail.levels) c.self.view_is)
+    (c.settle.ensures.levels.1 ∙ ap (λ (q : Position). q.trail.restores) c.self.view_is)
+    (ap (λ (q : Position). q.values) c.self.view_is)
+    (settles_inside cs p.trail.state c.settle.new.t.state c.settle.result h)

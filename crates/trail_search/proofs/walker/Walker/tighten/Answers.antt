@@ -19,10 +19,9 @@ bound-requires g c =
 pub returns-clause-tight : goal.returns-clause-tight
 returns-clause-tight g c =
     let p = c.args.self.now in
-    let s : c.self.inside.trail.state ≡ p.trail.state = ap (λ (q : Position). q.trail.state) c.self.view_is in
-    (
+    let s : c.self.inside.trail.state ≡ p.trail.state = ap (λ (q : Position). q.trail.state) c.self.view_is in (
       variable_of c.variable-x.result,
       c.variable-x.ensures,
       subst (λ (S : State). Narrows S c.bound.new.t.state (λ T. IsFrom T (variable_of c.variable-x.result) c.args.v)) s
-        (subst (λ (z : ℤ). Narrows c.self.inside.trail.state c.bound.new.t.state (λ T. IsFrom T (variable_of c.variable-x.result) z)) (kept64 c.args.v c.ranges.v.sfits) c.bound.ensures.narrows),
+          (subst (λ (z : ℤ). Narrows c.self.inside.trail.state c.bound.new.t.state (λ T. IsFrom T (variable_of c.variable-x.result) z)) (kept64 c.args.v c.ranges.v.sfits) c.bound.ensures.narrows),
     )
