@@ -1,0 +1,101 @@
+-- Finding a defect.
+use Rattle.std.proofs.Common.{◌≡◌, ℕ, zero, suc, ◌+◌, ◌<◌, ◌≤◌, Bool, true, false, List, length, refl, sym, ap, ◌∙◌, subst, inl, inr, ◌↔◌, IsTrue, arith, ℤ, pos, ◌≤ℤ◌, ◌<ℤ◌, ◌+ℤ◌, negsuc, set}
+use Rattle.std.proofs.lemmas.Int.{ints}
+use Rattle.std.proofs.lemmas.Bool.{cases_lt, cases_eq, false≢true}
+use Rattle.std.proofs.lemmas.List.{get_or_past, get_or-set_same}
+use Rattle.geo_conditions.specs.declared.cond.Cond.{Cond}
+use Rattle.geo_state.proofs.Shapes.{place_few}
+use Rattle.geo_conditions.specs.Reach.{State, Reach, reach, nowhere, has, low, high, dims, Inside}
+use Rattle.geo_base.specs.Boxes.{coordinate}
+use Rattle.geo_conditions.specs.Supported.{IsSupported, NoneInside, NoneRefuted}
+use Rattle.geo_conditions.proofs.Points.{unrefuted_wider}
+use Rattle.geo_conditions.proofs.Greatest.{raise_keeps, lower_keeps, raised, lowered}
+use Rattle.fixpoint.specs.Points.{HasSupport, HasEnd}
+use Rattle.fixpoint.specs.Defects.{PlacesFine, ObjectFine}
+
+pub hopeless_refuted : (cs : List Cond) (S : State) (t : Bool) → t ≡ false → (IsTrue t ↔ NoneRefuted cs S) → NoneInside cs S
+hopeless_refuted cs S t e h T s i = false≢true (sym e ∙ h.1 (unrefuted_wider cs T S i s.nonempty s.unrefuted))
+
+in_narrower : (T S : State) (o : ℕ) → Inside T S → o < length S → o < length T
+in_narrower T S o i h = omega (arith, i.objects, h)
+
+pub hopeless_range : (cs : List Cond) (S : State) (o d : ℕ) → o < length S → high S o d <ℤ low S o d → NoneInside cs S
+hopeless_range cs S o d h l T s i = let r = (s.nonempty o (in_narrower T S o i h)).ranges d in absurd (omega (arith, ints, l, r, (i.each o).lows d, (i.each o).highs d))
+
+pub hopeless_places : (cs : List Cond) (S : State) (o : ℕ) → o < length S → ((s : ℕ) → has S o s ≡ true → ⊥) → NoneInside cs S
+hopeless_places cs S o h none T s i = let p = (s.nonempty o (in_narrower T S o i h)).place in none p.0 ((i.each o).places p.0 p.1)
+
+-- an interval of one number whose end has no point
+pub hopeless_low : (cs : List Cond) (S : State) (o d : ℕ) → o < length S → d < dims S o → (HasEnd cs S o d (low S o d) → ⊥) → high S o d ≤ℤ low S o d → NoneInside cs S
+hopeless_low cs S o d h k n l T s i =
+    let j = (raise_keeps cs S o d h k n).all T s i in
+    let r = (s.nonempty o (in_narrower T S o i h)).ranges d in
+    let e : coordinate (reach (set S o (raised (reach S o) d)) o).region.lo d ≡ low S o d +ℤ pos 1 =
+    ap (λ (q : Reach). coordinate q.region.lo d) (get_or-set_same S o (raised (reach S o) d) nowhere h) ∙ get_or-set_same (reach S o).region.lo d (low S o d +ℤ pos 1) (pos 0) k in
+    let m : (low S o d +ℤ pos 1) ≤ℤ low T o d = subst (λ (z : ℤ). z ≤ℤ low T o d) e ((j.each o).lows d) in
+    absurd (omega (arith, ints, m, r, l, (i.each o).highs d))
+
+pub hopeless_high : (cs : List Cond) (S : State) (o d : ℕ) → o < length S → d < dims S o → d < length (reach S o).region.hi → (HasEnd cs S o d (high S o d) → ⊥) → high S o d ≤ℤ low S o d → NoneInside cs S
+hopeless_high cs S o d h k kh n l T s i =
+    let j = (lower_keeps cs S o d h k n).all T s i in
+    let r = (s.nonempty o (in_narrower T S o i h)).ranges d in
+    let e : coordinate (reach (set S o (lowered (reach S o) d)) o).region.hi d ≡ high S o d +ℤ negsuc 0 =
+    ap (λ (q : Reach). coordinate q.region.hi d) (get_or-set_same S o (lowered (reach S o) d) nowhere h) ∙ get_or-set_same (reach S o).region.hi d (high S o d +ℤ negsuc 0) (pos 0) kh in
+    let m : high T o d ≤ℤ (high S o d +ℤ negsuc 0) = subst (λ (z : ℤ). high T o d ≤ℤ z) e ((j.each o).highs d) in
+    absurd (omega (arith, ints, m, r, l, (i.each o).lows d))
+
+-- the places before the next one are fine, and one of them is there where it says so
+pub record PlacesUpTo (cs : List Cond) (S : State) (o : ℕ) (any : Bool) (n : ℕ) : Type 0 where
+  pub fine : (s : ℕ) → s < n → has S o s ≡ true → HasSupport cs S o s
+  pub some : any ≡ true → (s : ℕ) × (has S o s ≡ true)
+  pub none : any ≡ false → (s : ℕ) → s < n → has S o s ≡ true → ⊥
+
+pub places_start : (cs : List Cond) (S : State) (o : ℕ) → PlacesUpTo cs S o false 1
+places_start cs S o = record {
+  fine = λ s h t. absurd (zero_place s h t);
+  some = λ e. absurd (false≢true e);
+  none = λ e s h t. zero_place s h t;
+}
+  where
+    zero_place : (s : ℕ) → s < 1 → has S o s ≡ true → ⊥
+    zero_place zero h t = false≢true t
+    zero_place (suc s) h t = absurd (omega arith)
+
+pub places_there : (cs : List Cond) (S : State) (o n : ℕ) (any : Bool) → PlacesUpTo cs S o any n → has S o n ≡ true → HasSupport cs S o n → PlacesUpTo cs S o true (n + 1)
+places_there cs S o n any p t y = record {
+  fine = λ s h u. elim (cases_eq s n) [ inl e ↦ subst (HasSupport cs S o) (sym e) y | inr ne ↦ p.fine s (omega arith) u ];
+  some = λ e. (n, t);
+  none = λ e. absurd (false≢true (sym e));
+}
+
+pub places_absent : (cs : List Cond) (S : State) (o n : ℕ) (any : Bool) → PlacesUpTo cs S o any n → has S o n ≡ false → PlacesUpTo cs S o any (n + 1)
+places_absent cs S o n any p f = record {
+  fine = λ s h u. elim (cases_eq s n) [ inl e ↦ absurd (false≢true (sym f ∙ subst (λ (z : ℕ). has S o z ≡ true) e u)) | inr ne ↦ p.fine s (omega arith) u ];
+  some = p.some;
+  none = λ e s h u. elim (cases_eq s n) [ inl q ↦ false≢true (sym f ∙ subst (λ (z : ℕ). has S o z ≡ true) q u) | inr ne ↦ p.none e s (omega arith) u ];
+}
+
+pub places_end : (cs : List Cond) (S : State) (o n : ℕ) → length (reach S o).places ≡ 16 → 17 ≤ n → PlacesUpTo cs S o true n → PlacesFine cs S o
+places_end cs S o n e h p = (p.some refl, λ s t. p.fine s (omega (arith, place_few (reach S o).places s t, e, h)) t)
+
+pub places_hopeless : (cs : List Cond) (S : State) (o n : ℕ) → o < length S → length (reach S o).places ≡ 16 → 17 ≤ n → PlacesUpTo cs S o false n → NoneInside cs S
+places_hopeless cs S o n b e h p = hopeless_places cs S o b (λ s t. p.none refl s (omega (arith, place_few (reach S o).places s t, e, h)) t)
+
+-- all objects fine: the state is supported
+pub all_supported : (cs : List Cond) (S : State) → NoneRefuted cs S → ((o : ℕ) → o < length S → ObjectFine cs S o) → IsSupported cs S
+all_supported cs S u f = record {
+  nonempty = λ o h. record {
+    place = (f o h).0.0;
+    ranges = λ d. elim (cases_lt d (dims S o)) [
+      | inl b ↦ ((f o h).1 d b).0
+      | inr b ↦ rw (get_or_past (reach S o).region.lo d (pos 0) b, get_or_past (reach S o).region.hi d (pos 0) (omega (arith, b, (f o h).2))) (omega (arith, ints))
+    ];
+  };
+  unrefuted = u;
+  places = λ o s h t. (f o h).0.1 s t;
+  lows = λ o d h b. ((f o h).1 d b).1;
+  highs = λ o d h b. ((f o h).1 d b).2;
+}
+
+pub one_more : (P : ℕ → Type 0) (n : ℕ) → ((e : ℕ) → e < n → P e) → P n → (e : ℕ) → e < n + 1 → P e
+one_more P n h p e b = elim (cases_eq e n) [ inl q ↦ subst P (sym q) p | inr ne ↦ h e (omega arith) ]

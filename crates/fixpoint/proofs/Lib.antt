@@ -1,0 +1,4 @@
+pub mod PointSearch
+pub mod Narrowed
+pub mod Finding
+pub mod Passing

@@ -1,0 +1,17 @@
+-- What a settle answers and leaves.
+use Rattle.std.specs.Prelude.{List, Result, Ok, Err}
+use Rattle.geo_conditions.specs.declared.cond.Cond.{Cond}
+use Rattle.geo_conditions.specs.Reach.{State, Inside}
+use Rattle.geo_conditions.specs.Supported.{IsGreatest, NoneInside}
+use Rattle.geo_state.specs.declared.propagate.Settled.{Settled}
+use Rattle.geo_state.specs.declared.propagate.Settled.TheVariants.{Kept, Dead}
+
+-- from S: kept, it leaves the greatest supported state inside S; dead, there is none, and what is left lies inside S
+abbrev pub Settles : List Cond → State → Settled → State → Type 0
+Settles cs S Kept T = IsGreatest cs S T
+Settles cs S Dead T = NoneInside cs S × Inside T S
+
+-- the same with want of memory, after which what is left lies inside S
+abbrev pub SettlesOr : {E : Type 0} → List Cond → State → Result Settled E → State → Type 0
+SettlesOr cs S (Ok a) T = Settles cs S a T
+SettlesOr cs S (Err e) T = Inside T S

@@ -1,0 +1,30 @@
+-- What a trailed state is seen as, and what it keeps.
+use Rattle.std.specs.Prelude.{◌≡◌, ℕ, suc, ◌<◌, ◌≤◌, List, [], ◌∷◌, ◌++◌, length, take, slice_index_or, ℤ, pos, negsuc, ◌≤ℤ◌}
+use Rattle.std.specs.List.{All}
+use Rattle.geo_conditions.specs.Reach.{Reach, State, low, high, Inside}
+
+-- the state, how many levels it may have, and what each open level restores, the outermost first
+pub record Trail : Type 0 where
+  pub state : List Reach
+  pub levels : ℕ
+  pub restores : List (List Reach)
+
+-- a number from -2,000,000 to 2,000,000
+abbrev pub IsSmallNumber : ℤ → Type 0
+IsSmallNumber v = (negsuc 1999999 ≤ℤ v) × (v ≤ℤ pos 2000000)
+
+-- each end of each interval is a small number
+abbrev pub IsSmall : State → Type 0
+IsSmall S = (o d : ℕ) → IsSmallNumber (low S o d) × IsSmallNumber (high S o d)
+
+-- each of the states lies inside the one before it, and S inside the last one
+abbrev pub ShrinkTo : List State → State → Type 0
+ShrinkTo restores S = (i : ℕ) → i < length restores → Inside (slice_index_or (restores ++ S ∷ []) (suc i) []) (slice_index_or restores i [])
+
+-- what a trailed state keeps: the first depth of the saved states are those of the open levels
+pub record IsTrail (S : State) (saved : List State) (depth : ℕ) : Type 0 where
+  pub within : depth ≤ length saved
+  pub objects : All (λ T. length T ≡ length S) saved
+  pub small : IsSmall S
+  pub restores_small : All IsSmall (take depth saved)
+  pub shrinks : ShrinkTo (take depth saved) S

@@ -1,0 +1,51 @@
+ghost use Rattle.std.specs.Prelude.{◌≡◌, ℕ, ◌+◌, ◌-◌, ◌^◌, min, ◌≤◌, true, false, List, length, IsOk, OnErr};
+ghost use Rattle.std.specs.List.{All};
+ghost use Rattle.geo_conditions.specs.declared.cond.Cond.{Cond};
+ghost use Rattle.geo_conditions.specs.Conditions.{FitsIn};
+ghost use Rattle.derivation.specs.Events.{Continues};
+ghost use Rattle.geo_state.specs.Settle.{SettlesOr};
+
+use super::trailed::Trailed;
+use derivation::Recorder;
+use geo_base::MAX_DIMS;
+use std::alloc::AllocError;
+
+/// Whether a supported state lies inside a state.
+#[derive(Clone, Copy)]
+pub enum Settled {
+    /// One does, and the greatest one is left.
+    Kept,
+    /// None does.
+    Dead,
+}
+
+/// Narrows a state to the greatest supported state inside it, for a list of conditions and a number
+/// of objects that never change.
+pub trait Propagate<const K: usize> {
+    // the conditions
+    ghost conditions: { Self → List Cond };
+
+    // the number of objects
+    ghost objects: { Self → ℕ };
+
+    /// Settles the state. What the open levels restore stays as it is, and so do the events that
+    /// the recorder has at the call. The answer is want of memory only where the recorder refused
+    /// an event.
+    fn settle<R: Recorder>(
+        &mut self,
+        t: &mut Trailed<K>,
+        rec: &mut R,
+    ) -> Result<Settled, AllocError>
+        requires k { K ≤ MAX_DIMS }
+        requires objects { length t.old.state ≡ objects self.old }
+        requires fits { All (λ c. FitsIn c t.old.state) (conditions self.old) }
+        ensures settles { SettlesOr (conditions self.old) t.old.state result t.new.state }
+        ensures levels { (t.new.levels ≡ t.old.levels) × (t.new.restores ≡ t.old.restores) }
+        ensures conditions { conditions self.new ≡ conditions self.old }
+        ensures count { objects self.new ≡ objects self.old }
+        ensures events { R.keeps ≡ true → Continues (R.list rec.old) (R.list rec.new) }
+        ensures refused { OnErr result
+            (min (R.refusals rec.old + 1) (2 ^ 64 - 1) ≤ R.refusals rec.new) }
+        ensures refusals { R.refusals rec.old ≤ R.refusals rec.new }
+        ensures no_record { R.keeps ≡ false → IsOk result };
+}

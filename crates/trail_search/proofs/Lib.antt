@@ -1,0 +1,14 @@
+pub mod Moves
+pub mod Listing
+pub mod Visit
+pub mod Token
+pub mod Walking
+pub mod Layouts
+pub mod Leaving
+pub mod Finding
+pub mod Starting
+pub mod Standing
+pub mod Loop
+pub mod Bare
+pub mod Resuming
+pub mod Nexts

@@ -1,0 +1,46 @@
+use Rattle.std.proofs.Common.{◌≡◌, ◌<◌, ◌+◌, length, set, arith, ap, sym, ◌∙◌, subst, refl, ℤ, Bool, true, false}
+use Rattle.std.proofs.lemmas.Int.{ints}
+use Rattle.geo_base.specs.Boxes.{coordinate}
+use Rattle.geo_conditions.specs.Reach.{State, IsState, Region, reach, has, NotEmpty, low, high, with_low, with_high}
+use Rattle.geo_state.proofs.Numbers.{kept64}
+use Rattle.geo_state.proofs.Shapes.{lo_long, hi_long, places_long}
+use Rattle.trail_search.proofs.Moves.{bound_none, bound_up, same_up, none_up}
+use Rattle.trail_search.proofs.narrow.raise_to.Goals as goal
+
+pub returns-then-high-v-clause-narrows : goal.returns-then-high-v-clause-narrows
+returns-then-high-v-clause-narrows g c =
+    let S = c.args.t.now.state in
+    let o = c.args.o.0 in
+    let d = c.args.d in
+    let e : c.state-state.result.now ≡ S = c.state-state.ensures.value in
+    let shape : IsState g.row.K S = subst (IsState g.row.K) e c.objects-objects.ensures.shape in
+    let la = kept64 c.get-low.result c.get-low.type_inv ∙ c.get-low.ensures ∙ ap (λ (x : Region). coordinate x.lo d) c.region-region.ensures.value ∙ ap (λ (T : State). low T o d) e in
+    let ha = kept64 c.get-high.result c.get-high.type_inv ∙ c.get-high.ensures ∙ ap (λ (x : Region). coordinate x.hi d) c.region-region.ensures.value ∙ ap (λ (T : State). high T o d) e in
+    let v = kept64 c.args.v c.ranges.v.sfits in
+    bound_none S c.shed.new.t.state o _ (places_long g.row.K S o shape c.requires.object) c.requires.object c.shed.ensures.sheds
+    (none_up S o d c.args.v c.requires.object (omega (arith, ints, c.if-high-v.true, la, ha, v)))
+
+pub returns-then-low-v-clause-narrows : goal.returns-then-low-v-clause-narrows
+returns-then-low-v-clause-narrows g c =
+    let S = c.args.t.now.state in
+    let o = c.args.o.0 in
+    let d = c.args.d in
+    let e : c.state-state.result.now ≡ S = c.state-state.ensures.value in
+    let shape : IsState g.row.K S = subst (IsState g.row.K) e c.objects-objects.ensures.shape in
+    let la = kept64 c.get-low.result c.get-low.type_inv ∙ c.get-low.ensures ∙ ap (λ (x : Region). coordinate x.lo d) c.region-region.ensures.value ∙ ap (λ (T : State). low T o d) e in
+    let ha = kept64 c.get-high.result c.get-high.type_inv ∙ c.get-high.ensures ∙ ap (λ (x : Region). coordinate x.hi d) c.region-region.ensures.value ∙ ap (λ (T : State). high T o d) e in
+    let v = kept64 c.args.v c.ranges.v.sfits in
+    bound_up S c.set_low.new.self.state o d c.args.v c.requires.object (omega (arith, lo_long g.row.K S o shape c.requires.object, c.requires.dimension))
+    (omega (arith, ints, c.if-low-v.true, la, ha, v)) (c.set_low.ensures.state ∙ ap (λ (z : ℤ). set S o (with_low (reach S o) d z)) v)
+
+pub returns-else-low-v-clause-narrows : goal.returns-else-low-v-clause-narrows
+returns-else-low-v-clause-narrows g c =
+    let S = c.args.t.now.state in
+    let o = c.args.o.0 in
+    let d = c.args.d in
+    let e : c.state-state.result.now ≡ S = c.state-state.ensures.value in
+    let shape : IsState g.row.K S = subst (IsState g.row.K) e c.objects-objects.ensures.shape in
+    let la = kept64 c.get-low.result c.get-low.type_inv ∙ c.get-low.ensures ∙ ap (λ (x : Region). coordinate x.lo d) c.region-region.ensures.value ∙ ap (λ (T : State). low T o d) e in
+    let ha = kept64 c.get-high.result c.get-high.type_inv ∙ c.get-high.ensures ∙ ap (λ (x : Region). coordinate x.hi d) c.region-region.ensures.value ∙ ap (λ (T : State). high T o d) e in
+    let v = kept64 c.args.v c.ranges.v.sfits in
+    same_up S o d c.args.v (omega (arith, ints, c.if-low-v.false, la, ha, v))

@@ -1,0 +1,35 @@
+use Rattle.std.proofs.Common.{◌≡◌, ◌++◌, ◌∷◌, [], Bool, true, false, List, ap, sym, ◌∙◌, subst, arith, length}
+use Rattle.std.proofs.Math.ListN.{length-append}
+use Rattle.geo_conditions.proofs.Points.{inside_self}
+use Rattle.trail_search.specs.Walker.{Position, Leaves}
+use Rattle.trail_search.proofs.Walking.{same_trans}
+use Rattle.trail_search.proofs.Standing.{well_left, retreated, still_stuck}
+use Rattle.trail_search.proofs.walker.Walker.retreat.Goals as goal
+
+pub returns-then-leave-clause-well : goal.returns-then-leave-clause-well
+returns-then-leave-clause-well g c =
+    let i = c.loop-self.invariant in
+    let l = subst (λ (b : Bool). Leaves b c.loop-self.self c.leave.new.self) c.if-leave.true c.leave.ensures.left in
+    well_left g.row.K c.loop-self.self c.leave.new.self l.0 l.1 l.2 i.0 c.leave.ensures.same l.3 l.4.inside c.leave.ensures.values
+
+pub returns-then-leave-clause-searches : goal.returns-then-leave-clause-searches
+returns-then-leave-clause-searches g c = λ t cs w h.
+    let i = c.loop-self.invariant in
+    let o = i.0 in
+    let l = subst (λ (b : Bool). Leaves b c.loop-self.self c.leave.new.self) c.if-leave.true c.leave.ensures.left in
+    retreated cs c.loop-self.self c.leave.new.self w l.0 l.1 l.2 o.objects o.depth o.values c.leave.ensures.same l.3 c.leave.ensures.values (i.4 cs w h) c.leave.ensures.walked c.leave.ensures.along l.4
+
+pub loop-self-preserved : goal.loop-self-preserved
+loop-self-preserved g c =
+    let i = c.loop-self.invariant in
+    let o = i.0 in
+    let p = c.loop-self.self in
+    let r = c.leave.new.self in
+    let l = subst (λ (b : Bool). Leaves b p r) c.if-leave.false c.leave.ensures.left in
+    let n : length p.trail.restores ≡ length (r.trail.restores ++ r.trail.state ∷ []) = ap length l.2.restored in (
+      well_left g.row.K p r r.trail.state l.0 l.1 o c.leave.ensures.same l.2 (inside_self r.trail.state) c.leave.ensures.values,
+      same_trans c.args.self.now p r i.1 c.leave.ensures.same,
+      c.leave.ensures.walked ∙ i.2,
+      omega (arith, i.3, n, length-append r.trail.restores (r.trail.state ∷ [])),
+      λ cs w h. still_stuck cs p r w r.trail.state l.0 l.1 o.objects o.depth o.values c.leave.ensures.same l.2 c.leave.ensures.values (i.4 cs w h) c.leave.ensures.walked c.leave.ensures.along l.3,
+    )

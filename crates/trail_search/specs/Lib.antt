@@ -1,0 +1,5 @@
+pub mod Variables
+pub mod Cursor
+pub mod Shed
+pub mod Walker
+pub mod Next

@@ -1,0 +1,13 @@
+//! The search that gives the layouts in order, within a budget of steps.
+#![tactic(auto)]
+
+mod narrow;
+mod search;
+mod start;
+mod step;
+mod variable;
+mod walk;
+mod walker;
+
+pub use search::Search;
+pub use step::Step;
