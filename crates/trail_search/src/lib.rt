@@ -5,6 +5,8 @@ mod narrow;
 mod search;
 mod start;
 mod step;
+#[cfg(test)]
+mod tests;
 mod variable;
 mod walk;
 mod walker;
