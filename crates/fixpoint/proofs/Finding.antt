@@ -13,15 +13,19 @@ use Rattle.geo_conditions.proofs.Greatest.{raise_keeps, lower_keeps, raised, low
 use Rattle.fixpoint.specs.Points.{HasSupport, HasEnd}
 use Rattle.fixpoint.specs.Defects.{PlacesFine, ObjectFine}
 
+-- a condition that is refuted on a state is so on every state inside
 pub hopeless_refuted : (cs : List Cond) (S : State) (t : Bool) → t ≡ false → (IsTrue t ↔ NoneRefuted cs S) → NoneInside cs S
 hopeless_refuted cs S t e h T s i = false≢true (sym e ∙ h.1 (unrefuted_wider cs T S i s.nonempty s.unrefuted))
 
+-- a state inside has the same objects
 in_narrower : (T S : State) (o : ℕ) → Inside T S → o < length S → o < length T
 in_narrower T S o i h = omega (arith, i.objects, h)
 
+-- an empty interval stays empty
 pub hopeless_range : (cs : List Cond) (S : State) (o d : ℕ) → o < length S → high S o d <ℤ low S o d → NoneInside cs S
 hopeless_range cs S o d h l T s i = let r = (s.nonempty o (in_narrower T S o i h)).ranges d in absurd (omega (arith, ints, l, r, (i.each o).lows d, (i.each o).highs d))
 
+-- an empty set of places stays empty
 pub hopeless_places : (cs : List Cond) (S : State) (o : ℕ) → o < length S → ((s : ℕ) → has S o s ≡ true → ⊥) → NoneInside cs S
 hopeless_places cs S o h none T s i = let p = (s.nonempty o (in_narrower T S o i h)).place in none p.0 ((i.each o).places p.0 p.1)
 
@@ -35,6 +39,7 @@ hopeless_low cs S o d h k n l T s i =
     let m : (low S o d +ℤ pos 1) ≤ℤ low T o d = subst (λ (z : ℤ). z ≤ℤ low T o d) e ((j.each o).lows d) in
     absurd (omega (arith, ints, m, r, l, (i.each o).highs d))
 
+-- the same of the high end
 pub hopeless_high : (cs : List Cond) (S : State) (o d : ℕ) → o < length S → d < dims S o → d < length (reach S o).region.hi → (HasEnd cs S o d (high S o d) → ⊥) → high S o d ≤ℤ low S o d → NoneInside cs S
 hopeless_high cs S o d h k kh n l T s i =
     let j = (lower_keeps cs S o d h k n).all T s i in
@@ -50,6 +55,7 @@ pub record PlacesUpTo (cs : List Cond) (S : State) (o : ℕ) (any : Bool) (n : �
   pub some : any ≡ true → (s : ℕ) × (has S o s ≡ true)
   pub none : any ≡ false → (s : ℕ) → s < n → has S o s ≡ true → ⊥
 
+-- no place comes before the first
 pub places_start : (cs : List Cond) (S : State) (o : ℕ) → PlacesUpTo cs S o false 1
 places_start cs S o = record {
   fine = λ s h t. absurd (zero_place s h t);
@@ -61,6 +67,7 @@ places_start cs S o = record {
     zero_place zero h t = false≢true t
     zero_place (suc s) h t = absurd (omega arith)
 
+-- one place more, which is there and has a point
 pub places_there : (cs : List Cond) (S : State) (o n : ℕ) (any : Bool) → PlacesUpTo cs S o any n → has S o n ≡ true → HasSupport cs S o n → PlacesUpTo cs S o true (n + 1)
 places_there cs S o n any p t y = record {
   fine = λ s h u. elim (cases_eq s n) [ inl e ↦ subst (HasSupport cs S o) (sym e) y | inr ne ↦ p.fine s (omega arith) u ];
@@ -68,6 +75,7 @@ places_there cs S o n any p t y = record {
   none = λ e. absurd (false≢true (sym e));
 }
 
+-- one place more, which is not there
 pub places_absent : (cs : List Cond) (S : State) (o n : ℕ) (any : Bool) → PlacesUpTo cs S o any n → has S o n ≡ false → PlacesUpTo cs S o any (n + 1)
 places_absent cs S o n any p f = record {
   fine = λ s h u. elim (cases_eq s n) [ inl e ↦ absurd (false≢true (sym f ∙ subst (λ (z : ℕ). has S o z ≡ true) e u)) | inr ne ↦ p.fine s (omega arith) u ];
@@ -75,9 +83,11 @@ places_absent cs S o n any p f = record {
   none = λ e s h u. elim (cases_eq s n) [ inl q ↦ false≢true (sym f ∙ subst (λ (z : ℕ). has S o z ≡ true) q u) | inr ne ↦ p.none e s (omega arith) u ];
 }
 
+-- all places are tried, and one was there
 pub places_end : (cs : List Cond) (S : State) (o n : ℕ) → length (reach S o).places ≡ 16 → 17 ≤ n → PlacesUpTo cs S o true n → PlacesFine cs S o
 places_end cs S o n e h p = (p.some refl, λ s t. p.fine s (omega (arith, place_few (reach S o).places s t, e, h)) t)
 
+-- all places are tried, and none was there
 pub places_hopeless : (cs : List Cond) (S : State) (o n : ℕ) → o < length S → length (reach S o).places ≡ 16 → 17 ≤ n → PlacesUpTo cs S o false n → NoneInside cs S
 places_hopeless cs S o n b e h p = hopeless_places cs S o b (λ s t. p.none refl s (omega (arith, place_few (reach S o).places s t, e, h)) t)
 
@@ -97,5 +107,6 @@ all_supported cs S u f = record {
   highs = λ o d h b. ((f o h).1 d b).2;
 }
 
+-- a fact of the first n numbers and of the next one
 pub one_more : (P : ℕ → Type 0) (n : ℕ) → ((e : ℕ) → e < n → P e) → P n → (e : ℕ) → e < n + 1 → P e
 one_more P n h p e b = elim (cases_eq e n) [ inl q ↦ subst P (sym q) p | inr ne ↦ h e (omega arith) ]

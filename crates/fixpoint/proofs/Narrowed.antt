@@ -11,9 +11,11 @@ use Rattle.geo_conditions.specs.Keeps.{Keeps, size}
 use Rattle.geo_conditions.proofs.Greatest.{keeps_trans, drop_keeps, raise_keeps, lower_keeps, size_set, fewer, lo_narrower, hi_narrower}
 use Rattle.fixpoint.specs.Defects.{LacksPoint, LacksLow, LacksHigh, ObjectFine}
 
+-- R keeps every supported state inside S, and is smaller
 abbrev pub Mended : List Cond → State → State → Type 0
 Mended cs S R = Keeps cs S R × (size R < size S)
 
+-- a low end without a point is raised by 1
 pub low_mended : (cs : List Cond) (S R : State) (o d : ℕ) (v : ℤ) → LacksLow cs S o d → length (reach S o).region.lo ≡ length (reach S o).region.hi → v ≡ low S o d +ℤ pos 1 → R ≡ set S o (with_low (reach S o) d v) → Mended cs S R
 low_mended cs S R o d v l e f q =
     let q' : R ≡ set S o (with_low (reach S o) d (low S o d +ℤ pos 1)) = q ∙ ap (λ (x : ℤ). set S o (with_low (reach S o) d x)) f in
@@ -22,6 +24,7 @@ low_mended cs S R o d v l e f q =
       size_set S o (with_low (reach S o) d (low S o d +ℤ pos 1)) l.object (let w = lo_narrower (reach S o).region.lo (reach S o).region.hi d l.dimension e l.wide in omega arith),
     )
 
+-- a high end without a point is lowered by 1
 pub high_mended : (cs : List Cond) (S R : State) (o d : ℕ) (v : ℤ) → LacksHigh cs S o d → length (reach S o).region.lo ≡ length (reach S o).region.hi → v ≡ high S o d +ℤ negsuc 0 → R ≡ set S o (with_high (reach S o) d v) → Mended cs S R
 high_mended cs S R o d v l e f q =
     let q' : R ≡ set S o (with_high (reach S o) d (high S o d +ℤ negsuc 0)) = q ∙ ap (λ (x : ℤ). set S o (with_high (reach S o) d x)) f in
@@ -30,6 +33,7 @@ high_mended cs S R o d v l e f q =
       size_set S o (with_high (reach S o) d (high S o d +ℤ negsuc 0)) l.object (let w = hi_narrower (reach S o).region.lo (reach S o).region.hi d l.dimension e l.wide in omega arith),
     )
 
+-- a place without a point is taken away
 pub place_mended : (cs : List Cond) (S R : State) (o s : ℕ) → LacksPoint cs S o s → R ≡ set S o (without (reach S o) s) → Mended cs S R
 place_mended cs S R o zero l q = absurd (let h : 1 ≤ 0 = l.from_1 in omega arith)
 place_mended cs S R o (suc k) l q =
@@ -47,9 +51,11 @@ pub record Going (cs : List Cond) (S R : State) : Type 0 where
   pub keeps : Keeps cs S R
   pub fits : All (λ c. FitsIn c R) cs
 
+-- nothing has changed yet
 pub going_start : (cs : List Cond) (S : State) → All (λ c. FitsIn c S) cs → Going cs S S
 going_start cs S f = record { keeps = record { inside = inside_self S; all = λ T s i. i }; fits = f }
 
+-- one change more keeps what the loop keeps
 pub going_on : (cs : List Cond) (S R Q : State) → Going cs S R → Keeps cs R Q → Going cs S Q
 going_on cs S R Q g k = record {
   keeps = keeps_trans cs S R Q g.keeps k;
@@ -75,5 +81,6 @@ unless_on false cs S R Q h m = subst (λ (X : State). Mended cs X Q) h m
 pub gone_dead : (cs : List Cond) (S R Q : State) → Going cs S R → NoneInside cs R → Inside Q R → NoneInside cs S × Inside Q S
 gone_dead cs S R Q g n i = (λ T s j. n T s (g.keeps.all T s j), inside_trans Q R S i g.keeps.inside)
 
+-- what is left and supported is the greatest supported state
 pub gone_kept : (cs : List Cond) (S R : State) → Going cs S R → IsSupported cs R → IsGreatest cs S R
 gone_kept cs S R g s = record { supported = s; inside = g.keeps.inside; greatest = g.keeps.all }

@@ -11,6 +11,7 @@ use Rattle.fixpoint.proofs.Narrowed.{Going, Unless, FineBelow, going_on, unless_
 abbrev pub Along : List Cond → State → State → Bool → ℕ → Type 0
 Along cs S R b n = Going cs S R × Unless b cs S R × FineBelow b cs R n
 
+-- one object more with which nothing is wrong
 fine_more : (b : Bool) (cs : List Cond) (S : State) (n : ℕ) → FineBelow b cs S n → ObjectFine cs S n → FineBelow b cs S (n + 1)
 fine_more true cs S n h f = tt
 fine_more false cs S n h f = one_more (ObjectFine cs S) n h f

@@ -22,12 +22,14 @@ pub record LacksLow (cs : List Cond) (S : State) (o d : ℕ) : Type 0 where
   pub wide : low S o d <ℤ high S o d
   pub lacks : HasEnd cs S o d (low S o d) → ⊥
 
+-- the same of the high end
 pub record LacksHigh (cs : List Cond) (S : State) (o d : ℕ) : Type 0 where
   pub object : o < length S
   pub dimension : d < dims S o
   pub wide : low S o d <ℤ high S o d
   pub lacks : HasEnd cs S o d (high S o d) → ⊥
 
+-- what each defect says of the state
 abbrev pub IsDefect : List Cond → State → Defect → Type 0
 IsDefect cs S Hopeless = NoneInside cs S
 IsDefect cs S (NoPoint o s) = LacksPoint cs S o.0 s
@@ -42,5 +44,6 @@ PlacesFine cs S o = ((s : ℕ) × (has S o s ≡ true)) × ((s : ℕ) → has S 
 abbrev pub EndsFine : List Cond → State → ℕ → ℕ → Type 0
 EndsFine cs S o d = (low S o d ≤ℤ high S o d) × HasEnd cs S o d (low S o d) × HasEnd cs S o d (high S o d)
 
+-- places and intervals of the object are fine
 abbrev pub ObjectFine : List Cond → State → ℕ → Type 0
 ObjectFine cs S o = PlacesFine cs S o × ((d : ℕ) → d < dims S o → EndsFine cs S o d) × (length (reach S o).region.lo ≡ length (reach S o).region.hi)

@@ -15,5 +15,6 @@ pub small_fits : (z : ℤ) → IsSmallNumber z → mag z < 2 ^ 63
 small_fits (pos n) h = let a : pos n ≤ℤ pos 2000000 = h.1 in omega (arith, ints, a)
 small_fits (negsuc n) h = let a : negsuc 1999999 ≤ℤ negsuc n = h.0 in omega (arith, ints, a)
 
+-- a small number stays the same as one of 64 bits
 pub small_kept : (z : ℤ) → IsSmallNumber z → to_z w64 (of_z w64 z) ≡ z
 small_kept z h = kept64 z (small_fits z h)

@@ -9,9 +9,11 @@ use Rattle.geo_conditions.specs.declared.object.TheConstants.{MAX_SHAPES}
 pub lo_long : (k : ℕ) (S : State) (o : ℕ) → IsState k S → o < length S → length (reach S o).region.lo ≡ k
 lo_long k S o s h = (s.dims o nowhere h).0
 
+-- the high ends are as many
 pub hi_long : (k : ℕ) (S : State) (o : ℕ) → IsState k S → o < length S → length (reach S o).region.hi ≡ k
 hi_long k S o s h = (s.dims o nowhere h).1
 
+-- the list of places has a fixed length
 pub places_long : (k : ℕ) (S : State) (o : ℕ) → IsState k S → o < length S → length (reach S o).places ≡ MAX_SHAPES
 places_long k S o s h = s.places o nowhere h
 

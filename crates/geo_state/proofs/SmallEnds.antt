@@ -16,9 +16,11 @@ AreSmall S o d = IsSmallNumber (low S o d) × IsSmallNumber (high S o d)
 abbrev pub SmallDimensions : State → ℕ → ℕ → Type 0
 SmallDimensions S o n = (d : ℕ) → d < n → AreSmall S o d
 
+-- all ends of the first n objects
 abbrev pub SmallObjects : State → ℕ → Type 0
 SmallObjects S n = (o : ℕ) → o < n → (d : ℕ) → AreSmall S o d
 
+-- 0 is small
 zero_small : (z : ℤ) → z ≡ pos 0 → IsSmallNumber z
 zero_small z e = (omega (arith, ints, e), omega (arith, ints, e))
 
@@ -40,6 +42,7 @@ small_everywhere k S o n s h b m d = elim (cases_lt d n) [
       )
 ]
 
+-- all objects are covered, so the state is small
 pub small_whole : (S : State) (n : ℕ) → length S ≤ n → SmallObjects S n → IsSmall S
 small_whole S n b m o d = elim (cases_lt o n) [
   | inl l ↦ m o l d

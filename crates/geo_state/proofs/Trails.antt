@@ -46,6 +46,7 @@ shrink_on R S T h j i l = elim (cases_lt (suc i) (length R)) [
       subst (λ (X : State). Inside X (get_or R i [])) (sym (last T)) (inside_trans T S (get_or R i []) j (subst (λ (X : State). Inside X (get_or R i [])) (last S) (h i l)))
 ]
 
+-- what holds of each element holds of the last one and of those before it
 all_last : (P : State → Type 0) (R : List State) (G : State) → All P (R ++ G ∷ []) → All P R × P G
 all_last P R G h = (
   λ k d l. subst P (get_or_append_left R (G ∷ []) d k l) (h k d (omega (arith, length-append R (G ∷ [])))),
@@ -110,12 +111,14 @@ trail_low S T saved n o d v t h s l e = subst (λ (X : State). IsTrail X saved n
     (narrowed S o (with_low (reach S o) d v) (low_within (reach S o) d v l) h)
     (small_set S o (with_low (reach S o) d v) t.small (λ j. (at_set (λ k z. IsSmallNumber z) (reach S o).region.lo d v (λ b. s) (λ k. (t.small o k).0) j, (t.small o j).1))))
 
+-- the same with a high end lowered
 pub trail_high : (S T : State) (saved : List State) (n o d : ℕ) (v : ℤ) → IsTrail S saved n → o < length S → IsSmallNumber v → v ≤ℤ high S o d → T ≡ set S o (with_high (reach S o) d v) → IsTrail T saved n
 trail_high S T saved n o d v t h s l e = subst (λ (X : State). IsTrail X saved n) (sym e)
     (trail_on S (set S o (with_high (reach S o) d v)) saved n t
     (narrowed S o (with_high (reach S o) d v) (high_within (reach S o) d v l) h)
     (small_set S o (with_high (reach S o) d v) t.small (λ j. ((t.small o j).0, at_set (λ k z. IsSmallNumber z) (reach S o).region.hi d v (λ b. s) (λ k. (t.small o k).1) j))))
 
+-- the same with a place taken away
 pub trail_without : (S T : State) (saved : List State) (n o s : ℕ) → IsTrail S saved n → o < length S → T ≡ set S o (without (reach S o) s) → IsTrail T saved n
 trail_without S T saved n o s t h e = subst (λ (X : State). IsTrail X saved n) (sym e)
     (trail_on S (set S o (without (reach S o) s)) saved n t

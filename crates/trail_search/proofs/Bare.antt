@@ -18,12 +18,15 @@ use Rattle.trail_search.specs.Walker.{Position, tree_of, depth, path, SameWalk, 
 
 -- ---- the tree without variables
 
+-- the walk without variables
 abbrev bare : List Cond → State → Option (List ℤ) → Tree
 bare cs f t = record { conditions = cs; first = f; variables = []; after = t }
 
+-- the walk with those variables
 abbrev tree_with : List Cond → State → Option (List ℤ) → List Variable → Tree
 tree_with cs f t xs = record { conditions = cs; first = f; variables = xs; after = t }
 
+-- it is the walk of a walker without variables
 bare_tree : (cs : List Cond) (p : Position) → p.variables ≡ [] → bare cs p.first p.token ≡ tree_of cs p
 bare_tree cs p e = ap (tree_with cs p.first p.token) (sym e)
 
@@ -32,6 +35,7 @@ only_empty : (cs : List Cond) (f : State) (t : Option (List ℤ)) (q : List ℤ)
 only_empty cs f t [] i = refl
 only_empty cs f t (v ∷ q) i = absurd i.0
 
+-- a walk without a member is walked at its start
 none_whole : (W : Tree) → ((q : List ℤ) → IsIn W q → ⊥) → IsFront W [] × IsWhole W []
 none_whole W n = (front_none W, λ q i. absurd (n q i))
 
@@ -40,27 +44,34 @@ none_after : (cs : List Cond) (f : State) (a : List ℤ) → length a ≡ 0 → 
 none_after cs f a l (v ∷ q) i = i.0
 none_after cs f a l [] i = elim i.1 [ inl p ↦ p | inr h ↦ absurd (omega (arith, l, h.1)) ]
 
+-- where no supported state lies inside, the empty tuple is no member
 none_dead : (cs : List Cond) (f : State) (t : Option (List ℤ)) → NoneInside cs f → (q : List ℤ) → IsIn (bare cs f t) q → ⊥
 none_dead cs f t n (v ∷ q) i = i.0
 none_dead cs f t n [] i = n f i.0 (inside_self f)
 
+-- where the first state is supported, it is one
 empty_in : (cs : List Cond) (f : State) → IsSupported cs f → IsIn (bare cs f None) []
 empty_in cs f s = (s, tt)
 
+-- the empty tuple alone is the beginning of the walk
 one_front : (cs : List Cond) (f : State) → IsSupported cs f → IsFront (bare cs f None) ([] ∷ [])
 one_front cs f s = front_push (bare cs f None) [] [] (front_none (bare cs f None)) (empty_in cs f s) (All-nil (λ r. Precedes [] r [])) (λ r i p. inl (only_empty cs f None r i))
 
+-- and the whole of it
 one_whole : (cs : List Cond) (f : State) → IsWhole (bare cs f None) ([] ∷ [])
 one_whole cs f q i = (0, omega arith, sym (only_empty cs f None q i))
 
+-- before it is walked, the walk goes on
 one_more : (cs : List Cond) (f : State) → IsSupported cs f → GoesOn (bare cs f None) []
 one_more cs f s = ([], empty_in cs f s, All-nil (λ r. Precedes [] r []))
 
 -- ---- positions
 
+-- where a search without variables stands
 ready_bare : (cs : List Cond) (p : Position) (b : Bool) → p.variables ≡ [] → IsReady cs p b → ReadyFor [] cs p b
 ready_bare cs p b e r = subst (λ (v : List Variable). ReadyFor v cs p b) e r
 
+-- a token that is not there
 pub no_token : (t : Option (List ℤ)) → ((t ≢ None) → ⊥) → t ≡ None
 no_token None h = refl
 no_token (Some a) h = absurd (h (λ e. some_none a e))
@@ -97,6 +108,7 @@ bare_dead cs n p q e h w r d =
     let c = bare_tree cs p e in
     ([], sym y.0, ([], subst (λ (W : Tree). IsFront W []) c z.0, subst (λ (W : Tree). IsWhole W []) c z.1, sym (w ∙ y.0), All-nil (λ q. is_full (tree_of cs p) q ≡ false), omega (arith, h, w)))
 
+-- two states without objects are the same
 empty_same : (S T : State) → length S ≡ 0 → length T ≡ 0 → S ≡ T
 empty_same [] [] a b = refl
 empty_same [] (x ∷ T) a b = absurd (omega arith)
@@ -108,12 +120,14 @@ bare_kept cs p T e l r g =
     let y = ready_bare cs p false e r in
     subst (IsSupported cs) (empty_same T p.first (omega (arith, g.inside.objects, ap length y.1, l)) l) g.supported
 
+-- the budget is used up before the empty tuple
 pub bare_budget : (cs : List Cond) (n : ℕ) (p q : Position) → p.variables ≡ [] → p.token ≡ None → IsReady cs p false → IsSupported cs p.first → q.walked ≡ p.walked → q.walked ≡ n → GoesOnAs cs n p Budget q
 bare_budget cs n p q e t r s w m =
     let y = ready_bare cs p false e r in
     let c : bare cs p.first None ≡ tree_of cs p = ap (λ (t : Option (List ℤ)). bare cs p.first t) (sym t) ∙ bare_tree cs p e in
     ([], sym y.0, ([], subst (λ (W : Tree). IsFront W []) c (front_none (bare cs p.first None)), subst (λ (W : Tree). GoesOn W []) c (one_more cs p.first s), sym (w ∙ y.0), All-nil (λ q. is_full (tree_of cs p) q ≡ false), m))
 
+-- the empty tuple is found
 pub bare_found : (k : ℕ) (cs : List Cond) (n : ℕ) (p q : Position) → p.variables ≡ [] → p.token ≡ None → IsReady cs p false → IsSupported cs p.first → SameWalk p q → IsWell k q → q.walked ≡ p.walked + 1 → p.walked < n → GoesOnAs cs n p Found q
 bare_found k cs n p q e t r s same w m h =
     let y = ready_bare cs p false e r in
@@ -136,8 +150,10 @@ bare_found k cs n p q e t r s same w m h =
       ),
     )
 
+-- what a dead answer says
 pub settled_dead : {E : Type 0} (cs : List Cond) (S T : State) (a : Result Settled E) (b : Settled) → SettlesOr cs S a T → a ≡ Ok b → b ≡ Dead → NoneInside cs S
 settled_dead {E} cs S T a b h e f = (subst (λ (c : Settled). SettlesOr {E = E} cs S (Ok c) T) f (subst (λ (c : Result Settled E). SettlesOr cs S c T) e h)).0
 
+-- what a kept one leaves
 pub settled_kept : {E : Type 0} (cs : List Cond) (S T : State) (a : Result Settled E) (b : Settled) → SettlesOr cs S a T → a ≡ Ok b → b ≡ Kept → IsGreatest cs S T
 settled_kept {E} cs S T a b h e f = subst (λ (c : Settled). SettlesOr {E = E} cs S (Ok c) T) f (subst (λ (c : Result Settled E). SettlesOr cs S c T) e h)

@@ -17,6 +17,7 @@ use Rattle.trail_search.specs.Variables.{variable_of, IsAt, HasOne}
 abbrev pub NoneAt : ℕ → Option ℕ → List Variable → ℕ → Type 0
 NoneAt o d items n = (j : ℕ) → j < n → (x : Variable) → IsAt o d (variable_of (get_or items j x)) → ⊥
 
+-- one variable more that is not such a one
 pub none_at_more : (o : ℕ) (d : Option ℕ) (items : List Variable) (n : ℕ) (D : Variable) → NoneAt o d items n → n < length items → (IsAt o d (variable_of (get_or items n D)) → ⊥) → NoneAt o d items (n + 1)
 none_at_more o d items n D h b f j l x y = elim (cases_eq j n) [
   | inl e ↦ f (subst (λ (z : Variable). IsAt o d (variable_of z)) (ap (λ (i : ℕ). get_or items i x) e ∙ any_default items n x D b) y)
@@ -41,6 +42,7 @@ place_number [] o h = absurd h
 place_number (x ∷ xs) o (inl e) = (0, omega arith, λ y. subst (IsAt o None) (sym e) refl)
 place_number (x ∷ xs) o (inr h) = let r = place_number xs o h in (suc r.0, omega (arith, r.1), λ y. r.2 y)
 
+-- the same of a coordinate
 pub coordinate_number : (xs : List Seen) (o d : ℕ) (b : Bool) → IsAmong (CoordinateOf o d b) xs → HasOne (IsAt o (Some d)) xs
 coordinate_number [] o d b h = absurd h
 coordinate_number (x ∷ xs) o d b (inl e) = (0, omega arith, λ y. subst (IsAt o (Some d)) (sym e) (refl, refl))
@@ -51,8 +53,10 @@ place_value : (o : ℕ) (y : Seen) (v : ℤ) → IsAt o None y → IsValueOf y v
 place_value o (PlaceOf u) v a h = h
 place_value o (CoordinateOf u d down) v a h = absurd a
 
+-- the value of a variable that is a place lies from 0 to 16
 pub place_values : (xs : List Seen) (vs : List ℤ) (o i : ℕ) (v : ℤ) → AreValues xs vs → i < length xs → ((x : Seen) → IsAt o None (get_or xs i x)) → v ≡ get_or vs i (pos 0) → (pos 0 ≤ℤ v) × (v ≤ℤ pos 16)
 place_values xs vs o i v h b a e = place_value o (get_or xs i (PlaceOf 0)) v (a (PlaceOf 0)) (subst (IsValueOf (get_or xs i (PlaceOf 0))) (sym e) (h i (PlaceOf 0) b))
 
+-- a place stays the same as a number of 64 bits
 pub place_kept : (v : ℤ) → (pos 0 ≤ℤ v) × (v ≤ℤ pos 16) → to_z w64 (of_z w64 v) ≡ v
 place_kept v h = small_kept v (omega (arith, ints, h.0, h.1), omega (arith, ints, h.0, h.1))

@@ -25,6 +25,7 @@ pub record LeftAt (k : ℕ) (p : Position) (t : Trail) (x : Seen) (u : ℤ) : Ty
   pub dimension : HasDimension k x
   pub small : IsSmallNumber u
 
+-- what a closed level knows of its variable and its value
 pub left_at : (k : ℕ) (p : Position) (t : Trail) (items : List Variable) (vals : List ℤ) (n : ℕ) (x : Variable) (u : ℤ) → IsWell k p → p.trail.restores ≡ t.restores ++ t.state ∷ [] → map variable_of items ≡ p.variables → vals ≡ p.values → n ≡ length t.restores → x ≡ get_or items n x → u ≡ get_or vals n u → LeftAt k p t (variable_of x) u
 left_at k p t items vals n x u w r e f h i j =
     let one = one_less p.trail.restores t.restores t.state r in

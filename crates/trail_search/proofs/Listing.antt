@@ -12,16 +12,19 @@ use Rattle.geo_conditions.proofs.Defaults.{any_default}
 use Rattle.trail_search.specs.declared.variable.Variable.{Variable}
 use Rattle.trail_search.specs.Variables.{variable_of}
 
+-- one coordinate more of an object
 pub coordinates_more : (o n k : ℕ) (down : List Bool) → k < length down → coordinates_from o n (take (suc k) down) ≡ coordinates_from o n (take k down) ++ CoordinateOf o (n + k) (get_or down k false) ∷ []
 coordinates_more o n k [] h = absurd (omega arith)
 coordinates_more o n zero (b ∷ down) h = ap (λ (m : ℕ). CoordinateOf o m b ∷ []) (omega arith)
 coordinates_more o n (suc k) (b ∷ down) h = ap (λ (l : List Seen). CoordinateOf o n b ∷ l) (coordinates_more o (suc n) k down (omega arith) ∙ ap (λ (m : ℕ). coordinates_from o (suc n) (take k down) ++ CoordinateOf o m (get_or down k false) ∷ []) (omega arith))
 
+-- the variables of one object more
 pub variables_more : (order : List ℕ) (down : List Bool) (k : ℕ) → k < length order → variables (take (suc k) order) down ≡ variables (take k order) down ++ variables_of down (get_or order k 0)
 variables_more [] down k h = absurd (omega arith)
 variables_more (o ∷ order) down zero h = append-nil (variables_of down o)
 variables_more (o ∷ order) down (suc k) h = ap (λ (l : List Seen). variables_of down o ++ l) (variables_more order down k (omega arith)) ∙ sym (append_assoc (variables_of down o) (variables (take k order) down) (variables_of down (get_or order k 0)))
 
+-- one coordinate is appended
 pub pushed : (all more start : List Variable) (o d e : ℕ) (b : Bool) (x : Variable) (down : List Bool) → more ≡ all ++ x ∷ [] → variable_of x ≡ CoordinateOf o d b → b ≡ get_or down d false → e ≡ suc d → d < length down → map variable_of all ≡ map variable_of start ++ PlaceOf o ∷ coordinates_from o 0 (take d down) → map variable_of more ≡ map variable_of start ++ PlaceOf o ∷ coordinates_from o 0 (take e down)
 pushed all more start o d e b x down m v w s h i =
     let z : d ≡ 0 + d = omega arith in

@@ -18,9 +18,11 @@ use Rattle.std.proofs.lemmas.Int.{ints}
 use Rattle.trail_search.proofs.Walking.{same_trans}
 use Rattle.trail_search.proofs.Standing.{tree_same, path_length, at_number, stands_whole, visit_in, searches_as, stands_start, stands_after, levels_none, left_start, left_bound}
 
+-- each walk is the same as itself
 same_self : (p : Position) → SameWalk p p
 same_self p = record { first = refl; variables = refl; token = refl }
 
+-- nothing is walked yet
 pub loop_start : (k : ℕ) (cs : List Cond) (n : ℕ) (p : Position) → IsWell k p → p.walked ≤ n → depth p < length p.variables → Walking k cs n p p
 loop_start k cs n p w h o = record {
   well = w;
@@ -30,6 +32,7 @@ loop_start k cs n p w h o = record {
   walks = λ u s. ([], subst (Searches cs p) (sym (append-nil u)) s, All-nil (λ r. is_full (tree_of cs p) r ≡ false));
 }
 
+-- no supported state meets the path, and the walk goes past the last level that has a later value
 pub loop_dead : (k : ℕ) (cs : List Cond) (n : ℕ) (p q s r : Position) → Walking k cs n p q → DeadAs cs q s → SameWalk q s → s.walked ≡ q.walked → depth s ≡ depth q → IsWell k r → SameWalk s r → r.walked ≡ s.walked → depth r < depth s → ((ds : List Cond) (w : List (List ℤ)) → IsStuck ds s w → Searches ds r w) → Walking k cs n p r
 loop_dead k cs n p q s r g d e f x w i j y m = record {
   well = w;
@@ -39,6 +42,7 @@ loop_dead k cs n p q s r g d e f x w i j y m = record {
   walks = λ u h. let t = g.walks u h in (t.0, m cs (u ++ t.0) (d (u ++ t.0) t.1), t.2);
 }
 
+-- both have the same tree
 back : (cs : List Cond) (p q : Position) → SameWalk p q → tree_of cs q ≡ tree_of cs p
 back cs p q s = sym (tree_same cs p q s)
 
@@ -53,6 +57,7 @@ stuck_whole k cs r w x o y u =
     ] in
     (st.front, stands_whole (tree_of cs r) r.along u.0 w x.objects o st none)
 
+-- no level has a later value: the walk is used up
 pub loop_ended : (k : ℕ) (cs : List Cond) (n : ℕ) (p q s r : Position) → Walking k cs n p q → DeadAs cs q s → SameWalk q s → s.walked ≡ q.walked → IsWell k r → SameWalk s r → r.walked ≡ s.walked → depth r ≡ 0 → ((ds : List Cond) (w : List (List ℤ)) → IsStuck ds s w → IsStuck ds r w) → (w : List (List ℤ)) → Searches cs p w → Walks cs n p w Ended r
 loop_ended k cs n p q s r g d e f x i j y m w h =
     let t = g.walks w h in
@@ -69,9 +74,11 @@ loop_ended k cs n p q s r g d e f x i j y m w h =
       omega (arith, g.count, f, j),
     )
 
+-- the path is as long as the levels are deep
 first_at : (s : Position) (x : Variable) (u : ℤ) (k : ℕ) → IsWell k s → depth s < length s.variables → length (path s) ≡ depth s
 first_at s x u k w o = path_length s (omega (arith, w.values, o))
 
+-- the next member is there, and the budget is used up
 pub loop_budget : (k : ℕ) (cs : List Cond) (n : ℕ) (p q s : Position) (x : Variable) (u : ℤ) → Walking k cs n p q → KeptAs cs q s → SameWalk q s → IsWell k s → depth s < length s.variables → get_or s.variables (depth s) x ≡ x → IsFirstValue s.trail.state x u → s.walked ≡ n → (w : List (List ℤ)) → Searches cs p w → Walks cs n p w Budget s
 loop_budget k cs n p q s x u g d e y o v f m w h =
     let t = g.walks w h in
@@ -88,9 +95,11 @@ loop_budget k cs n p q s x u g d e y o v f m w h =
       m,
     )
 
+-- the test of two numbers that differ
 not_eq : (a b : ℕ) → (a ≡ b → ⊥) → nat_eq a b ≡ false
 not_eq a b h = elim (cases_eq a b) [ inl e ↦ absurd (h e) | inr n ↦ ne_eqb a b n ]
 
+-- the next member is walked, and is not full
 pub loop_visit : (k : ℕ) (cs : List Cond) (n : ℕ) (p q s r : Position) (u : ℤ) → Walking k cs n p q → KeptAs cs q s → SameWalk q s → s.walked ≡ q.walked → (s.walked ≡ n → ⊥) → IsWell k r → SameWalk s r → r.walked ≡ s.walked + 1 → path r ≡ path s ++ u ∷ [] → (depth r ≡ length r.variables → ⊥) → ((ds : List Cond) (w : List (List ℤ)) → Rests ds s w → Searches ds r (w ++ (path s ++ u ∷ []) ∷ [])) → Walking k cs n p r
 loop_visit k cs n p q s r u g d e f b w i j y o m = record {
   well = w;
@@ -107,6 +116,7 @@ loop_visit k cs n p q s r u g d e f b w i j y o m = record {
       );
 }
 
+-- a search that stands at a full member
 ready_full : (cs : List Cond) (r : Position) (w : List (List ℤ)) → 0 < length r.variables → depth r ≡ length r.variables → Searches cs r w → IsReady cs r true
 ready_full cs r w l h s = go r.variables l
   where
@@ -114,6 +124,7 @@ ready_full cs r w l h s = go r.variables l
     go [] l = absurd (omega arith)
     go (x ∷ xs) l = (h, w, s)
 
+-- the next member is full
 pub loop_found : (k : ℕ) (cs : List Cond) (n : ℕ) (p q s r : Position) (u : ℤ) → Walking k cs n p q → KeptAs cs q s → SameWalk q s → s.walked ≡ q.walked → (s.walked ≡ n → ⊥) → SameWalk s r → r.walked ≡ s.walked + 1 → path r ≡ path s ++ u ∷ [] → depth r ≡ length r.variables → ((ds : List Cond) (w : List (List ℤ)) → Rests ds s w → Searches ds r (w ++ (path s ++ u ∷ []) ∷ [])) → (w : List (List ℤ)) → Searches cs p w → Walks cs n p w Found r
 loop_found k cs n p q s r u g d e f c i j y o m w h =
     let t = g.walks w h in
@@ -131,15 +142,18 @@ loop_found k cs n p q s r u g d e f c i j y o m w h =
 
 -- ---- the measure
 
+-- fewer levels are left open
 pub measure_dead : (n : ℕ) (q s r : Position) → SameWalk q s → SameWalk s r → s.walked ≡ q.walked → r.walked ≡ s.walked → depth s ≡ depth q → depth r < depth s → (n - r.walked) * (length r.variables + 2) + depth r < (n - q.walked) * (length q.variables + 2) + depth q
 measure_dead n q s r e f g h i j =
     let a : (n - r.walked) * (length r.variables + 2) ≡ (n - q.walked) * (length q.variables + 2) =
     ap (λ (w : ℕ). (n - w) * (length r.variables + 2)) (h ∙ g) ∙ ap (λ (v : List Variable). (n - q.walked) * (length v + 2)) (f.variables ∙ e.variables) in
     omega (arith, a, i, j)
 
+-- one member less weighs more than one level more
 more : (a m d e : ℕ) → e ≡ d + 1 → 2 ≤ m → a * m + e < suc a * m + d
 more a m d e h l = let z : suc a * m ≡ a * m + m = suc-mul a m in omega (arith, z, h, l)
 
+-- one member less may be walked
 pub measure_visit : (n : ℕ) (q s r : Position) → SameWalk q s → SameWalk s r → s.walked ≡ q.walked → r.walked ≡ s.walked + 1 → q.walked < n → depth s ≡ depth q → depth r ≡ depth s + 1 → (n - r.walked) * (length r.variables + 2) + depth r < (n - q.walked) * (length q.variables + 2) + depth q
 measure_visit n q s r e f g h b i j =
     let a : suc (n - r.walked) ≡ n - q.walked = omega (arith, g, h, b) in
@@ -149,9 +163,11 @@ measure_visit n q s r e f g h b i j =
     let z : (n - r.walked) * (length q.variables + 2) + depth r < suc (n - r.walked) * (length q.variables + 2) + depth q = more (n - r.walked) (length q.variables + 2) (depth q) (depth r) (omega (arith, i, j)) (omega arith) in
     omega (arith, x, y, z)
 
+-- what a dead answer gives
 pub dead_as : {E : Type 0} (cs ds : List Cond) (q s : Position) (a : Result Settled E) (b : Settled) → SettledAs cs q a s → a ≡ Ok b → b ≡ Dead → cs ≡ ds → DeadAs ds q s
 dead_as {E} cs ds q s a b h e f g = subst (λ (xs : List Cond). DeadAs xs q s) g (subst (λ (c : Settled). SettledAs {E = E} cs q (Ok c) s) f (subst (λ (c : Result Settled E). SettledAs cs q c s) e h))
 
+-- what a kept one gives
 pub kept_as : {E : Type 0} (cs ds : List Cond) (q s : Position) (a : Result Settled E) (b : Settled) → SettledAs cs q a s → a ≡ Ok b → b ≡ Kept → cs ≡ ds → KeptAs ds q s
 kept_as {E} cs ds q s a b h e f g = subst (λ (xs : List Cond). KeptAs xs q s) g (subst (λ (c : Settled). SettledAs {E = E} cs q (Ok c) s) f (subst (λ (c : Result Settled E). SettledAs cs q c s) e h))
 

@@ -17,50 +17,62 @@ use Rattle.trail_search.specs.Shed.{Sheds}
 
 -- ---- places
 
+-- places count from 1
 place_from_1 : (bs : List Bool) (s : ℕ) → place_in bs s ≡ true → 1 ≤ s
 place_from_1 bs zero h = absurd (false≢true h)
 place_from_1 bs (suc s) h = omega arith
 
+-- no place before n is there
 abbrev pub NoneFrom : State → ℕ → ℕ → Type 0
 NoneFrom S o n = (s : ℕ) → s < n → has S o s ≡ true → ⊥
 
+-- one place more that is not there
 pub none_more : (S : State) (o n : ℕ) → NoneFrom S o n → (has S o n ≡ false) → NoneFrom S o (n + 1)
 none_more S o n h f s b t = elim (cases_eq s n) [
   | inl e ↦ false≢true (sym f ∙ subst (λ (z : ℕ). has S o z ≡ true) e t)
   | inr ne ↦ h s (omega arith) t
 ]
 
+-- there is none before the first
 pub none_start : (S : State) (o : ℕ) → NoneFrom S o 1
 none_start S o s b t = absurd (let l = place_from_1 (reach S o).places s t in omega (arith, l))
 
+-- each place that is there comes from n on
 pub least_of : (S : State) (o n u : ℕ) → NoneFrom S o n → has S o u ≡ true → n ≤ u
 least_of S o n u h t = elim (cases_lt u n) [ inl b ↦ absurd (h u b t) | inr b ↦ b ]
 
+-- all places are tried, and a set that is not empty has one
 pub not_none : (S : State) (o n : ℕ) → NoneFrom S o n → 17 ≤ n → length (reach S o).places ≡ 16 → NotEmpty (reach S o) → ⊥
 not_none S o n h l e full = h full.place.0 (omega (arith, place_few (reach S o).places full.place.0 full.place.1)) full.place.1
 
 -- ---- places taken away
 
+-- a place that is taken away is gone
 set_gone : (bs : List Bool) (k : ℕ) → place_in (set bs k false) (suc k) ≡ false
 set_gone bs k = elim (cases_lt k (length bs)) [
   | inl b ↦ get_or-set_same bs k false false b
   | inr b ↦ get_or_past (set bs k false) k false (omega (arith, length-set bs k false))
 ]
 
+-- the others stay
 set_kept : (bs : List Bool) (k u : ℕ) → u ≢ suc k → place_in bs u ≡ true → place_in (set bs k false) u ≡ true
 set_kept bs k zero ne h = h
 set_kept bs k (suc u) ne h = let ne' : u ≢ k = omega arith in get_or-set_other bs k u false false ne' ∙ h
 
+-- what is not true is false
 not_true : (b : Bool) → (b ≡ true → ⊥) → b ≡ false
 not_true true h = absurd (h refl)
 not_true false h = refl
 
+-- nothing is taken away yet
 pub sheds_start : (G : State) (o a : ℕ) → Sheds G G o a a
 sheds_start G o a = record { inside = inside_self G; gone = λ s l m. absurd (omega arith); all = λ T i h. i }
 
+-- an object without the place k + 1
 abbrev dropped : Reach → ℕ → Reach
 dropped r k = record { places = set r.places k false; region = r.region }
 
+-- one place more is taken away
 sheds_drop : (G N : State) (o a k : ℕ) → o < length N → Sheds G N o a (suc k) → a ≤ suc k → Sheds G (set N o (dropped (reach N o) k)) o a (suc (suc k))
 sheds_drop G N o a k h s l =
     let i : Inside (set N o (dropped (reach N o) k)) N = narrowed N o (dropped (reach N o) k) (record {
@@ -87,6 +99,7 @@ sheds_drop G N o a k h s l =
           });
     }
 
+-- the same as the code does it
 pub sheds_more : (G N R : State) (o a s : ℕ) → o < length G → 1 ≤ s → a ≤ s → Sheds G N o a s → R ≡ set N o (without (reach N o) s) → Sheds G R o a (s + 1)
 sheds_more G N R o a zero h k l m q = absurd (omega arith)
 sheds_more G N R o a (suc k) h l m s q =
@@ -95,6 +108,7 @@ sheds_more G N R o a (suc k) h l m s q =
     let f : suc (suc k) ≡ suc k + 1 = omega arith in
     subst (λ (n : ℕ). Sheds G R o a n) f (subst (λ (S : State). Sheds G S o a (suc (suc k))) (sym (q ∙ e)) (sheds_drop G N o a k h' s m))
 
+-- without the places after the first one, the object has that one alone
 pub fix_place : (G N : State) (o u : ℕ) (v : ℤ) → length (reach G o).places ≡ 16 → IsFirstValue G (PlaceOf o) v → v ≡ pos u → Sheds G N o (u + 1) 17 → Narrows G N (λ T. IsFixed T (PlaceOf o) v)
 fix_place G N o u v e f q s = record {
   inside = s.inside;
@@ -108,6 +122,7 @@ fix_place G N o u v e f q s = record {
   all = λ T n i h. s.all T i (λ z b c. not_true (has T o z) (λ t. let w : pos z ≡ v = h z t in absurd (omega (arith, ints, w, q, b))));
 }
 
+-- without the places before the bound, none comes before it
 pub bound_place : (G N : State) (o c : ℕ) (v : ℤ) → length (reach G o).places ≡ 16 → c ≤ 17 → 1 ≤ c → (c ≤ 16 → v ≤ℤ pos c) → (1 < c → pos c ≤ℤ v) → Sheds G N o 1 c → Narrows G N (λ T. IsFrom T (PlaceOf o) v)
 bound_place G N o c v e k l p q s = record {
   inside = s.inside;
@@ -124,6 +139,7 @@ bound_place G N o c v e k l p q s = record {
 
 -- ---- coordinates
 
+-- a lower high end
 narrow_high : (G : State) (o d : ℕ) (v : ℤ) → o < length G → d < length (reach G o).region.hi → v ≤ℤ high G o d → Narrows G (set G o (with_high (reach G o) d v)) (λ T. high T o d ≤ℤ v)
 narrow_high G o d v h k l = record {
   inside = narrowed G o (with_high (reach G o) d v) (record {
@@ -145,6 +161,7 @@ narrow_high G o d v h k l = record {
   });
 }
 
+-- a higher low end
 narrow_low : (G : State) (o d : ℕ) (v : ℤ) → o < length G → d < length (reach G o).region.lo → low G o d ≤ℤ v → Narrows G (set G o (with_low (reach G o) d v)) (λ T. v ≤ℤ low T o d)
 narrow_low G o d v h k l = record {
   inside = narrowed G o (with_low (reach G o) d v) (record {
@@ -166,9 +183,11 @@ narrow_low G o d v h k l = record {
   });
 }
 
+-- a state inside has the same objects
 in_length : (N G T : State) (o : ℕ) → o < length G → Inside T N → Inside N G → o < length T
 in_length N G T o h i j = omega (arith, i.objects, j.objects, h)
 
+-- upwards a coordinate is fixed by its high end
 pub fix_up : (G N : State) (o d : ℕ) (v : ℤ) → o < length G → d < length (reach G o).region.hi → NotEmpty (reach G o) → IsFirstValue G (CoordinateOf o d false) v → N ≡ set G o (with_high (reach G o) d v) → Narrows G N (λ T. IsFixed T (CoordinateOf o d false) v)
 fix_up G N o d v h k full f q =
     let n = narrow_high G o d v h k (let r = full.ranges d in omega (arith, ints, r, f)) in
@@ -181,6 +200,7 @@ fix_up G N o d v h k full f q =
       all = λ T e i x. n.all T e i (omega (arith, ints, x.1));
     })
 
+-- downwards by its low end
 pub fix_down : (G N : State) (o d : ℕ) (v : ℤ) → o < length G → d < length (reach G o).region.lo → NotEmpty (reach G o) → IsFirstValue G (CoordinateOf o d true) v → N ≡ set G o (with_low (reach G o) d v) → Narrows G N (λ T. IsFixed T (CoordinateOf o d true) v)
 fix_down G N o d v h k full f q =
     let n = narrow_low G o d v h k (let r = full.ranges d in omega (arith, ints, r, f)) in
@@ -193,18 +213,23 @@ fix_down G N o d v h k full f q =
       all = λ T e i x. n.all T e i (omega (arith, ints, x.0));
     })
 
+-- upwards a bound is a low end
 pub bound_up : (G N : State) (o d : ℕ) (v : ℤ) → o < length G → d < length (reach G o).region.lo → low G o d ≤ℤ v → N ≡ set G o (with_low (reach G o) d v) → Narrows G N (λ T. IsFrom T (CoordinateOf o d false) v)
 bound_up G N o d v h k l q = subst (λ (S : State). Narrows G S (λ T. IsFrom T (CoordinateOf o d false) v)) (sym q) (narrow_low G o d v h k l)
 
+-- downwards it is a high end
 pub bound_down : (G N : State) (o d : ℕ) (v : ℤ) → o < length G → d < length (reach G o).region.hi → v ≤ℤ high G o d → N ≡ set G o (with_high (reach G o) d v) → Narrows G N (λ T. IsFrom T (CoordinateOf o d true) v)
 bound_down G N o d v h k l q = subst (λ (S : State). Narrows G S (λ T. IsFrom T (CoordinateOf o d true) v)) (sym q) (narrow_high G o d v h k l)
 
+-- upwards a bound at most the low end changes nothing
 pub same_up : (G : State) (o d : ℕ) (v : ℤ) → v ≤ℤ low G o d → Narrows G G (λ T. IsFrom T (CoordinateOf o d false) v)
 same_up G o d v l = record { inside = inside_self G; meet = λ T n i. omega (arith, ints, l, (i.each o).lows d); all = λ T n i q. i }
 
+-- downwards a bound at least the high end changes nothing
 pub same_down : (G : State) (o d : ℕ) (v : ℤ) → high G o d ≤ℤ v → Narrows G G (λ T. IsFrom T (CoordinateOf o d true) v)
 same_down G o d v l = record { inside = inside_self G; meet = λ T n i. omega (arith, ints, l, (i.each o).highs d); all = λ T n i q. i }
 
+-- the first value of a place is the least one
 pub fix_least : (G N : State) (o p u : ℕ) (v : ℤ) → length (reach G o).places ≡ 16 → IsFirstValue G (PlaceOf o) v → has G o p ≡ true → ((z : ℕ) → has G o z ≡ true → p ≤ z) → u ≡ p + 1 → Sheds G N o u 17 → Narrows G N (λ T. IsFixed T (PlaceOf o) v)
 fix_least G N o p u v e f there least q s =
     let a : f.0 ≤ p = f.3 p there in
@@ -223,9 +248,11 @@ bound_none G N o Q e h s none = record {
   all = λ T n i q. absurd (none T n i q);
 }
 
+-- upwards no coordinate is left past the high end
 pub none_up : (G : State) (o d : ℕ) (v : ℤ) → o < length G → high G o d <ℤ v → (T : State) → HasNoEmpty T → Inside T G → IsFrom T (CoordinateOf o d false) v → ⊥
 none_up G o d v h l T n i q = let r = (n o (omega (arith, i.objects, h))).ranges d in absurd (omega (arith, ints, l, r, q, (i.each o).highs d))
 
+-- downwards none is left past the low end
 pub none_down : (G : State) (o d : ℕ) (v : ℤ) → o < length G → v <ℤ low G o d → (T : State) → HasNoEmpty T → Inside T G → IsFrom T (CoordinateOf o d true) v → ⊥
 none_down G o d v h l T n i q = let r = (n o (omega (arith, i.objects, h))).ranges d in absurd (omega (arith, ints, l, r, q, (i.each o).lows d))
 
@@ -235,15 +262,18 @@ none_down G o d v h l T n i q = let r = (n o (omega (arith, i.objects, h))).rang
 abbrev pub NoneAfter : State → ℕ → ℤ → ℕ → Type 0
 NoneAfter S o v n = (s : ℕ) → s < n → has S o s ≡ true → v <ℤ pos s → ⊥
 
+-- no place before the first comes after a number
 pub none_after_start : (S : State) (o : ℕ) (v : ℤ) → NoneAfter S o v 1
 none_after_start S o v s b t l = absurd (let m = place_from_1 (reach S o).places s t in omega (arith, m, b))
 
+-- one place more that does not
 pub none_after_more : (S : State) (o n : ℕ) (v : ℤ) → NoneAfter S o v n → (has S o n ≡ true → v <ℤ pos n → ⊥) → NoneAfter S o v (n + 1)
 none_after_more S o n v h f s b t l = elim (cases_eq s n) [
   | inl e ↦ f (subst (λ (z : ℕ). has S o z ≡ true) e t) (subst (λ (z : ℕ). v <ℤ pos z) e l)
   | inr ne ↦ h s (omega arith) t l
 ]
 
+-- all places are tried
 pub none_after_end : (S : State) (o n : ℕ) (v : ℤ) → NoneAfter S o v n → 17 ≤ n → length (reach S o).places ≡ 16 → HasAfter S (PlaceOf o) v → ⊥
 none_after_end S o n v h l e y = h y.0 (omega (arith, l, e, place_few (reach S o).places y.0 y.1)) y.1 y.2
 

@@ -14,6 +14,7 @@ use Rattle.trail_search.specs.Next.{Quest, Answers, AsBefore, IsSound}
 use Rattle.trail_search.specs.Walker.{Position, tree_of, depth, path, SameWalk, IsWell, IsReady, ReadyFor, StandsFor, StandsAt, GoesOnAs}
 use Rattle.trail_search.proofs.Standing.{tree_same, path_length}
 
+-- none of the members walked since is full
 all_since : (W : Tree) (w v : List (List ℤ)) (m : ℕ) → length w ≡ m → All (λ q. is_full W q ≡ false) v → All (λ q. is_full W q ≡ false) (drop m (w ++ v))
 all_since W w v m e h = subst (All (λ q. is_full W q ≡ false)) (sym (ap (λ (n : ℕ). drop n (w ++ v)) (sym e) ∙ dropped w v)) h
   where
@@ -21,11 +22,13 @@ all_since W w v m e h = subst (All (λ q. is_full W q ≡ false)) (sym (ap (λ (
     dropped [] v = refl
     dropped (x ∷ w) v = dropped w v
 
+-- at full depth the path has all values
 whole_path : (k : ℕ) (q : Position) → IsWell k q → depth q ≡ length q.variables → path q ≡ q.values
 whole_path k q w h = ap (λ (m : ℕ). take m q.values) (h ∙ sym w.values) ∙ take-length q.values
 
 -- ---- the answers
 
+-- the answer that a full member was found
 pub found_answer : (cs : List Cond) (k n : ℕ) (p q : Position) (a b : Quest) → SameWalk p q → IsWell k q → a.walk ≡ tree_of cs p → b.walk ≡ tree_of cs q → a.walked ≡ p.walked → a.budget ≡ n → b.walked ≡ q.walked → b.layout ≡ Some q.values → b.over ≡ None → GoesOnAs cs n p Found q → Answers a Found b
 found_answer cs k n p q a b s x e f m g y l o t =
     let w = t.0 in
@@ -44,6 +47,7 @@ found_answer cs k n p q a b s x e f m g y l o t =
       o,
     )
 
+-- the answer that the walk is used up
 pub ended_answer : (cs : List Cond) (n : ℕ) (p q : Position) (a b : Quest) → a.walk ≡ tree_of cs p → b.walk ≡ tree_of cs p → a.walked ≡ p.walked → a.budget ≡ n → b.walked ≡ q.walked → b.over ≡ Some Ended → GoesOnAs cs n p Ended q → Answers a Ended b
 ended_answer cs n p q a b e f m g y o t =
     let w = t.0 in
@@ -58,6 +62,7 @@ ended_answer cs n p q a b e f m g y o t =
       o,
     )
 
+-- the answer that the budget is used up
 pub budget_answer : (cs : List Cond) (n : ℕ) (p q : Position) (a b : Quest) → a.walk ≡ tree_of cs p → b.walk ≡ tree_of cs p → a.walked ≡ p.walked → a.budget ≡ n → b.walked ≡ q.walked → b.over ≡ Some Budget → GoesOnAs cs n p Budget q → Answers a Budget b
 budget_answer cs n p q a b e f m g y o t =
     let w = t.0 in
@@ -76,6 +81,7 @@ budget_answer cs n p q a b e f m g y o t =
 pub as_before : (a b : Quest) (s : Step) → a.over ≡ None → Answers a s b → AsBefore a.over a s b
 as_before a b s e h = subst (λ (o : Option Step). AsBefore o a s b) (sym e) h
 
+-- the depth of a search that is ready
 pub stands_at : (cs : List Cond) (p : Position) (f : Bool) → IsReady cs p f → StandsAt p f
 stands_at cs p f r = over p.variables f r
   where
@@ -94,15 +100,19 @@ no_variables k S [] down n e = elim (cases_lt 0 (length S)) [
 ]
 no_variables k S (o ∷ os) down n e = absurd (cc)
 
+-- a search without variables has no objects
 pub no_objects : (k : ℕ) (p : Position) → (order : Order) × NamesEach k p.first order × (p.variables ≡ variables_in order) → p.variables ≡ [] → length p.first ≡ 0
 no_objects k p h e = no_variables k p.first h.0.objects h.0.down h.1 (sym h.2 ∙ e)
 
+-- a word is there
 not_none : (s : Step) → Some s ≡ None → ⊥
 not_none s o = cc
 
+-- the variables stay those of the order
 named_on : (k : ℕ) (p q : Position) → SameWalk p q → (order : Order) × NamesEach k p.first order × (p.variables ≡ variables_in order) → (order : Order) × NamesEach k q.first order × (q.variables ≡ variables_in order)
 named_on k p q s h = (h.0, subst (λ (S : State). NamesEach k S h.0) (sym s.first) h.1, s.variables ∙ h.2)
 
+-- after a full member the search is sound
 pub sound_found : (k : ℕ) (b : Bool) (cs ds : List Cond) (a c n : ℕ) (p q : Position) (found : Bool) (over : Option Step) → IsSound k b cs a n p found over → over ≡ None → IsWell k q → SameWalk p q → ds ≡ cs → c ≡ a → GoesOnAs cs n p Found q → IsSound k b ds c n q true over
 sound_found k b cs ds a c n p q found over i o x s e d h = record {
   well = x;
@@ -116,6 +126,7 @@ sound_found k b cs ds a c n p q found over i o x s e d h = record {
   named = named_on k p q s i.named;
 }
 
+-- a search that is over is sound
 pub sound_over : (k : ℕ) (b : Bool) (cs ds : List Cond) (a c n : ℕ) (p q : Position) (found found' : Bool) (over : Option Step) (e : Step) → IsSound k b cs a n p found over → IsWell k q → SameWalk p q → ds ≡ cs → c ≡ a → (e ≡ Memory → b ≡ true) → e ≢ Found → IsSound k b ds c n q found' (Some e)
 sound_over k b cs ds a c n p q found found' over e i x s f d m not_found = record {
   well = x;
@@ -132,9 +143,11 @@ sound_over k b cs ds a c n p q found found' over e i x s f d m not_found = recor
     some_same : (s t : Step) → Some s ≡ Some t → s ≡ t
     some_same s t o = cc
 
+-- a word other than want of memory
 pub not_memory : (s : Step) → s ≢ Memory → s ≡ Memory → (b : Bool) → b ≡ true
 not_memory s n e b = absurd (n e)
 
+-- want of memory is answered only where events are kept
 pub only_kept : (b : Bool) (s : Step) → (b ≡ false → s ≢ Memory) → s ≡ Memory → b ≡ true
 only_kept true s h e = refl
 only_kept false s h e = absurd (h refl e)

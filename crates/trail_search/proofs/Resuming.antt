@@ -11,6 +11,7 @@ use Rattle.trail_search.specs.Walker.{Position, tree_of, depth, path, SameWalk, 
 use Rattle.trail_search.proofs.Standing.{tree_same, path_length}
 use Rattle.trail_search.proofs.Loop.{stuck_whole}
 
+-- none of them is full
 abbrev AllShort : Tree → List (List ℤ) → Type 0
 AllShort W v = All (λ r. is_full W r ≡ false) v
 
@@ -40,6 +41,7 @@ ready_after k cs p o n r = over p.variables n r
     over [] n r = absurd (n refl)
     over (x ∷ xs) n r = (r.1, r.2.4, (r.2.0, r.2.1, r.2.2, inl (path_length p (omega (arith, o.values, o.depth)) ∙ r.0), r.2.4))
 
+-- a list that is not empty has an element
 some_variable : (xs : List Variable) → (xs ≡ [] → ⊥) → 0 < length xs
 some_variable [] n = absurd (n refl)
 some_variable (x ∷ xs) n = omega arith

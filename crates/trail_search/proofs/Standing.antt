@@ -35,6 +35,7 @@ use Rattle.trail_search.proofs.Token.{token_in, token_off, token_leave, token_cl
 
 -- ---- what follows a settle
 
+-- the greatest supported state of what is left is the best one
 pub best_of_left : (W : Tree) (q : List ℤ) (b : Option ℤ) (N H : State) → IsLeft W q b N → IsGreatest W.conditions N H → IsBest W q b H
 best_of_left W q b N H n h = record {
   supported = h.supported;
@@ -43,9 +44,11 @@ best_of_left W q b N H n h = record {
   greatest = λ T s i m. h.greatest T s (n.all T s i m);
 }
 
+-- no supported state inside what is left, so none that meets the path
 pub none_of_left : (W : Tree) (q : List ℤ) (b : Option ℤ) (N : State) → IsLeft W q b N → NoneInside W.conditions N → NoneMeets W q b
 none_of_left W q b N n h T s i m = h T s (n.all T s i m)
 
+-- at the start the first state is left
 pub left_start : (W : Tree) → IsLeft W [] None W.first
 left_start W = record {
   inside = inside_self W.first;
@@ -57,11 +60,13 @@ left_start W = record {
     none [] T = tt
     none (x ∷ xs) T = tt
 
+-- two facts of the next variable
 at_both : (xs : List Variable) (q : List ℤ) (P Q R : Variable → Type 0) → ((x : Variable) → P x → Q x → R x) → AtNext xs q P → AtNext xs q Q → AtNext xs q R
 at_both [] q P Q R f h k = h
 at_both (x ∷ xs) [] P Q R f h k = f x h k
 at_both (x ∷ xs) (v ∷ q) P Q R f h k = at_both xs q P Q R f h k
 
+-- one fact of the next variable gives another
 pub at_map : (xs : List Variable) (q : List ℤ) (P Q : Variable → Type 0) → ((x : Variable) → P x → Q x) → AtNext xs q P → AtNext xs q Q
 at_map [] q P Q f h = h
 at_map (x ∷ xs) [] P Q f h = f x h
@@ -73,6 +78,7 @@ at_number [] q P d h p = absurd (omega arith)
 at_number (x ∷ xs) [] P d h p = p
 at_number (x ∷ xs) (v ∷ q) P d h p = at_number xs q P d (omega arith) p
 
+-- a fact of the next variable, by its number
 pub at_number_out : (xs : List Variable) (q : List ℤ) (P : Variable → Type 0) (d : Variable) → AtNext xs q P → P (get_or xs (length q) d)
 at_number_out [] q P d h = absurd h
 at_number_out (x ∷ xs) [] P d h = h
@@ -90,6 +96,7 @@ left_fix W q b u x G N a l g e f n = record {
       n.all T s.nonempty (g.greatest T s i r.0) (subst (λ (y : Variable). IsFixed T y u) e (at_number_out W.variables q (λ y. IsFixed T y u) x r.1));
 }
 
+-- what is left past the first value
 pub left_past : (W : Tree) (q : List ℤ) (b : Option ℤ) (u v : ℤ) (x : Variable) (G N : State) → AreOf W.first W.variables → length q < length W.variables → IsBest W q b G → get_or W.variables (length q) x ≡ x → IsFirstValue G x u → v ≡ after x u → Narrows G N (λ T. IsFrom T x v) → IsLeft W q (Some v) N
 left_past W q b u v x G N a l g e f p n = record {
   inside = inside_trans N G W.first n.inside g.inside;
@@ -101,6 +108,7 @@ left_past W q b u v x G N a l g e f p n = record {
       n.all T s.nonempty (g.greatest T s i r.0) (subst (λ (y : Variable). IsFrom T y v) e (at_number_out W.variables q (λ y. IsFrom T y v) x r.1));
 }
 
+-- what is left from a bound on
 pub left_bound : (W : Tree) (q : List ℤ) (v : ℤ) (x : Variable) (G N : State) → AreOf W.first W.variables → length q < length W.variables → IsLeft W q None G → get_or W.variables (length q) x ≡ x → Narrows G N (λ T. IsFrom T x v) → IsLeft W q (Some v) N
 left_bound W q v x G N a l g e n = record {
   inside = inside_trans N G W.first n.inside g.inside;
@@ -114,9 +122,11 @@ left_bound W q v x G N a l g e n = record {
 
 -- ---- levels
 
+-- no level is open
 pub levels_none : (W : Tree) → AreLevels W [] []
 levels_none W = record { number = refl; each = λ i h. absurd (omega arith) }
 
+-- one level more
 pub levels_push : (W : Tree) (q : List ℤ) (saved : List State) (u : ℤ) (G : State) → AreLevels W q saved → IsLevel W q u G → AreLevels W (q ++ u ∷ []) (saved ++ G ∷ [])
 levels_push W q saved u G a g = record {
   number = length-append saved (G ∷ []) ∙ ap (λ (n : ℕ). n + 1) a.number ∙ sym (length-append q (u ∷ []));
@@ -137,6 +147,7 @@ levels_push W q saved u G a g = record {
     moved : (W : Tree) (q p : List ℤ) (u v : ℤ) (G H : State) → q ≡ p → u ≡ v → G ≡ H → IsLevel W q u G → IsLevel W p v H
     moved W q p u v G H e f k l = subst (λ (S : State). IsLevel W p v S) k (subst (λ (z : ℤ). IsLevel W p z G) f (subst (λ (s : List ℤ). IsLevel W s u G) e l))
 
+-- one level less
 pub levels_pop : (W : Tree) (q : List ℤ) (saved : List State) (u : ℤ) (G : State) → AreLevels W (q ++ u ∷ []) (saved ++ G ∷ []) → AreLevels W q saved × IsLevel W q u G
 levels_pop W q saved u G a =
     let n : length saved ≡ length q = omega (arith, a.number, length-append saved (G ∷ []), length-append q (u ∷ [])) in
@@ -157,14 +168,17 @@ levels_pop W q saved u G a =
 
 -- ---- the invariant
 
+-- a supported state that begins with the prefix shows that it is a member
 member_of : (cs : List Cond) (S : State) (xs : List Variable) (q r : List ℤ) (P : Variable → Type 0) → AtNext xs q P → ((T : State) × IsSupported cs T × Inside T S × Begins T xs r) → IsMember cs S xs r
 member_of cs S [] q r P h m = absurd h
 member_of cs S (x ∷ xs) q r P h m = m
 
+-- a member has such a state
 pub member_out : (cs : List Cond) (S : State) (xs : List Variable) (r : List ℤ) → 0 < length xs → IsMember cs S xs r → (T : State) × IsSupported cs T × Inside T S × Begins T xs r
 member_out cs S [] r h m = absurd (omega arith)
 member_out cs S (x ∷ xs) r h m = m
 
+-- where there is a next variable, there is a variable
 in_range : (xs : List Variable) (q : List ℤ) (P : Variable → Type 0) → AtNext xs q P → 0 < length xs
 in_range [] q P h = absurd h
 in_range (x ∷ xs) q P h = omega arith
@@ -183,6 +197,7 @@ visit_rest W along q b w u G a s g f r n p =
     let m = member_out W.conditions W.first W.variables r (in_range W.variables q (λ x. IsFirstValue G x u) f) n.0 in
     visit_cases m.0 G W.variables q b u r m.1.nonempty (are_of W.first m.0 W.variables m.2.objects a) m.3 (s.rest r n p) f (λ k. g.greatest m.0 m.1 m.2 k)
 
+-- the path with the first value is the next member of the walk
 visit_front : (W : Tree) (along : Bool) (q : List ℤ) (b : Option ℤ) (w : List (List ℤ)) (u : ℤ) (G : State) → AreOf W.first W.variables → Stands W along q b w → IsBest W q b G → AtNext W.variables q (λ x. IsFirstValue G x u) → IsFront W (w ++ (q ++ u ∷ []) ∷ [])
 visit_front W along q b w u G a s g f =
     let i = visit_in W along q b w u G s g f in
@@ -191,16 +206,19 @@ visit_front W along q b w u G a s g f =
       | inr h ↦ inr (rest_precedes W.variables (q ++ u ∷ []) r h)
     ])
 
+-- each prefix below it comes after all members walked
 visit_beyond : (W : Tree) (along : Bool) (q : List ℤ) (b : Option ℤ) (w : List (List ℤ)) (u : ℤ) (G : State) → Stands W along q b w → IsBest W q b G → AtNext W.variables q (λ x. IsFirstValue G x u) → (r : List ℤ) → Rest W.variables (q ++ u ∷ []) None r → All (λ v. Precedes W.variables v r) (w ++ (q ++ u ∷ []) ∷ [])
 visit_beyond W along q b w u G s g f r h =
     All-push (λ v. Precedes W.variables v r) w (q ++ u ∷ []) (s.beyond r (rest_visited G W.variables q b u r g.meets f h)) (rest_precedes W.variables (q ++ u ∷ []) r h)
 
+-- what holds of each prefix holds of the last one and of those before it
 all_last : (P : List ℤ → Type 0) (w : List (List ℤ)) (q : List ℤ) → All P (w ++ q ∷ []) → All P w × P q
 all_last P w q h = (
   λ k d l. subst P (get_or_append_left w (q ∷ []) d k l) (h k d (omega (arith, length-append w (q ∷ [])))),
   subst P (get_or-append_seam w q [] []) (h (length w) [] (omega (arith, length-append w (q ∷ [])))),
 )
 
+-- each other member comes before it, is it, or is left below it or past it
 visit_left : (W : Tree) (along : Bool) (q : List ℤ) (b : Option ℤ) (w : List (List ℤ)) (u : ℤ) (G : State) → AreOf W.first W.variables → Stands W along q b w → IsBest W q b G → AtNext W.variables q (λ x. IsFirstValue G x u) → (r : List ℤ) → IsIn W r → All (λ v. Precedes W.variables v r) (w ++ (q ++ u ∷ []) ∷ []) → Rest W.variables (q ++ u ∷ []) None r
 visit_left W along q b w u G a s g f r n p =
     let l = all_last (λ v. Precedes W.variables v r) w (q ++ u ∷ []) p in
@@ -227,12 +245,14 @@ visit_leave W q b w u G a s g f e = record {
   token = token_leave W W.after q b u s.token (rest_here G W.variables q b u g.meets f) e;
 }
 
+-- what is left of a walk after a token lies from its bound on
 rest_bound : (W : Tree) (t q : List ℤ) (c : ℤ) (r : List ℤ) → W.after ≡ Some t → 0 < length W.variables → FollowsToken W (Some t) true q (Some c) → IsIn W r → Rest W.variables q None r → Rest W.variables q (Some c) r
 rest_bound W t q c r e l f n h =
     let m = member_out W.conditions W.first W.variables r l n.0 in
     let k : IsAfter W.variables t r = subst (λ (a : Option (List ℤ)). IfSome a (λ t. IsAfter W.variables t r)) e n.1 in
     rest_along W.variables t q c r f.0 (begins_length m.0 W.variables r m.3) k f.1 h
 
+-- what is left from a bound on is left
 bound_rest : (xs : List Variable) (q : List ℤ) (c : ℤ) (r : List ℤ) → Rest xs q (Some c) r → Rest xs q None r
 bound_rest [] q c r h = h
 bound_rest (x ∷ xs) q c [] h = absurd h
@@ -288,11 +308,13 @@ stands_whole W along b w a l s none = front_whole W w s.front (λ r n p.
 
 -- ---- the start
 
+-- at the start each prefix is left
 starts : (xs : List Variable) (T : State) (r : List ℤ) → Begins T xs r → Rest xs [] None r
 starts xs T [] g = absurd g
 starts [] T (w ∷ r) g = absurd g
 starts (x ∷ xs) T (w ∷ r) g = tt
 
+-- the search stands at its start, without a token
 pub stands_start : (W : Tree) → 0 < length W.variables → W.after ≡ None → Stands W false [] None []
 stands_start W l e = record {
   front = front_none W;
@@ -301,6 +323,7 @@ stands_start W l e = record {
   token = subst (λ (o : Option (List ℤ)). FollowsToken W o false [] None) (sym e) refl;
 }
 
+-- and with one
 pub stands_after : (W : Tree) (t : List ℤ) → 0 < length W.variables → W.after ≡ Some t → length t ≡ length W.variables → Stands W true [] (Some (bound_at W.variables t 0)) []
 stands_after W t l e k =
     let z : FollowsToken W (Some t) true [] (Some (bound_at W.variables t 0)) = (k, onway_start W.variables t k l) in
@@ -313,13 +336,16 @@ stands_after W t l e k =
 
 -- ---- the steps of the walker
 
+-- the walk of those conditions, state, variables and token
 abbrev tree : List Cond → State → List Variable → Option (List ℤ) → Tree
 tree cs f v t = record { conditions = cs; first = f; variables = v; after = t }
 
+-- the same walk has the same tree
 pub tree_same : (cs : List Cond) (p r : Position) → SameWalk p r → tree_of cs p ≡ tree_of cs r
 tree_same cs p r s =
     ap (λ (f : State). tree cs f p.variables p.token) (sym s.first) ∙ ap (λ (v : List Variable). tree cs r.first v p.token) (sym s.variables) ∙ ap (λ (t : Option (List ℤ)). tree cs r.first r.variables t) (sym s.token)
 
+-- a search stands at its own path and levels
 pub searches_as : (cs : List Cond) (r : Position) (W : Tree) (along : Bool) (q : List ℤ) (b : Option ℤ) (w : List (List ℤ)) (saved : List State) → W ≡ tree_of cs r → along ≡ r.along → q ≡ path r → saved ≡ r.trail.restores → Stands W along q b w → AreLevels W q saved → IsLeft W q b r.trail.state → length w ≡ r.walked → Searches cs r w
 searches_as cs r W along q b w saved e f g h s a l n = (
   b,
@@ -329,14 +355,17 @@ searches_as cs r W along q b w saved e f g h s a l n = (
   n,
 )
 
+-- the path has one value for each level
 pub path_length : (p : Position) → depth p ≤ length p.values → length (path p) ≡ depth p
 path_length p h = length-take-le (depth p) p.values h
 
+-- a level more has one value more
 pub path_entered : (p r : Position) (u : ℤ) → depth p < length p.values → r.trail.restores ≡ p.trail.restores ++ p.trail.state ∷ [] → r.values ≡ set p.values (depth p) u → path r ≡ path p ++ u ∷ []
 path_entered p r u h e f =
     let n : depth r ≡ suc (depth p) = ap length e ∙ length-append p.trail.restores (p.trail.state ∷ []) ∙ (let z : depth p + 1 ≡ suc (depth p) = omega arith in z) in
     ap (λ (m : ℕ). take m r.values) n ∙ ap (take (suc (depth p))) f ∙ take-suc-set p.values (depth p) u h
 
+-- the member is walked, and the search stands below it
 enter_stands : (W : Tree) (along : Bool) (q : List ℤ) (b : Option ℤ) (w : List (List ℤ)) (u : ℤ) (G : State) → AreOf W.first W.variables → Stands W along q b w → IsBest W q b G → AtNext W.variables q (λ x. IsFirstValue G x u) → (along ≡ true → (t : List ℤ) → W.after ≡ Some t → get_or t (length q) (pos 0) ≡ u → suc (length q) ≡ length W.variables) → Stands W false (q ++ u ∷ []) None (w ++ (q ++ u ∷ []) ∷ [])
 enter_stands W false q b w u G a s g f e = visit_off W q b w u G a s g f
 enter_stands W true q b w u G a s g f e = visit_leave W q b w u G a s g f (e refl)
@@ -383,6 +412,7 @@ descend_on cs p r w u c x y N a m v e f s o i k l n t d j h =
     (left_bound W (q ++ u ∷ []) c y N r.trail.state a (omega (arith, len, t.4)) (left_fix W q h.0 u x p.trail.state N a m' bs e' f n) d' j)
     (length-append w ((q ++ u ∷ []) ∷ []) ∙ ap (λ (j : ℕ). j + 1) h.4 ∙ sym k)
 
+-- the same of a search that is stuck
 stuck_as : (cs : List Cond) (r : Position) (W : Tree) (along : Bool) (q : List ℤ) (b : Option ℤ) (w : List (List ℤ)) (saved : List State) → W ≡ tree_of cs r → along ≡ r.along → q ≡ path r → saved ≡ r.trail.restores → Stands W along q b w → AreLevels W q saved → IsDone W q b → length w ≡ r.walked → IsStuck cs r w
 stuck_as cs r W along q b w saved e f g h s a l n = (
   b,
@@ -458,6 +488,7 @@ module _ (cs : List Cond) (p r : Position) (w : List (List ℤ)) (G : State) (x 
 
 -- ---- what is true of each walker
 
+-- one value more that fits its variable
 pub values_set : (xs : List Variable) (vs : List ℤ) (m : ℕ) (x : Variable) (u : ℤ) → m < length xs → length vs ≡ length xs → get_or xs m x ≡ x → IsValueOf x u → AreValues xs vs → AreValues xs (set vs m u)
 values_set xs vs m x u h l e k a i y b = elim (cases_eq i m) [
   | inl q ↦ subst (λ (n : ℕ). IsValueOf (get_or xs n y) (get_or (set vs m u) n (pos 0))) (sym q)
@@ -466,6 +497,7 @@ values_set xs vs m x u h l e k a i y b = elim (cases_eq i m) [
   | inr ne ↦ subst (λ (z : ℤ). IsValueOf (get_or xs i y) z) (sym (get_or-set_other vs m i u (pos 0) ne)) (a i y b)
 ]
 
+-- a walker stays well when a level is opened
 pub well_entered : (k : ℕ) (p r : Position) (x : Variable) (u : ℤ) → IsWell k p → depth p < length p.variables → get_or p.variables (depth p) x ≡ x → IsValueOf x u → SameWalk p r → r.trail.levels ≡ p.trail.levels → r.trail.restores ≡ p.trail.restores ++ p.trail.state ∷ [] → r.values ≡ set p.values (depth p) u → Inside r.trail.state p.trail.state → IsWell k r
 well_entered k p r x u w m y n s l o v i = record {
   objects = subst (λ (x : List Variable). AreOf r.first x) (sym s.variables) (subst (λ (f : State). AreOf f p.variables) (sym s.first) w.objects);
@@ -479,6 +511,7 @@ well_entered k p r x u w m y n s l o v i = record {
   numbers = subst (λ (z : List ℤ). AreValues r.variables z) (sym v) (subst (λ (z : List Variable). AreValues z (set p.values (depth p) u)) (sym s.variables) (values_set p.variables p.values (depth p) x u m w.values y n w.numbers));
 }
 
+-- when one is closed
 pub well_left : (k : ℕ) (p r : Position) (G : State) (x : Variable) (c : ℤ) → IsWell k p → SameWalk p r → Closes p r G x c → Inside r.trail.state G → r.values ≡ p.values → IsWell k r
 well_left k p r G x c w s l i v =
     let all : All (λ S. Inside S p.first) (r.trail.restores ++ G ∷ []) = subst (All (λ S. Inside S p.first)) l.restored w.saved in
@@ -496,9 +529,11 @@ well_left k p r G x c w s l i v =
 
 -- ---- a settle
 
+-- the same levels and values give the same path
 path_kept : (p r : Position) → r.trail.restores ≡ p.trail.restores → r.values ≡ p.values → path p ≡ path r
 path_kept p r o v = ap (λ (l : List State). take (length l) p.values) (sym o) ∙ ap (take (depth r)) (sym v)
 
+-- the same of a search whose state is settled
 rests_as : (cs : List Cond) (r : Position) (W : Tree) (along : Bool) (q : List ℤ) (b : Option ℤ) (w : List (List ℤ)) (saved : List State) → W ≡ tree_of cs r → along ≡ r.along → q ≡ path r → saved ≡ r.trail.restores → Stands W along q b w → AreLevels W q saved → IsBest W q b r.trail.state → length w ≡ r.walked → Rests cs r w
 rests_as cs r W along q b w saved e f g h s a l n = (
   b,
@@ -508,6 +543,7 @@ rests_as cs r W along q b w saved e f g h s a l n = (
   n,
 )
 
+-- what a settle gives a search
 pub settled_in : {E : Type 0} (cs : List Cond) (p q : Position) (a : Result Settled E) → SameWalk p q → SettlesOr cs p.trail.state a q.trail.state → q.trail.restores ≡ p.trail.restores → q.values ≡ p.values → q.along ≡ p.along → q.walked ≡ p.walked → SettledAs cs p a q
 settled_in cs p q (Ok Kept) s h o v l n = (
   h.supported.nonempty,
@@ -520,11 +556,13 @@ settled_in cs p q (Ok Dead) s h o v l n = λ w t.
     stuck_as cs q (tree_of cs p) p.along (path p) t.0 w p.trail.restores (tree_same cs p q s) (sym l) e (sym o) t.1 t.2 (inr (none_of_left (tree_of cs p) (path p) t.0 p.trail.state t.3 h.0)) (t.4 ∙ sym n)
 settled_in cs p q (Err e) s h o v l n = tt
 
+-- a settle only narrows
 pub settles_inside : {E : Type 0} (cs : List Cond) (S T : State) (a : Result Settled E) → SettlesOr cs S a T → Inside T S
 settles_inside cs S T (Ok Kept) h = h.inside
 settles_inside cs S T (Ok Dead) h = h.1
 settles_inside cs S T (Err e) h = h
 
+-- a walker stays well when its state is settled
 pub well_settled : (k : ℕ) (p r : Position) → IsWell k p → SameWalk p r → r.trail.levels ≡ p.trail.levels → r.trail.restores ≡ p.trail.restores → r.values ≡ p.values → Inside r.trail.state p.trail.state → IsWell k r
 well_settled k p r w s l o v i = record {
   objects = subst (λ (x : List Variable). AreOf r.first x) (sym s.variables) (subst (λ (f : State). AreOf f p.variables) (sym s.first) w.objects);

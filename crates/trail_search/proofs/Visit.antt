@@ -23,11 +23,13 @@ past_of (PlaceOf o) v w h = by_lt_z {P = v <ℤ w} v w (λ k. k) (λ k. absurd (
 past_of (CoordinateOf o d false) v w h = by_lt_z {P = v <ℤ w} v w (λ k. k) (λ k. absurd (h (omega (arith, ints, k))))
 past_of (CoordinateOf o d true) v w h = by_lt_z {P = w <ℤ v} w v (λ k. k) (λ k. absurd (h (omega (arith, ints, k))))
 
+-- no value lies between one and the next
 pub not_before_past : (x : Variable) (v w : ℤ) → IsBefore x v w → IsBefore x w (after x v) → ⊥
 not_before_past (PlaceOf o) v w h k = absurd (omega (arith, ints, h, k))
 not_before_past (CoordinateOf o d false) v w h k = absurd (omega (arith, ints, h, k))
 not_before_past (CoordinateOf o d true) v w h k = absurd (omega (arith, ints, h, k))
 
+-- a value not before one that comes before a third
 pub before_trans : (x : Variable) (u v w : ℤ) → (IsBefore x v u → ⊥) → IsBefore x v w → IsBefore x u w
 before_trans x u v w h k = elim (compare x u v) [
   | inl b ↦ chain x u v w b k
@@ -45,11 +47,13 @@ first_from T (PlaceOf o) v u f n = λ s h. let l : f.0 ≤ s = f.3 s h in
 first_from T (CoordinateOf o d false) v u f n = by_lt_z {P = u ≤ℤ low T o d} v u (λ b. absurd (n b)) (λ b. omega (arith, ints, f, b))
 first_from T (CoordinateOf o d true) v u f n = by_lt_z {P = high T o d ≤ℤ u} u v (λ b. absurd (n b)) (λ b. omega (arith, ints, f, b))
 
+-- the first value is not before the bound
 pub from_first : (T : State) (x : Variable) (v u : ℤ) → IsFrom T x v → IsFirstValue T x u → IsBefore x u v → ⊥
 from_first T (PlaceOf o) v u h f b = let l : v ≤ℤ pos f.0 = h f.0 f.2 in absurd (omega (arith, ints, f.1, l, b))
 from_first T (CoordinateOf o d false) v u h f b = absurd (omega (arith, ints, h, f, b))
 from_first T (CoordinateOf o d true) v u h f b = absurd (omega (arith, ints, h, f, b))
 
+-- a fixed value that is not before the bound
 pub fixed_from : (T : State) (x : Variable) (v u : ℤ) → IsFixed T x v → (IsBefore x v u → ⊥) → IsFrom T x u
 fixed_from T (PlaceOf o) v u f n = λ s h. let e : pos s ≡ v = f s h in
     by_lt_z {P = u ≤ℤ pos s} v u (λ b. absurd (n b)) (λ b. omega (arith, ints, e, b))
@@ -63,17 +67,20 @@ from_looser T (PlaceOf o) v u h n = λ s t. let l : v ≤ℤ pos s = h s t in
 from_looser T (CoordinateOf o d false) v u h n = by_lt_z {P = u ≤ℤ low T o d} v u (λ b. absurd (n b)) (λ b. omega (arith, ints, h, b))
 from_looser T (CoordinateOf o d true) v u h n = by_lt_z {P = high T o d ≤ℤ u} u v (λ b. absurd (n b)) (λ b. omega (arith, ints, h, b))
 
+-- a state inside has no value before the bound either
 pub from_inside : (T G : State) (x : Variable) (v : ℤ) → Inside T G → IsFrom G x v → IsFrom T x v
 from_inside T G (PlaceOf o) v i h = λ s t. h s ((i.each o).places s t)
 from_inside T G (CoordinateOf o d false) v i h = omega (arith, ints, h, (i.each o).lows d)
 from_inside T G (CoordinateOf o d true) v i h = omega (arith, ints, h, (i.each o).highs d)
 
+-- what is fixed stays so in a state inside
 pub fixed_inside : (T S : State) (x : Variable) (v : ℤ) → HasNoEmpty T → object_of x < length T → Inside T S → IsFixed S x v → IsFixed T x v
 fixed_inside T S (PlaceOf o) v n h i f = λ s t. f s ((i.each o).places s t)
 fixed_inside T S (CoordinateOf o d down) v n h i f =
     let r = (n o h).ranges d in
     (omega (arith, ints, f.0, f.1, r, (i.each o).lows d, (i.each o).highs d), omega (arith, ints, f.0, f.1, r, (i.each o).lows d, (i.each o).highs d))
 
+-- what is fixed is the first value
 pub fixed_first : (T : State) (x : Variable) (v : ℤ) → HasNoEmpty T → object_of x < length T → IsFixed T x v → IsFirstValue T x v
 fixed_first T (PlaceOf o) v n h f =
     let s = (n o h).place.0 in
@@ -82,6 +89,7 @@ fixed_first T (PlaceOf o) v n h f =
 fixed_first T (CoordinateOf o d false) v n h f = f.0
 fixed_first T (CoordinateOf o d true) v n h f = f.1
 
+-- the first value of a state inside does not come before that of the state
 pub first_not_before : (T G : State) (x : Variable) (v u : ℤ) → Inside T G → IsFirstValue T x v → IsFirstValue G x u → IsBefore x v u → ⊥
 first_not_before T G (PlaceOf o) v u i f g b =
     let l : g.0 ≤ f.0 = g.3 f.0 ((i.each o).places f.0 f.2) in
@@ -89,6 +97,7 @@ first_not_before T G (PlaceOf o) v u i f g b =
 first_not_before T G (CoordinateOf o d false) v u i f g b = absurd (omega (arith, ints, f, g, b, (i.each o).lows d))
 first_not_before T G (CoordinateOf o d true) v u i f g b = absurd (omega (arith, ints, f, g, b, (i.each o).highs d))
 
+-- the variables are of the objects of a state of the same length
 pub are_of : (S T : State) (xs : List Variable) → length T ≡ length S → AreOf S xs → AreOf T xs
 are_of S T [] h a = tt
 are_of S T (x ∷ xs) h a = (omega (arith, h, a.0), are_of S T xs h a.1)
@@ -100,10 +109,12 @@ pub begins_first : (T : State) (x : Variable) (xs : List Variable) (w : ℤ) (r 
 begins_first T x xs w [] n h b = b
 begins_first T x xs w (w' ∷ r) n h b = fixed_first T x w n h b.0
 
+-- a state that begins with a prefix that is left meets the bound
 pub begins_from : (T : State) (x : Variable) (xs : List Variable) (w : ℤ) (r : List ℤ) (b : Option ℤ) → HasNoEmpty T → object_of x < length T → Begins T (x ∷ xs) (w ∷ r) → Rest (x ∷ xs) [] b (w ∷ r) → Meets (x ∷ xs) [] b T
 begins_from T x xs w r None n h g k = tt
 begins_from T x xs w r (Some v) n h g k = first_from T x w v (begins_first T x xs w r n h g) k
 
+-- a state inside meets what the state meets
 pub meets_inside : (T G : State) (xs : List Variable) (q : List ℤ) (b : Option ℤ) → HasNoEmpty T → AreOf T xs → Inside T G → Meets xs q b G → Meets xs q b T
 meets_inside T G [] [] b n a i m = tt
 meets_inside T G [] (v ∷ q) b n a i m = m
@@ -111,6 +122,7 @@ meets_inside T G (x ∷ xs) [] None n a i m = tt
 meets_inside T G (x ∷ xs) [] (Some v) n a i m = from_inside T G x v i m
 meets_inside T G (x ∷ xs) (v ∷ q) b n a i m = (fixed_inside T G x v n a.0 i m.0, meets_inside T G xs q b n a.1 i m.1)
 
+-- a state that meets a bound meets the path without it
 pub meets_none : (T : State) (xs : List Variable) (q : List ℤ) (b : Option ℤ) → Meets xs q b T → Meets xs q None T
 meets_none T [] [] b m = tt
 meets_none T [] (v ∷ q) b m = m
@@ -137,6 +149,7 @@ meets_bound T [] q b v m f = absurd f
 meets_bound T (x ∷ xs) [] b v m f = f
 meets_bound T (x ∷ xs) (u ∷ q) b v m f = (m.0, meets_bound T xs q b v m.1 f)
 
+-- a state past the first value meets the earlier bound
 pub meets_looser : (T G : State) (xs : List Variable) (q : List ℤ) (b : Option ℤ) (u v : ℤ) → Meets xs q b G → AtNext xs q (λ x. IsFirstValue G x u × (v ≡ after x u)) → Meets xs q (Some v) T → Meets xs q b T × AtNext xs q (λ x. IsFrom T x v)
 meets_looser T G [] q b u v g f m = absurd f
 meets_looser T G (x ∷ xs) [] None u v g f m = (tt, m)
@@ -163,12 +176,14 @@ begins_push G (x ∷ xs) (v ∷ w ∷ q) b u m f = (m.0, begins_push G xs (w ∷
 
 -- ---- what is left to visit
 
+-- the path with the first value is left to visit
 pub rest_here : (G : State) (xs : List Variable) (q : List ℤ) (b : Option ℤ) (u : ℤ) → Meets xs q b G → AtNext xs q (λ x. IsFirstValue G x u) → Rest xs q b (q ++ u ∷ [])
 rest_here G [] q b u m f = absurd f
 rest_here G (x ∷ xs) [] None u m f = tt
 rest_here G (x ∷ xs) [] (Some v) u m f = from_first G x v u m f
 rest_here G (x ∷ xs) (v ∷ q) b u m f = inr (refl, rest_here G xs q b u m.1 f)
 
+-- what is left below it was left before
 pub rest_visited : (G : State) (xs : List Variable) (q : List ℤ) (b : Option ℤ) (u : ℤ) (r : List ℤ) → Meets xs q b G → AtNext xs q (λ x. IsFirstValue G x u) → Rest xs (q ++ u ∷ []) None r → Rest xs q b r
 rest_visited G [] q b u r m f h = absurd f
 rest_visited G (x ∷ xs) [] b u [] m f h = absurd h
@@ -184,6 +199,7 @@ rest_visited G (x ∷ xs) [] (Some v) u (w ∷ r) m f (inr k) = λ l. from_first
 rest_visited G (x ∷ xs) (v ∷ q) b u (w ∷ r) m f (inl k) = inl k
 rest_visited G (x ∷ xs) (v ∷ q) b u (w ∷ r) m f (inr k) = inr (k.0, rest_visited G xs q b u r m.1 f k.1)
 
+-- a prefix comes before what is left below it
 pub rest_precedes : (xs : List Variable) (q r : List ℤ) → Rest xs q None r → Precedes xs q r
 rest_precedes [] q r h = absurd h
 rest_precedes (x ∷ xs) q [] h = absurd h
@@ -247,6 +263,7 @@ close_full (x ∷ y ∷ xs) [] v c b (w ∷ r) l e h = absurd (omega arith)
 close_full (x ∷ xs) (u ∷ q) v c b (w ∷ r) l e (inl h) = inl h
 close_full (x ∷ xs) (u ∷ q) v c b (w ∷ r) l e (inr h) = inr (h.0, close_full xs q v c b r (omega arith) e h.1)
 
+-- what is left past a value was left above it
 pub rest_closed : (xs : List Variable) (q : List ℤ) (v c : ℤ) (b : Option ℤ) (r : List ℤ) → AtNext xs q (λ x. c ≡ after x v) → Rest xs q (Some c) r → Rest xs (q ++ v ∷ []) b r
 rest_closed [] q v c b r e h = absurd e
 rest_closed (x ∷ xs) [] v c b [] e h = absurd h

@@ -56,6 +56,7 @@ Steps a s b = (b.walk ≡ a.walk) × (b.budget ≡ a.budget) × AsBefore a.over 
 abbrev pub HasFound : Quest → Tuple → Type 0
 HasFound a t = a.layout ≡ Some (values a.walk.variables t)
 
+-- the values, after a Found
 abbrev pub layout_when : Bool → List ℤ → Option (List ℤ)
 layout_when false l = None
 layout_when true l = Some l

@@ -6,6 +6,7 @@ use Rattle.geo_conditions.specs.Walk.{Variable as Seen, PlaceOf, CoordinateOf}
 use Rattle.trail_search.specs.declared.variable.Variable.{Variable}
 use Rattle.trail_search.specs.declared.variable.Variable.TheVariants.{Place, Coordinate}
 
+-- the variable that a variable of the code stands for
 abbrev pub variable_of : Variable → Seen
 variable_of (Place o) = PlaceOf o.0
 variable_of (Coordinate o d down) = CoordinateOf o.0 d down

@@ -23,13 +23,15 @@ pub record Position : Type 0 where
   pub along : Bool
   pub walked : ℕ
 
+-- the walk of the walker under those conditions
 abbrev pub tree_of : List Cond → Position → Tree
 tree_of cs p = record { conditions = cs; first = p.first; variables = p.variables; after = p.token }
 
--- the values that the open levels have fixed
+-- how many levels are open
 abbrev pub depth : Position → ℕ
 depth p = length p.trail.restores
 
+-- the values that the open levels have fixed
 abbrev pub path : Position → List ℤ
 path p = take (depth p) p.values
 
@@ -68,9 +70,11 @@ Rests cs p w = (b : Option ℤ) × Stands (tree_of cs p) p.along (path p) b w ×
 abbrev pub IsDone : Tree → List ℤ → Option ℤ → Type 0
 IsDone W q b = (length q ≡ length W.variables) ⊎ NoneMeets W q b
 
+-- w are walked, and nothing is left under the path
 abbrev pub IsStuck : List Cond → Position → List (List ℤ) → Type 0
 IsStuck cs p w = (b : Option ℤ) × Stands (tree_of cs p) p.along (path p) b w × AreLevels (tree_of cs p) (path p) p.trail.restores × IsDone (tree_of cs p) (path p) b × (length w ≡ p.walked)
 
+-- the values of the token, if there is one
 abbrev pub token_of : Option (Vec ℤ Global) → Option (List ℤ)
 token_of None = None
 token_of (Some v) = Some v.items
@@ -104,6 +108,7 @@ ReadyFor [] cs p true = (p.walked ≡ 1) × IsSupported cs p.first × (p.token �
 ReadyFor (x ∷ xs) cs p false = (depth p < length p.variables) × (w : List (List ℤ)) × Searches cs p w
 ReadyFor (x ∷ xs) cs p true = (depth p ≡ length p.variables) × (w : List (List ℤ)) × Searches cs p w
 
+-- where a search that is not over stands, by its own variables
 abbrev pub IsReady : List Cond → Position → Bool → Type 0
 IsReady cs p found = ReadyFor p.variables cs p found
 
@@ -113,6 +118,7 @@ StandsFor [] p found = Unit {0}
 StandsFor (x ∷ xs) p false = depth p < length p.variables
 StandsFor (x ∷ xs) p true = depth p ≡ length p.variables
 
+-- the depth then, by its own variables
 abbrev pub StandsAt : Position → Bool → Type 0
 StandsAt p found = StandsFor p.variables p found
 
@@ -153,11 +159,13 @@ KeptAs cs p q = HasNoEmpty q.trail.state × ((w : List (List ℤ)) → Searches 
 abbrev pub DeadAs : List Cond → Position → Position → Type 0
 DeadAs cs p q = (w : List (List ℤ)) → Searches cs p w → IsStuck cs q w
 
+-- what each answer of a settle gives
 abbrev pub SettledAs : {E : Type 0} → List Cond → Position → Result Settled E → Position → Type 0
 SettledAs cs p (Ok Kept) q = KeptAs cs p q
 SettledAs cs p (Ok Dead) q = DeadAs cs p q
 SettledAs cs p (Err e) q = Unit {0}
 
+-- the token's bound at the first variable, if there is a token
 abbrev pub FirstBound : Position → Option ℤ → Type 0
 FirstBound p (Some v) = (t : List ℤ) × (p.token ≡ Some t) × (v ≡ bound_at p.variables t 0)
 FirstBound p None = p.token ≡ None
