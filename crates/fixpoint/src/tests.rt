@@ -32,7 +32,10 @@ fn plane(alloc: Global, shapes: u8, x: i64, y: i64) -> Result<State<2>, AllocErr
     ensures { IfOk result (λ s. length s ≡ 1) }
 {
     let mut s = State::new(alloc);
-    s.add_object(shapes, KBox::new(Point::filled(0), Point::filled(x).with(1, y)))?;
+    s.add_object(
+        shapes,
+        KBox::new(Point::filled(0), Point::filled(x).with(1, y)),
+    )?;
     Ok(s)
 }
 
@@ -91,12 +94,25 @@ fn a_chain(rt: HostRuntime) -> Result<(), Fail> {
     let dead: [(i64, i64); 0] = [];
     for (s, want) in [
         ([(4, 9), (0, 9), (0, 5)], dead.as_slice()),
-        ([(0, 9), (0, 9), (0, 9)], [(0, 7), (1, 8), (2, 9)].as_slice()),
-        ([(4, 9), (0, 9), (0, 6)], [(4, 4), (5, 5), (6, 6)].as_slice()),
-        ([(0, 2), (5, 7), (3, 9)], [(0, 2), (5, 7), (6, 9)].as_slice()),
+        (
+            [(0, 9), (0, 9), (0, 9)],
+            [(0, 7), (1, 8), (2, 9)].as_slice(),
+        ),
+        (
+            [(4, 9), (0, 9), (0, 6)],
+            [(4, 4), (5, 5), (6, 6)].as_slice(),
+        ),
+        (
+            [(0, 2), (5, 7), (3, 9)],
+            [(0, 2), (5, 7), (6, 9)].as_slice(),
+        ),
         ([(0, 9), (3, 2), (0, 9)], dead.as_slice()),
     ] {
-        let left = settled(rt.alloc(), line(rt.alloc(), s.as_slice())?, chain(rt.alloc())?)?;
+        let left = settled(
+            rt.alloc(),
+            line(rt.alloc(), s.as_slice())?,
+            chain(rt.alloc())?,
+        )?;
         assert_eq!(rt; ranges(rt.alloc(), left)?.as_slice(), want, "from {s:?}");
     }
     Ok(())
@@ -122,7 +138,11 @@ fn boxes_on_a_line(rt: HostRuntime) -> Result<(), Fail> {
         ([(1, 2), (0, 3)], [(1, 2), (0, 3)].as_slice()),
         ([(0, 1), (0, 1)], dead.as_slice()),
     ] {
-        let left = settled(rt.alloc(), line(rt.alloc(), s.as_slice())?, two_apart(rt.alloc())?)?;
+        let left = settled(
+            rt.alloc(),
+            line(rt.alloc(), s.as_slice())?,
+            two_apart(rt.alloc())?,
+        )?;
         assert_eq!(rt; ranges(rt.alloc(), left)?.as_slice(), want, "from {s:?}");
     }
     Ok(())
@@ -130,7 +150,11 @@ fn boxes_on_a_line(rt: HostRuntime) -> Result<(), Fail> {
 
 #[test]
 fn without_conditions(rt: HostRuntime) -> Result<(), Fail> {
-    let left = settled(rt.alloc(), line(rt.alloc(), &[(-7, 8)])?, Vec::new(rt.alloc()))?;
+    let left = settled(
+        rt.alloc(),
+        line(rt.alloc(), &[(-7, 8)])?,
+        Vec::new(rt.alloc()),
+    )?;
     assert_eq!(rt; ranges(rt.alloc(), left)?.as_slice(), [(-7, 8)].as_slice());
     let empty = line(rt.alloc(), &[(1, 0)])?;
     assert!(rt; settled(rt.alloc(), empty, Vec::new(rt.alloc()))?.is_none());

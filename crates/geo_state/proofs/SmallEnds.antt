@@ -37,9 +37,9 @@ pub small_everywhere : (k : ℕ) (S : State) (o n : ℕ) → IsState k S → o <
 small_everywhere k S o n s h b m d = elim (cases_lt d n) [
   | inl l ↦ m d l
   | inr l ↦ (
-        zero_small (low S o d) (get_or_past (reach S o).region.lo d (pos 0) (omega (arith, l, b, lo_long k S o s h))),
-        zero_small (high S o d) (get_or_past (reach S o).region.hi d (pos 0) (omega (arith, l, b, hi_long k S o s h))),
-      )
+    zero_small (low S o d) (get_or_past (reach S o).region.lo d (pos 0) (omega (arith, l, b, lo_long k S o s h))),
+    zero_small (high S o d) (get_or_past (reach S o).region.hi d (pos 0) (omega (arith, l, b, hi_long k S o s h))),
+  )
 ]
 
 -- all objects are covered, so the state is small
