@@ -167,18 +167,24 @@ fn finds(
     Ok(true)
 }
 
-// The walk has 15 members: a's place and b's for each of its four origins, and the six layouts.
+// The walk has 15 members: a's place; and for each of a's four origins that origin, b's place and the layouts with it,
+// which are the members 4 and 5, 8, 11, and 14 and 15.
 #[test]
 fn two_boxes_on_a_line(rt: HostRuntime) -> Result<(), Fail> {
     let all = [(0, 2), (0, 3), (1, 3), (2, 0), (3, 0), (3, 1)];
     for (budget, count, end) in [
-        (15, 6usize, "ended"),
-        (100, 6, "ended"),
-        (14, 5, "budget"),
-        (5, 2, "budget"),
-        (4, 1, "budget"),
+        (0, 0usize, "budget"),
         (3, 0, "budget"),
-        (0, 0, "budget"),
+        (4, 1, "budget"),
+        (5, 2, "budget"),
+        (7, 2, "budget"),
+        (8, 3, "budget"),
+        (10, 3, "budget"),
+        (11, 4, "budget"),
+        (13, 4, "budget"),
+        (14, 5, "budget"),
+        (15, 6, "ended"),
+        (100, 6, "ended"),
     ] {
         let wanted = all.get(..count).unwrap_or(&[]);
         let ranges = [(0, 3), (0, 3)];
