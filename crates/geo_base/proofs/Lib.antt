@@ -1,2 +1,4 @@
 pub mod Loops
 pub mod Meeting
+pub mod Ways
+pub mod Mirror

@@ -18,6 +18,15 @@ impl<const K: usize> Point<K> {
         }
     }
 
+    /// How many coordinates there are: one for each of the K dimensions.
+    #[inline(always)]
+    pub fn dimensions(&self) -> usize
+        ensures number { result ≡ K }
+        ensures list { length self.now.coordinates ≡ K }
+    {
+        self.coordinates.len()
+    }
+
     /// The coordinate in the dimension `d`.
     #[inline(always)]
     pub fn get(&self, d: usize) -> i64

@@ -1,7 +1,21 @@
-use super::{Interval, KBox, MAX_DIMS, Point};
+ghost use Rattle.std.specs.Prelude.{◌≡◌, ◌<◌, pos, negsuc, ◌≤ℤ◌};
+ghost use Rattle.geo_base.specs.Ways.{IsSmall};
+
+use super::{Interval, KBox, MAX_DIMS, Point, Steps, Way, advance, before};
+use std::marker::Brand;
+use std::sync::ledger::{Blank, Ledger};
 
 fn corner(x: i64, y: i64) -> Point<2> {
     Point::filled(y).with(0, x)
+}
+
+/// A corner within the limits.
+fn small(x: i64, y: i64) -> Point<2>
+    requires x { (negsuc 1999999 ≤ℤ x) × (x ≤ℤ pos 2000000) }
+    requires y { (negsuc 1999999 ≤ℤ y) × (y ≤ℤ pos 2000000) }
+    ensures { IsSmall 2 result.coordinates }
+{
+    Point::filled(x).with(1, y)
 }
 
 #[test]
@@ -9,6 +23,7 @@ fn points_keep_their_coordinates(rt: HostRuntime) {
     let mut p = corner(3, -7);
     assert_eq!(rt; p.get(0), 3);
     assert_eq!(rt; p.get(1), -7);
+    assert_eq!(rt; p.dimensions(), 2);
     p.set(1, i64::MIN);
     assert_eq!(rt; p.get(0), 3);
     assert_eq!(rt; p.get(1), i64::MIN);
@@ -69,4 +84,56 @@ fn the_greatest_number_of_dimensions_is_there(rt: HostRuntime) {
     assert!(rt; KBox::new(p, p).has(&p));
     assert_eq!(rt; Interval { lo: 1, hi: 2 }, Interval { lo: 1, hi: 2 });
     assert_ne!(rt; Interval { lo: 1, hi: 2 }, Interval { lo: 1, hi: 3 });
+}
+
+#[test]
+fn ways_put_points_in_order(rt: HostRuntime) {
+    let up = Way::new(1, true);
+    assert!(rt; before(&up, &corner(9, 0), &corner(0, 1)));
+    assert!(rt; before(&up, &corner(0, 1), &corner(1, 1)));
+    assert!(rt; !before(&up, &corner(1, 1), &corner(1, 1)));
+    assert!(rt; !before(&up, &corner(1, 1), &corner(0, 1)));
+    let down = Way::new(1, false);
+    assert!(rt; before(&down, &corner(0, 1), &corner(9, 0)));
+    assert!(rt; before(&down, &corner(1, 1), &corner(0, 1)));
+}
+
+#[test]
+fn an_advance_carries(rt: HostRuntime) {
+    let region = KBox::new(small(0, 0), small(3, 1));
+    let way = Way::new(0, true);
+    let mut c = corner(0, 1);
+    let mut n = corner(2, 2);
+    assert!(rt; advance(&way, &region, &mut c, &mut n));
+    assert_eq!(rt; (c.get(0), c.get(1), n.get(0), n.get(1)), (2, 0, 4, 2));
+    let mut c = corner(3, 1);
+    let mut n = corner(4, 2);
+    assert!(rt; !advance(&way, &region, &mut c, &mut n));
+}
+
+#[test]
+fn an_advance_goes_downwards(rt: HostRuntime) {
+    let region = KBox::new(small(0, 0), small(3, 1));
+    let way = Way::new(0, false);
+    let mut c = corner(3, 0);
+    let mut n = corner(1, -1);
+    assert!(rt; advance(&way, &region, &mut c, &mut n));
+    assert_eq!(rt; (c.get(0), c.get(1), n.get(0), n.get(1)), (1, 1, -1, -1));
+}
+
+/// Counts two questions.
+fn two_steps<L: Ledger>(blank: Blank)
+    requires name { blank.name ≡ L.name }
+    requires parts { blank.parts ≡ L.parts }
+    requires some { 0 < blank.parts }
+{
+    let mut steps = Steps::<L>::new(blank);
+    steps.tick();
+    steps.tick();
+}
+
+#[test]
+fn questions_are_counted(rt: HostRuntime) {
+    two_steps::<Brand>(Blank::new(1));
+    assert_eq!(rt; size_of::<Steps<Brand>>(), 0);
 }

@@ -23,3 +23,4 @@ pub mod Beginnings
 pub mod Cuts
 pub mod Whole
 pub mod Tokens
+pub mod SmallerBoxes

@@ -62,7 +62,7 @@ not_only_wider S T o s i n h =
       | inr b ↦ let e : reach T o ≡ nowhere = get_or_past T o nowhere (omega (arith, i.objects)) in subst (λ (r : Reach). not (is_only r.places s) ≡ true) (sym e) (not_from_false (is_only [] s) (only_nowhere s))
     ]
 
-count_le : (a b : Bool) → (a ≡ true → b ≡ true) → count a ≤ count b
+pub count_le : (a b : Bool) → (a ≡ true → b ≡ true) → count a ≤ count b
 count_le true b h = subst (λ (v : Bool). 1 ≤ count v) (sym (h refl)) (omega arith)
 count_le false b h = omega arith
 

@@ -3,6 +3,7 @@ use Rattle.std.specs.List.{All}
 use lib.Signed.{le_z}
 use Rattle.geo_conditions.specs.declared.object.TheConstants.{MAX_OBJECTS, MAX_SHAPES}
 use Rattle.geo_base.specs.Boxes.{coordinate}
+pub use Rattle.geo_base.specs.Tuple.{Spot, Tuple, nothing_put, spot}
 use Rattle.std.specs.Prelude.{◌&&◌, ◌==◌, ◌+◌, ◌-◌, ◌≡◌, Option, None, Some, ℕ, zero, suc, ◌<◌, ◌≤◌, Bool, true, false, cond, ◌||◌, List, [], ◌∷◌, ◌++◌, length, replicate, slice_index_or, slice_set, map, ℤ, ◌≤ℤ◌}
 
 -- a box: in each dimension the numbers from its low end to its high end
@@ -18,15 +19,6 @@ pub record Reach : Type 0 where
 -- a state: what is open to each object
 abbrev pub State : Type 0
 State = List Reach
-
--- where one object is put
-pub record Spot : Type 0 where
-  pub place : ℕ
-  pub origin : List ℤ
-
--- a tuple: a spot for each object
-abbrev pub Tuple : Type 0
-Tuple = List Spot
 
 -- the place is there. Places count from 1
 abbrev pub place_in : List Bool → ℕ → Bool
@@ -87,12 +79,6 @@ pub record InBox (p : List ℤ) (b : Region) : Type 0 where
 -- S with the object o at the place s in the box b
 abbrev pub with_at : State → ℕ → ℕ → Region → State
 with_at S o s b = slice_set S o (record { places = only s; region = b })
-
-abbrev pub nothing_put : Spot
-nothing_put = record { place = 0; origin = [] }
-
-abbrev pub spot : Tuple → ℕ → Spot
-spot t o = slice_index_or t o nothing_put
 
 -- the first reach is within the second: its set of places, and each interval
 pub record Within (r q : Reach) : Type 0 where

@@ -3,6 +3,7 @@ use Rattle.std.specs.Prelude.{◌≡◌, ℕ, ◌<◌, ◌-◌, ◌⊎◌, Bool,
 use Rattle.std.specs.List.{All, range_with_len}
 use Rattle.geo_conditions.specs.declared.cond.Cond.{Cond}
 use Rattle.geo_base.specs.Boxes.{coordinate}
+use Rattle.geo_base.specs.Ways.{Before}
 use Rattle.geo_conditions.specs.Reach.{State, Region, reach, has, low, high, dims, just, InBox, with_at, Inside, HasNoEmpty}
 use Rattle.geo_conditions.specs.Conditions.{possible}
 
@@ -35,25 +36,15 @@ pub record IsGreatest (cs : List Cond) (S G : State) : Type 0 where
 abbrev pub NoneInside : List Cond → State → Type 0
 NoneInside cs S = (T : State) → IsSupported cs T → Inside T S → ⊥
 
--- the dimensions by their weight in an order with that leading dimension, the heaviest first
-abbrev pub from_lead : ℕ → ℕ → List ℕ
-from_lead lead k = range_with_len lead (k - lead) ++ range_with_len 0 lead
-
--- p comes before q in the order of those dimensions, upwards or downwards in each
-abbrev pub ComesBefore : Bool → List ℕ → List ℤ → List ℤ → Type 0
-ComesBefore up [] p q = ⊥
-ComesBefore true (d ∷ ds) p q = (coordinate p d <ℤ coordinate q d) ⊎ ((coordinate p d ≡ coordinate q d) × ComesBefore true ds p q)
-ComesBefore false (d ∷ ds) p q = (coordinate q d <ℤ coordinate p d) ⊎ ((coordinate p d ≡ coordinate q d) × ComesBefore false ds p q)
-
 -- at the point p of the box the object can be at the place s: no condition is refuted
 pub record CanBeAt (cs : List Cond) (S : State) (o s : ℕ) (b : Region) (p : List ℤ) : Type 0 where
   pub point : InBox p b
   pub unrefuted : NoneRefuted cs (with_at S o s (just p))
 
--- p is the first such point in an order
-pub record IsFirstPoint (up : Bool) (order : List ℕ) (cs : List Cond) (S : State) (o s : ℕ) (b : Region) (p : List ℤ) : Type 0 where
+-- p is the first such point of a way with that lead dimension, upwards or downwards
+pub record IsFirstPoint (k lead : ℕ) (up : Bool) (cs : List Cond) (S : State) (o s : ℕ) (b : Region) (p : List ℤ) : Type 0 where
   pub point : CanBeAt cs S o s b p
-  pub first : (q : List ℤ) → CanBeAt cs S o s b q → ComesBefore up order q p → ⊥
+  pub first : (q : List ℤ) → CanBeAt cs S o s b q → Before k lead up q p → ⊥
 
 -- there is no such point
 abbrev pub HasNoPoint : List Cond → State → ℕ → ℕ → Region → Type 0

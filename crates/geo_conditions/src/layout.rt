@@ -1,8 +1,9 @@
-ghost use Rattle.std.specs.Prelude.{◌≡◌, ◌<◌, length, [], ◌∷◌, ◌++◌, OnOk, OnErr};
+ghost use Rattle.std.specs.Prelude.{◌≡◌, ◌<◌, ◌≤◌, pos, length, replicate, slice_set, [], ◌∷◌, ◌++◌, IfOk, OnOk, OnErr};
 ghost use Rattle.geo_base.specs.Boxes.{coordinate};
 ghost use Rattle.geo_conditions.specs.Reach.{spot};
 
 use super::object::ObjId;
+use geo_base::MAX_DIMS;
 use smallvec::SmallVec;
 use std::alloc::{AllocError, Global};
 use std::marker::Model;
@@ -11,7 +12,7 @@ use std::marker::Model;
 #[derive(Drop)]
 struct Placed {
     place: u8,
-    origin: SmallVec<i64, 4>,
+    origin: SmallVec<i64, MAX_DIMS>,
 }
 
 impl Model for Placed {
@@ -49,6 +50,20 @@ impl Layout {
         }
     }
 
+    /// The tuple that puts each object at its first place, with the origin at zero.
+    pub fn with_room(alloc: Global, objects: usize, dims: usize) -> Result<Layout, AllocError>
+        requires { dims ≤ MAX_DIMS }
+        ensures { IfOk result (λ t. t
+            ≡ replicate objects (record { place = 1; origin = replicate dims (pos 0) })) }
+    {
+        let zeros = [0; MAX_DIMS];
+        let mut layout = Layout::new(alloc);
+        'objects: for _done in 0..objects {
+            layout.push(1, &zeros[..dims])?;
+        }
+        Ok(layout)
+    }
+
     /// Appends an object. After an error the tuple is as before.
     pub fn push(&mut self, place: u8, origin: &[i64]) -> Result<(), AllocError>
         ensures ok { OnOk result
@@ -84,5 +99,26 @@ impl Layout {
     {
         let placed = &self.spots[o.0 as usize];
         placed.origin.as_slice()[d]
+    }
+
+    /// Puts the object at another place, and leaves all else.
+    pub fn set_place(&mut self, o: ObjId, place: u8)
+        requires { o.0 < length self.old }
+        ensures { self.new ≡ slice_set self.old o.0
+            (record { place = place; origin = (spot self.old o.0).origin }) }
+    {
+        let placed = &mut self.spots[o.0 as usize];
+        placed.place = place;
+    }
+
+    /// Gives the object another coordinate in the dimension `d`, and leaves all else.
+    pub fn set_value(&mut self, o: ObjId, d: usize, v: i64)
+        requires object { o.0 < length self.old }
+        requires dimension { d < length (spot self.old o.0).origin }
+        ensures { self.new ≡ slice_set self.old o.0
+            (record { place = (spot self.old o.0).place; origin = slice_set (spot self.old o.0).origin d v }) }
+    {
+        let placed = &mut self.spots[o.0 as usize];
+        placed.origin.as_mut_slice()[d] = v;
     }
 }

@@ -26,5 +26,5 @@ pub use laws::{
 pub use layout::Layout;
 pub use object::{MAX_OBJECTS, MAX_SHAPES, ObjId};
 pub use order::SearchOrder;
-pub use refute::{refuted, refuted_at};
+pub use refute::{least_value_at, refuted, refuted_at};
 pub use state::State;

@@ -112,6 +112,30 @@ fn possible_in<const K: usize>(c: &Cond, s: &State<K>, put: &Option<Put<K>>) -> 
     }
 }
 
+/// The least value of the form on the state with the object at that place in that box.
+pub fn least_value_at<const K: usize>(
+    f: &Form,
+    s: &State<K>,
+    o: ObjId,
+    place: u8,
+    b: &KBox<K>,
+) -> i128
+    requires k { K ≤ MAX_DIMS }
+    requires fits { All (λ a. Exists s.now a.object.0 a.dimension) f.now.terms }
+    requires object { o.0 < length s.now }
+    ensures { result ≡ least_value f.now (with_at s.now o.0 place (region_of b.now)) }
+{
+    least_value(
+        f,
+        s,
+        &Some(Put {
+            object: o,
+            place,
+            region: *b,
+        }),
+    )
+}
+
 /// Whether the condition is refuted on the state.
 pub fn refuted<const K: usize>(c: &Cond, s: &State<K>) -> bool
     requires k { K ≤ MAX_DIMS }
