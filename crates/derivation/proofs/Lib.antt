@@ -1,1 +1,4 @@
 pub mod Continuing
+pub mod Empty
+pub mod Parts
+pub mod Leaves

@@ -1,1 +1,4 @@
 pub mod Events
+pub mod Cuts
+pub mod Covers
+pub mod Points

@@ -2,9 +2,13 @@
 #![tactic(auto)]
 
 mod event;
+mod log;
 mod recorder;
+mod side;
 #[cfg(test)]
 mod tests;
 
 pub use event::Event;
+pub use log::Log;
 pub use recorder::{NoRecord, Recorder};
+pub use side::Side;

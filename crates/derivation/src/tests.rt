@@ -1,46 +1,7 @@
-use super::{Event, NoRecord, Recorder};
+use super::{Event, Log, NoRecord, Recorder, Side};
 use geo_conditions::ObjId;
-use std::alloc::{AllocError, Global};
+use std::alloc::AllocError;
 use std::test::Fail;
-
-/// Keeps the events, and counts the refusals.
-#[derive(Drop)]
-struct Keeper {
-    events: Vec<Event>,
-    refused: u64,
-}
-
-impl Recorder for Keeper {
-    ghost use Rattle.std.specs.Prelude.{true};
-
-    ghost keeps = { true };
-
-    ghost list = { λ r. r.events.items };
-
-    ghost refusals = { λ r. r.refused };
-
-    fn mark(&self) -> usize {
-        self.events.len()
-    }
-
-    fn cut_back(&mut self, mark: usize) {
-        self.events.truncate(mark);
-    }
-
-    fn set(&mut self, at: usize, e: Event) {
-        self.events[at] = e;
-    }
-
-    fn add(&mut self, e: Event) -> Result<(), AllocError> {
-        match self.events.push(e) {
-            Ok(()) => Ok(()),
-            Err(error) => {
-                self.refused = self.refused.saturating_add(1);
-                Err(error.into())
-            }
-        }
-    }
-}
 
 /// Adds two events, and puts another in the place of the first.
 fn two_events<R: Recorder>(rec: &mut R) -> Result<usize, AllocError> {
@@ -63,17 +24,19 @@ fn nothing_is_kept(rt: HostRuntime) -> Result<(), Fail> {
 
 #[test]
 fn a_recorder_keeps_its_events(rt: HostRuntime) -> Result<(), Fail> {
-    let mut rec = Keeper {
-        events: Vec::new(rt.alloc()),
-        refused: 0,
-    };
+    let mut rec = Log::new(rt.alloc());
     rec.add(Event::Dead(7))?;
     let mark = two_events(&mut rec)?;
     assert_eq!(rt; mark, 1);
     assert_eq!(rt; rec.mark(), 3);
-    assert!(rt; matches!(rec.events.get(1), Some(Event::By(2))));
+    assert!(rt; matches!(rec.events().get(1), Some(Event::By(2))));
     rec.cut_back(1);
     assert_eq!(rt; rec.mark(), 1);
-    assert_eq!(rt; rec.refused, 0);
     Ok(())
+}
+
+#[test]
+fn sides_are_cut(rt: HostRuntime) {
+    assert!(rt; matches!(Side::Upto(1, -4).cut(), Event::Cut(1, -4)));
+    assert!(rt; matches!(Side::From(0, 7).cut(), Event::CutFrom(0, 7)));
 }
