@@ -1,0 +1,4 @@
+pub mod Disjunctions
+pub mod Widening
+pub mod Forbidden
+pub mod Names

@@ -1,0 +1,10 @@
+pub mod Kernel
+pub mod Numeral
+pub mod Progress
+pub mod Chain
+pub mod RecordSteps
+pub mod Turns
+pub mod Digits
+pub mod Bound
+pub mod PickedConditions
+pub mod Promises

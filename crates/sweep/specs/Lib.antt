@@ -1,0 +1,4 @@
+pub mod Jump
+pub mod Chains
+pub mod Picks
+pub mod Sweep

@@ -1,0 +1,102 @@
+ghost use Rattle.std.specs.Prelude.{◌≡◌, ℕ, ◌+◌, ◌-◌, ◌<◌, ◌≤◌, true, ℤ, List, length, map, IfSome, IfNone};
+ghost use Rattle.geo_base.specs.Boxes.{Has};
+ghost use Rattle.geo_conditions.specs.declared.cond.Cond.{Cond};
+ghost use Rattle.geo_conditions.specs.Conditions.{possible, AllFit, IsRefuted};
+ghost use Rattle.geo_conditions.specs.Reach.{with_at, just};
+ghost use Rattle.geo_conditions.specs.Regions.{region_of};
+ghost use Rattle.geo_conditions.specs.Supported.{NoneRefuted};
+ghost use Rattle.indexical.specs.Disjunctions.{IsDisjunction};
+ghost use Rattle.sweep.specs.Picks.{ArePicks, PicksAt, picked};
+
+use geo_base::{KBox, Point, Steps, Way};
+use geo_conditions::{ObjId, State};
+use indexical::Indexical;
+use std::sync::ledger::Ledger;
+
+/// Asks the condition that the k-th pick names.
+#[inline(always)]
+fn ask_pick<const K: usize, I: Indexical<K>, L: Ledger>(
+    s: &State<K>,
+    o: ObjId,
+    place: u8,
+    list: &[I],
+    picks: &[u32],
+    k: usize,
+    c: &Point<K>,
+    region: &KBox<K>,
+    way: &Way<K>,
+    steps: &mut Steps<L>,
+) -> Option<KBox<K>>
+    requires fits { AllFit (map I.cond list.now) s.now }
+    requires object { o.0 < length s.now }
+    requires picks { ArePicks (length list.now) picks.now }
+    requires k { k < length picks.now }
+    requires inside { Has K region.now.lo.coordinates region.now.hi.coordinates c.now.coordinates }
+    ensures refuted { IfSome result (λ b. (x : Cond)
+        × PicksAt (map I.cond list.now) picks.now k x
+        × IsRefuted x (with_at s.now o.0 place (region_of b))) }
+    ensures has { IfSome result (λ b. Has K b.lo.coordinates b.hi.coordinates c.now.coordinates) }
+    ensures within { IfSome result (λ b.
+        Has K region.now.lo.coordinates region.now.hi.coordinates b.lo.coordinates
+        × Has K region.now.lo.coordinates region.now.hi.coordinates b.hi.coordinates) }
+    ensures whole { IfSome result (λ b. (x : Cond) → PicksAt (map I.cond list.now) picks.now k x
+        → IsDisjunction o.0 x → (q : List ℤ)
+        → Has K region.now.lo.coordinates region.now.hi.coordinates q
+        → IsRefuted x (with_at s.now o.0 place (just q)) → Has K b.lo.coordinates b.hi.coordinates q) }
+    ensures none { IfNone result ((x : Cond) → PicksAt (map I.cond list.now) picks.now k x
+        → possible x (with_at s.now o.0 place (just c.now.coordinates)) ≡ true) }
+    ensures asked { steps.new ≡ steps.old + 1 }
+{
+    list[picks[k] as usize - 1].forbid(s, o, place, c, region, way, steps)
+}
+
+/// The first pick from `from` on, and around, whose condition is refuted at the point c, and its
+/// forbidden box.
+#[inline(never)]
+pub fn ask<const K: usize, I: Indexical<K>, L: Ledger>(
+    s: &State<K>,
+    o: ObjId,
+    place: u8,
+    list: &[I],
+    picks: &[u32],
+    from: usize,
+    c: &Point<K>,
+    region: &KBox<K>,
+    way: &Way<K>,
+    steps: &mut Steps<L>,
+) -> Option<(usize, KBox<K>)>
+    requires fits { AllFit (map I.cond list.now) s.now }
+    requires object { o.0 < length s.now }
+    requires picks { ArePicks (length list.now) picks.now }
+    requires from { from ≤ length picks.now }
+    requires inside { Has K region.now.lo.coordinates region.now.hi.coordinates c.now.coordinates }
+    ensures pick { IfSome result (λ a. a.0 < length picks.now) }
+    ensures refuted { IfSome result (λ a. (x : Cond)
+        × PicksAt (map I.cond list.now) picks.now a.0 x
+        × IsRefuted x (with_at s.now o.0 place (region_of a.1))) }
+    ensures has { IfSome result (λ a.
+        Has K a.1.lo.coordinates a.1.hi.coordinates c.now.coordinates) }
+    ensures within { IfSome result (λ a.
+        Has K region.now.lo.coordinates region.now.hi.coordinates a.1.lo.coordinates
+        × Has K region.now.lo.coordinates region.now.hi.coordinates a.1.hi.coordinates) }
+    ensures whole { IfSome result (λ a. (x : Cond)
+        → PicksAt (map I.cond list.now) picks.now a.0 x → IsDisjunction o.0 x → (q : List ℤ)
+        → Has K region.now.lo.coordinates region.now.hi.coordinates q
+        → IsRefuted x (with_at s.now o.0 place (just q))
+        → Has K a.1.lo.coordinates a.1.hi.coordinates q) }
+    ensures none { IfNone result (NoneRefuted (picked (map I.cond list.now) picks.now)
+        (with_at s.now o.0 place (just c.now.coordinates))) }
+    ensures asked { steps.new ≤ steps.old + length picks.now }
+{
+    'ahead: for k in from..picks.len() {
+        if let Some(b) = ask_pick(s, o, place, list, picks, k, c, region, way, steps) {
+            return Some((k, b));
+        }
+    }
+    'around: for k in 0..from {
+        if let Some(b) = ask_pick(s, o, place, list, picks, k, c, region, way, steps) {
+            return Some((k, b));
+        }
+    }
+    None
+}
