@@ -4,3 +4,5 @@ pub mod Marks
 pub mod Grammar
 pub mod Reading
 pub mod Outcome
+pub mod Canonical
+pub mod Spelled

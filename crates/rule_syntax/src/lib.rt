@@ -1,8 +1,9 @@
-//! The formulas and expressions of rules: their trees, and reading them.
+//! The formulas and expressions of rules: their trees, reading them, and writing them canonically.
 #![tactic(auto)]
 
 pub mod expression;
 pub mod formula;
+pub mod print;
 pub mod quantifier;
 pub mod read;
 #[cfg(test)]
