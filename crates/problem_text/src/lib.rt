@@ -1,13 +1,20 @@
-//! Problems: their text, and what their layouts are.
+//! Problems: from a text to the problem that it spells or to its first fault, and back to the canonical text.
 //!
-//! The program reads the small form of `line` so far. Beside it stand the statements of the whole format: their trees, and
-//! reading them from the tokens of a text.
+//! A text is read in four steps: tokens, statements (`syntax`), their first fault (`faults`), and the problem that they spell
+//! (`build`). `print` writes a problem.
 #![tactic(auto)]
 
-pub mod line;
+pub mod build;
+pub mod faults;
 pub mod numbers;
 pub mod objects;
 pub mod order;
+pub mod parts;
+pub mod print;
+pub mod problem;
+pub mod read;
+#[cfg(test)]
+mod read_tests;
 pub mod rules;
 pub mod statements;
 pub mod syntax;

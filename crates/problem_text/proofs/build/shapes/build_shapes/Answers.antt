@@ -1,0 +1,12 @@
+use Rattle.std.proofs.Common.{sym, ◌∙◌}
+use Rattle.std.specs.Vec.Iter.{into_iter_items}
+use Rattle.problem_text.specs.View.{shape_view}
+use Rattle.problem_text.specs.Meaning.{shape_of}
+use Rattle.problem_text.proofs.Taken.{none_left, made_all}
+use Rattle.problem_text.proofs.InLists.{map_twice}
+use Rattle.problem_text.proofs.build.shapes.build_shapes.Goals as goal
+
+pub returns : goal.returns
+returns c =
+    made_all (λ s. shape_of (shape_view s)) c.loop-shape.made.items (into_iter_items c.loop-shape.shape-iterator) _ (none_left (into_iter_items c.loop-shape.shape-iterator) _ c.loop-shape.invariant.count c.in-None.ensures.steps.0) c.loop-shape.invariant.left
+    ∙ sym (map_twice shape_of shape_view c.args.shapes.items)

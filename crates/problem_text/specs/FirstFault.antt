@@ -1,0 +1,56 @@
+-- Which texts are accepted, with the problems that they spell, and what the first fault of another text is. A text is looked at
+-- in four phases, its length, its tokens, its grammar and its statements; the first phase with a fault decides.
+use Rattle.std.specs.Prelude.{◌≡◌, ℕ, ◌<◌, ◌≤◌, List, length, Result, Ok, Err}
+use Rattle.geo_tokens.specs.declared.token.Token.{Token}
+use Rattle.geo_tokens.specs.declared.fault.FaultWord.{FaultWord}
+use Rattle.geo_tokens.specs.declared.fault.FaultWord.TheVariants as words
+use Rattle.geo_tokens.specs.declared.fault.TextFault.{TextFault}
+use Rattle.geo_tokens.specs.declared.fault.TextFault.TheVariants as faults
+use Rattle.geo_tokens.specs.Cut.{IsTokens, IsTokenFault}
+use Rattle.problem_text.specs.declared.problem.Problem.{Problem}
+use Rattle.problem_text.specs.declared.faults.fault.Fault.{Fault}
+use Rattle.problem_text.specs.Tree.{ProblemTree}
+use Rattle.problem_text.specs.Grammar.{ProblemWords}
+use Rattle.problem_text.specs.WholeText.{IsWhole, FirstFault}
+use Rattle.problem_text.specs.Problem.{ProblemData}
+use Rattle.problem_text.specs.Parts.{parts_of}
+use Rattle.problem_text.specs.Least.{fault, IsFirst}
+use Rattle.problem_text.specs.Faults.{IsFault}
+use Rattle.problem_text.specs.Meaning.{problem_of}
+
+-- how many bytes a text may have
+abbrev pub most_bytes : ℕ
+most_bytes = 1048576
+
+-- the text is short enough, it is cut into these tokens, and they spell these statements
+pub record Says (text : List ℕ) (tree : ProblemTree) : Type 0 where
+  pub short : length text ≤ most_bytes
+  pub list : List Token
+  pub tokens : IsTokens text list
+  pub spells : IsWhole (ProblemWords text) 64 list tree
+
+-- the text says statements without a fault, and they spell the problem
+pub record Accepts (text : List ℕ) (problem : ProblemData) : Type 0 where
+  pub tree : ProblemTree
+  pub says : Says text tree
+  pub right : (f : Fault) → IsFault (parts_of tree) f → ⊥
+  pub means : problem ≡ problem_of (parts_of tree)
+
+-- the first fault of the text is this word at this place
+pub data HasFirstFault (text : List ℕ) (place : ℕ) (word : FaultWord) : Type 0 where
+  long : most_bytes < length text → place ≡ most_bytes → word ≡ words.Long → HasFirstFault text place word
+  no_token : length text ≤ most_bytes → IsTokenFault text place word → HasFirstFault text place word
+  no_statements : length text ≤ most_bytes → (list : List Token) → IsTokens text list → FirstFault (ProblemWords text) 64 (length text) list place word → HasFirstFault text place word
+  in_statements : (tree : ProblemTree) → Says text tree → IsFirst (IsFault (parts_of tree)) (fault place word) → HasFirstFault text place word
+
+-- a call's answer: the problem that the text spells, or its first fault, unless memory ran out
+abbrev pub AnswersProblem : Result Problem TextFault → List ℕ → Type 0
+AnswersProblem (Ok p) text = Accepts text p
+AnswersProblem (Err (faults.At place word)) text = HasFirstFault text place word
+AnswersProblem (Err faults.Memory) text = Unit {0}
+
+-- nothing else is true of the text
+abbrev pub IsOnlyProblem : Result Problem TextFault → List ℕ → Type 0
+IsOnlyProblem (Ok p) text = ((q : ProblemData) → Accepts text q → q ≡ p) × ((place : ℕ) (word : FaultWord) → HasFirstFault text place word → ⊥)
+IsOnlyProblem (Err (faults.At place word)) text = ((q : ProblemData) → Accepts text q → ⊥) × ((p : ℕ) (w : FaultWord) → HasFirstFault text p w → (p ≡ place) × (w ≡ word))
+IsOnlyProblem (Err faults.Memory) text = Unit {0}

@@ -1,0 +1,39 @@
+//! The canonical text of a problem.
+//!
+//! Each statement is spelled as a list of lexemes, and shown on a line of its own.
+
+pub mod line;
+pub mod part;
+pub mod statement;
+#[cfg(test)]
+mod tests;
+pub mod text;
+
+ghost use Rattle.geo_chan.specs.Written.{AppendsFront};
+ghost use Rattle.geo_chan.specs.Causes.{PutCause};
+ghost use Rattle.std.specs.Prelude.{◌≡◌, ℕ, List, true, MatchResult};
+ghost use Rattle.std.specs.Io.KnownBytes.{Appends};
+ghost use Rattle.problem_text.specs.Canonical.{problem_text};
+ghost use Rattle.problem_text.specs.FirstFault.{Accepts};
+ghost use Rattle.problem_text.specs.ReadBack.{IsSpelled};
+
+use crate::problem::Problem;
+use geo_chan::{PutFault, Sink, write_all_bytes};
+use std::alloc::Global;
+use text::canonical_text;
+
+/// Writes the canonical text of a problem. After a fault a front part of it was written, and nothing where memory ran out.
+/// Where some text without faults says the problem, the canonical text spells statements that mean it, places aside.
+pub fn print_problem<W: Sink>(
+    alloc: Global,
+    problem: &Problem,
+    sink: &mut W,
+) -> Result<(), PutFault>
+    ensures bytes { MatchResult result (λ _. Appends (W.written sink.old) (W.written sink.new) (problem_text problem.now)) (λ _. AppendsFront (W.written sink.old) (W.written sink.new) (problem_text problem.now)) }
+    ensures cause { PutCause (W.faults sink.old) (W.faults sink.new) result }
+    ensures quiet { W.quiet sink.old ≡ true → W.quiet sink.new ≡ true }
+    ensures spelled { (text : List ℕ) → Accepts text problem.now → IsSpelled problem.now }
+{
+    let text = canonical_text(alloc, problem)?;
+    write_all_bytes(sink, text.as_slice())
+}
