@@ -1,0 +1,14 @@
+use Rattle.std.proofs.Common.{◌≡◌, [], ◌++◌, refl, sym, ◌∙◌, append_assoc}
+use Rattle.std.specs.Prelude.{codes, flat_map, decimal}
+use Rattle.std.proofs.lemmas.Result.{err_from_is_err_and}
+use Rattle.geo_base.specs.Tuple.{spot}
+use Rattle.geo_chan.proofs.Appending.{wrote_none, wrote_first, wrote_ok, wrote_err, wrote_then}
+use Rattle.layout_text.specs.Block.{coordinates, head_of, line_of, lines_of, group_of, later_group, token_of, token_line, block_of}
+use Rattle.layout_text.proofs.block.write_later_group.Goals as goal
+
+pub returns-in_err-write_all_bytes : goal.returns-in_err-write_all_bytes
+returns-in_err-write_all_bytes g c = let p = err_from_is_err_and c.from_residual.result c.from_residual.ensures.1 in
+    rw (p.1, p.2) (wrote_err _ _ _ _ _ _ _ _ _ _ _ _ (group_of (spot c.args.layout.now c.args.o.0)) _ (wrote_none _ _ _) c.in_err-write_all_bytes.ensures refl)
+
+pub returns : goal.returns
+returns g c = wrote_then _ _ _ _ _ _ _ _ _ _ _ _ _ (wrote_first _ _ _ _ _ _ _ _ c.in_ok-write_all_bytes.ensures) c.write_group.ensures refl
