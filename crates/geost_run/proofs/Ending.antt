@@ -7,54 +7,70 @@ use Rattle.geo_chan.specs.Causes.{Rose}
 use Rattle.geo_chan.specs.declared.outside.PutFault.{PutFault}
 use Rattle.geo_chan.specs.declared.outside.PutFault.TheVariants.{Failed}
 use Rattle.geo_chan.specs.Written.{Writes, AppendsFront}
-use Rattle.problem_text.specs.LineProblem.{ProblemData}
+use Rattle.problem_text.specs.Problem.{ProblemData}
 use Rattle.geo_tokens.specs.declared.fault.FaultWord.{FaultWord}
-use Rattle.geo_tokens.specs.declared.fault.FaultWord.TheVariants.{Long, Syntax}
-use Rattle.problem_text.specs.LineText.{Accepts, FirstFault, IsTooLong, Spells}
+use Rattle.problem_text.specs.FirstFault.{most_bytes, Says, Accepts, HasFirstFault, long, no_token, no_statements, in_statements}
 use Rattle.geost_run.specs.declared.command.Command.{Command}
-use Rattle.geost_run.specs.declared.command.Command.TheVariants.{First}
+use Rattle.geost_run.specs.declared.command.Command.TheVariants.{First, Show}
 use Rattle.geost_run.specs.declared.command.Status.{Status}
 use Rattle.geost_run.specs.declared.command.Status.TheVariants.{Answered, No, Refused, Budget, BadWords, BadToken, ReadFault, WriteFault, Memory}
 use Rattle.geost_run.specs.Words.{HasForm, HasNoForm}
 use Rattle.geost_run.specs.declared.decision.Decision.{Decision}
-use Rattle.geost_run.specs.declared.decision.Decision.TheVariants.{Refuse, Nothing, Layout}
+use Rattle.geost_run.specs.declared.decision.Decision.TheVariants.{Refuse, Nothing, Layout, Shown}
 use Rattle.geost_run.specs.Decision.{decision_text, decision_status}
-use Rattle.geost_run.specs.Answer.{FirstAnswer, FrontOf, AnswerTo, BeginsOf, BadWordsAnswer, Answer, Begins}
+use Rattle.geost_run.specs.Answer.{RefusedAnswer, FirstAnswer, ShowAnswer, FrontOf, AnswerTo, BeginsOf, BadWordsAnswer, Answer, Begins}
 use Rattle.geost_run.specs.Reading.{Tells, IsFirstText, IsReadFrom}
-use Rattle.geost_run.specs.Ends.{Gave, Began, WroteFront, Ends, EndsUnread}
+use Rattle.geost_run.specs.Ends.{Gave, Began, WroteFront, Ends, EndsUnread, Finishes}
 
 -- the answer to the text that was read is the answer to the input
-whole_text : (input text : List ℕ) → IsFirstText input text → (IsTooLong text → ⊥) → text ≡ input
+whole_text : (input text : List ℕ) → IsFirstText input text → length text ≤ most_bytes → text ≡ input
 whole_text input text h short = elim h.whole [
   | inl none ↦ sym (h.front ∙ ap (λ t. text ++ t) none ∙ append-nil text)
-  | inr long ↦ absurd (short long)
+  | inr over ↦ absurd (omega arith)
 ]
 
 accepts_input : (input text : List ℕ) (p : ProblemData) → IsFirstText input text → Accepts text p → Accepts input p
-accepts_input input text p h a = subst (λ (t : List ℕ). Accepts t p) (whole_text input text h a.short) a
+accepts_input input text p h a = subst (λ (t : List ℕ). Accepts t p) (whole_text input text h a.says.short) a
 
-fault_of_input : (input text : List ℕ) (place : ℕ) (word : FaultWord) → IsFirstText input text → FirstFault text place word → FirstFault input place word
-fault_of_input input text place Long h (long, at) = (let e = ap length h.front in grind (arith, common_steps, e, long), at)
-fault_of_input input text place Syntax h f = subst (λ (t : List ℕ). FirstFault t place Syntax) (whole_text input text h f.0) f
-fault_of_input input text place _ h f = absurd f
+fault_of_input : (input text : List ℕ) (place : ℕ) (word : FaultWord) → IsFirstText input text → HasFirstFault text place word → HasFirstFault input place word
+fault_of_input input text place word h (long l at is) = long (let e = ap length h.front in grind (arith, common_steps, e, l)) at is
+fault_of_input input text place word h (no_token s f) = subst (λ (t : List ℕ). HasFirstFault t place word) (whole_text input text h s) (no_token s f)
+fault_of_input input text place word h (no_statements s list tokens f) = subst (λ (t : List ℕ). HasFirstFault t place word) (whole_text input text h s) (no_statements s list tokens f)
+fault_of_input input text place word h (in_statements t says f) = subst (λ (u : List ℕ). HasFirstFault u place word) (whole_text input text h says.short) (in_statements t says f)
 
-pub answer_of_input : (input text out : List ℕ) (status : Status) → IsFirstText input text → FirstAnswer text out status → FirstAnswer input out status
-answer_of_input input text out Answered h (p, placed, a, l, e) = (p, placed, accepts_input input text p h a, l, e)
-answer_of_input input text out No h (p, a, l, e) = (p, accepts_input input text p h a, l, e)
-answer_of_input input text out Refused h (place, word, f, e) = (place, word, fault_of_input input text place word h f, e)
-answer_of_input input text out Budget h a = a
-answer_of_input input text out BadWords h a = a
-answer_of_input input text out BadToken h a = a
-answer_of_input input text out ReadFault h a = a
-answer_of_input input text out WriteFault h a = a
-answer_of_input input text out Memory h a = a
+refused_input : (input text out : List ℕ) → IsFirstText input text → RefusedAnswer text out → RefusedAnswer input out
+refused_input input text out h (place, word, f, e) = (place, word, fault_of_input input text place word h f, e)
 
-pub gave_first : {T : Type 0} (left w0 w1 : Option (List ℕ)) (f0 f1 : ℕ) (q0 q1 : Bool) (text out : List ℕ) (u : T) (status : Status) → IsReadFrom left text → FirstAnswer text out status → Writes w0 w1 f0 f1 q0 q1 (Ok u) out → Gave FirstAnswer left w0 w1 status
-gave_first left w0 w1 f0 f1 q0 q1 text out u status (input, told, h) a w = record { input = input; text = out; told = told; answers = answer_of_input input text out status h a; bytes = w.bytes }
+-- an answer to the text that was read is an answer to the input
+abbrev pub Lifts : (List ℕ → List ℕ → Status → Type 0) → Type 0
+Lifts answer = (input text out : List ℕ) (status : Status) → IsFirstText input text → answer text out status → answer input out status
 
-pub began_first : {T : Type 0} (left w0 w1 : Option (List ℕ)) (f0 f1 : ℕ) (q0 q1 : Bool) (text out : List ℕ) (e : PutFault) (status : Status) → IsReadFrom left text → FirstAnswer text out status → Writes {T = T} w0 w1 f0 f1 q0 q1 (Err e) out → WroteFront (FrontOf FirstAnswer) left w0 w1
-began_first left w0 w1 f0 f1 q0 q1 text out e status (input, told, h) a w = let (front, back, is, bytes) = w.bytes in
-    inr (record { input = input; front = front; told = told; starts = (out, status, back, answer_of_input input text out status h a, is); bytes = bytes })
+pub lifts_first : Lifts FirstAnswer
+lifts_first input text out Answered h (p, t, a, f, l, e) = (p, t, accepts_input input text p h a, f, l, e)
+lifts_first input text out No h (p, a, f, l, e) = (p, accepts_input input text p h a, f, l, e)
+lifts_first input text out Refused h (inl r) = inl (refused_input input text out h r)
+lifts_first input text out Refused h (inr (p, place, a, f, e)) = inr (p, place, accepts_input input text p h a, f, e)
+lifts_first input text out Budget h a = a
+lifts_first input text out BadWords h a = a
+lifts_first input text out BadToken h a = a
+lifts_first input text out ReadFault h a = a
+lifts_first input text out WriteFault h a = a
+lifts_first input text out Memory h a = a
+
+pub lifts_show : Lifts ShowAnswer
+lifts_show input text out Answered h (p, a, e) = (p, accepts_input input text p h a, e)
+lifts_show input text out Refused h r = refused_input input text out h r
+lifts_show input text out No h a = a
+lifts_show input text out Budget h a = a
+lifts_show input text out BadWords h a = a
+lifts_show input text out BadToken h a = a
+lifts_show input text out ReadFault h a = a
+lifts_show input text out WriteFault h a = a
+lifts_show input text out Memory h a = a
+
+began : (answer : List ℕ → List ℕ → Status → Type 0) (left w0 w1 : Option (List ℕ)) (text out : List ℕ) (status : Status) → Lifts answer → IsReadFrom left text → answer text out status → AppendsFront w0 w1 out → WroteFront (FrontOf answer) left w0 w1
+began answer left w0 w1 text out status lifts (input, told, h) a (front, back, is, bytes) =
+    inr (record { input = input; front = front; told = told; starts = (out, status, back, lifts input text out status h a, is); bytes = bytes })
 
 -- a status that only an answer has
 abbrev pub IsAnswered : Status → Type 0
@@ -94,10 +110,14 @@ ends_as a b p q left r0 r1 w0 w1 f0 f1 ReadFault f g h = h
 ends_as a b p q left r0 r1 w0 w1 f0 f1 WriteFault f g h = (h.0, front_as p q left w0 w1 g h.1)
 ends_as a b p q left r0 r1 w0 w1 f0 f1 Memory f g h = front_as p q left w0 w1 g h
 
-pub ends_command : (words : List (List ℕ)) (command : Command) (left : Option (List ℕ)) (r0 r1 : ℕ) (w0 w1 : Option (List ℕ)) (f0 f1 : ℕ) (status : Status) → HasForm words command →
+ends_command : (words : List (List ℕ)) (command : Command) (left : Option (List ℕ)) (r0 r1 : ℕ) (w0 w1 : Option (List ℕ)) (f0 f1 : ℕ) (status : Status) → HasForm words command →
     Ends (AnswerTo command) (BeginsOf command) left r0 r1 w0 w1 f0 f1 status → Ends (Answer words) (Begins words) left r0 r1 w0 w1 f0 f1 status
 ends_command words command left r0 r1 w0 w1 f0 f1 status form h =
     ends_as (AnswerTo command) (Answer words) (BeginsOf command) (Begins words) left r0 r1 w0 w1 f0 f1 status (λ i t s a. inl (command, form, a)) (λ i t a. inl (command, form, a)) h
+
+pub ends_of : (words : List (List ℕ)) (command other : Command) (left : Option (List ℕ)) (r0 r1 : ℕ) (w0 w1 : Option (List ℕ)) (f0 f1 : ℕ) (status : Status) → command ≡ other → HasForm words command →
+    Ends (AnswerTo other) (BeginsOf other) left r0 r1 w0 w1 f0 f1 status → Ends (Answer words) (Begins words) left r0 r1 w0 w1 f0 f1 status
+ends_of words command other left r0 r1 w0 w1 f0 f1 status same form h = ends_command words other left r0 r1 w0 w1 f0 f1 status (subst (λ (x : Command). HasForm words x) same form) h
 
 some_input : (left : Option (List ℕ)) → (input : List ℕ) × Tells left input
 some_input None = ([], tt)
@@ -130,18 +150,27 @@ ends_unread words left r w0 w1 f0 f1 ReadFault none h = absurd h
 is_answered : (d : Decision) → IsAnswered (decision_status d)
 is_answered (Refuse place word) = tt
 is_answered Nothing = tt
-is_answered (Layout p placed) = tt
+is_answered (Layout p layout) = tt
+is_answered (Shown p) = tt
 
-pub first_ok : {T : Type 0} (left : Option (List ℕ)) (r0 r1 : ℕ) (w0 w1 : Option (List ℕ)) (f0 f1 : ℕ) (q0 q1 : Bool) (text seen : List ℕ) (d : Decision) (u : T) (status : Status) → IsReadFrom left text → seen ≡ text →
-    FirstAnswer seen (decision_text d) (decision_status d) → Writes w0 w1 f0 f1 q0 q1 (Ok u) (decision_text d) → status ≡ decision_status d → Ends FirstAnswer (FrontOf FirstAnswer) left r0 r1 w0 w1 f0 f1 status
-first_ok left r0 r1 w0 w1 f0 f1 q0 q1 text seen d u status h e a w s =
-    subst (λ (x : Status). Ends FirstAnswer (FrontOf FirstAnswer) left r0 r1 w0 w1 f0 f1 x) (sym s)
-    (ends_given FirstAnswer (FrontOf FirstAnswer) left r0 r1 w0 w1 f0 f1 (decision_status d) (is_answered d)
-    (gave_first left w0 w1 f0 f1 q0 q1 text (decision_text d) u (decision_status d) h (subst (λ (t : List ℕ). FirstAnswer t (decision_text d) (decision_status d)) e a) w))
+gave_text : (answer : List ℕ → List ℕ → Status → Type 0) (left w0 w1 : Option (List ℕ)) (text out : List ℕ) (status : Status) → Lifts answer → IsReadFrom left text → answer text out status → Appends w0 w1 out → Gave answer left w0 w1 status
+gave_text answer left w0 w1 text out status lifts (input, told, h) a bytes = record { input = input; text = out; told = told; answers = lifts input text out status h a; bytes = bytes }
 
-pub first_err : {T : Type 0} (left w0 w1 : Option (List ℕ)) (f0 f1 : ℕ) (q0 q1 : Bool) (text seen : List ℕ) (d : Decision) (x : PutFault) → IsReadFrom left text → seen ≡ text →
-    FirstAnswer seen (decision_text d) (decision_status d) → Writes {T = T} w0 w1 f0 f1 q0 q1 (Err x) (decision_text d) → WroteFront (FrontOf FirstAnswer) left w0 w1
-first_err left w0 w1 f0 f1 q0 q1 text seen d x h e a w = began_first left w0 w1 f0 f1 q0 q1 text (decision_text d) x (decision_status d) h (subst (λ (t : List ℕ). FirstAnswer t (decision_text d) (decision_status d)) e a) w
+given : (answer : List ℕ → List ℕ → Status → Type 0) (left : Option (List ℕ)) (r0 r1 : ℕ) (w0 w1 : Option (List ℕ)) (f0 f1 : ℕ) (text : List ℕ) (d : Decision) (result : Status) → Lifts answer → IsReadFrom left text
+    → answer text (decision_text d) (decision_status d) → (result ≡ decision_status d) × Appends w0 w1 (decision_text d) → Ends answer (FrontOf answer) left r0 r1 w0 w1 f0 f1 result
+given answer left r0 r1 w0 w1 f0 f1 text d result lifts h a (same, bytes) =
+    subst (λ (x : Status). Ends answer (FrontOf answer) left r0 r1 w0 w1 f0 f1 x) (sym same)
+    (ends_given answer (FrontOf answer) left r0 r1 w0 w1 f0 f1 (decision_status d) (is_answered d) (gave_text answer left w0 w1 text (decision_text d) (decision_status d) lifts h a bytes))
 
-pub ends_first : (command : Command) (left : Option (List ℕ)) (r0 r1 : ℕ) (w0 w1 : Option (List ℕ)) (f0 f1 : ℕ) (status : Status) → Ends FirstAnswer (FrontOf FirstAnswer) left r0 r1 w0 w1 f0 f1 status → Ends (AnswerTo command) (BeginsOf command) left r0 r1 w0 w1 f0 f1 status
-ends_first (First n) left r0 r1 w0 w1 f0 f1 status h = h
+-- a command that has decided, and wrote what it decided
+pub ends_text : (answer : List ℕ → List ℕ → Status → Type 0) (left : Option (List ℕ)) (r0 r1 : ℕ) (w0 w1 : Option (List ℕ)) (f0 f1 : ℕ) (text seen : List ℕ) (d : Decision) (result : Status) → Lifts answer → IsReadFrom left text → seen ≡ text
+    → answer seen (decision_text d) (decision_status d) → Finishes (decision_text d) (decision_status d) w0 w1 f0 f1 result → Ends answer (FrontOf answer) left r0 r1 w0 w1 f0 f1 result
+ends_text answer left r0 r1 w0 w1 f0 f1 text seen d WriteFault lifts h e a f = (f.0, began answer left w0 w1 text (decision_text d) (decision_status d) lifts h (subst (λ (t : List ℕ). answer t (decision_text d) (decision_status d)) e a) f.1)
+ends_text answer left r0 r1 w0 w1 f0 f1 text seen d Memory lifts h e a f = began answer left w0 w1 text (decision_text d) (decision_status d) lifts h (subst (λ (t : List ℕ). answer t (decision_text d) (decision_status d)) e a) f
+ends_text answer left r0 r1 w0 w1 f0 f1 text seen d Answered lifts h e a f = given answer left r0 r1 w0 w1 f0 f1 text d Answered lifts h (subst (λ (t : List ℕ). answer t (decision_text d) (decision_status d)) e a) f
+ends_text answer left r0 r1 w0 w1 f0 f1 text seen d No lifts h e a f = given answer left r0 r1 w0 w1 f0 f1 text d No lifts h (subst (λ (t : List ℕ). answer t (decision_text d) (decision_status d)) e a) f
+ends_text answer left r0 r1 w0 w1 f0 f1 text seen d Refused lifts h e a f = given answer left r0 r1 w0 w1 f0 f1 text d Refused lifts h (subst (λ (t : List ℕ). answer t (decision_text d) (decision_status d)) e a) f
+ends_text answer left r0 r1 w0 w1 f0 f1 text seen d Budget lifts h e a f = given answer left r0 r1 w0 w1 f0 f1 text d Budget lifts h (subst (λ (t : List ℕ). answer t (decision_text d) (decision_status d)) e a) f
+ends_text answer left r0 r1 w0 w1 f0 f1 text seen d BadWords lifts h e a f = given answer left r0 r1 w0 w1 f0 f1 text d BadWords lifts h (subst (λ (t : List ℕ). answer t (decision_text d) (decision_status d)) e a) f
+ends_text answer left r0 r1 w0 w1 f0 f1 text seen d BadToken lifts h e a f = given answer left r0 r1 w0 w1 f0 f1 text d BadToken lifts h (subst (λ (t : List ℕ). answer t (decision_text d) (decision_status d)) e a) f
+ends_text answer left r0 r1 w0 w1 f0 f1 text seen d ReadFault lifts h e a f = given answer left r0 r1 w0 w1 f0 f1 text d ReadFault lifts h (subst (λ (t : List ℕ). answer t (decision_text d) (decision_status d)) e a) f

@@ -124,3 +124,44 @@ fn bad_words_take_nothing(rt: HostRuntime) -> Result<(), Fail> {
     assert_eq!(rt; left, LINE.len());
     Ok(())
 }
+
+#[test]
+fn a_problem_is_shown(rt: HostRuntime) -> Result<(), Fail> {
+    let alloc = rt.alloc();
+    let (status, text) = answer(alloc, &["show"], LINE)?;
+    assert_eq!(rt; status, Status::Answered);
+    let want =
+        b"geost 1 dims 1\nshape s box 0 size 2 ;\nobject a as s at 0..3 ;\nobject b as s at 0..3 ;\nrule r : apart ;\nend\n";
+    assert_eq!(rt; text.as_slice(), want.as_slice());
+    Ok(())
+}
+
+#[test]
+fn the_second_shape_and_the_high_side(rt: HostRuntime) -> Result<(), Fail> {
+    let alloc = rt.alloc();
+    let second =
+        b"geost 1 dims 2 shape flat box 0 0 size 2 1 ; shape tall box 0 0 size 1 2 ; object a as flat, tall at 0..5 0..5 ; rule w : within 0..0 0..9 ; end";
+    let (_, text) = answer(alloc, &["first", "3"], second)?;
+    assert_eq!(rt;
+        text.as_slice(),
+        b"layout\na as tall at 0 0\ntoken 2,0,0\n".as_slice()
+    );
+    let high =
+        b"geost 1 dims 1 shape s box 0 size 2 ; object a as s at 0..3 ; object b as s at 0..3 ; sides high ; rule r : apart ; end";
+    let (_, text) = answer(alloc, &["first", "4"], high)?;
+    assert_eq!(rt;
+        text.as_slice(),
+        b"layout\na as s at 3\nb as s at 1\ntoken 1,3/1,1\n".as_slice()
+    );
+    Ok(())
+}
+
+#[test]
+fn a_formula_is_refused_at_its_rule(rt: HostRuntime) -> Result<(), Fail> {
+    let formula =
+        b"geost 1 dims 1 shape s box 0 size 1 ; object a as s at 0..9 ; rule r : a.x1 > 3 ; end";
+    let (status, text) = answer(rt.alloc(), &["first", "1"], formula)?;
+    assert_eq!(rt; status, Status::Refused);
+    assert_eq!(rt; text.as_slice(), b"refused 67 later\n".as_slice());
+    Ok(())
+}
