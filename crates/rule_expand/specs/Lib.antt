@@ -1,0 +1,11 @@
+pub mod Plain
+pub mod PlainView
+pub mod PlainTruth
+pub mod Expansion
+pub mod Table
+pub mod Counts
+pub mod Limits
+pub mod Costs
+pub mod ScopeView
+pub mod Degree
+pub mod Rules

@@ -1,0 +1,459 @@
+//! Expressions without their macros.
+
+ghost use Rattle.std.specs.Prelude.{◌≡◌, ◌+◌, ◌<◌, ◌≤◌, MatchResult, map};
+ghost use Rattle.std.specs.Option.{option_map_or};
+ghost use Rattle.rule_syntax.specs.Tree as tree;
+ghost use Rattle.rule_syntax.specs.View.{expr_view, sum_view, product_view, argument_view};
+ghost use Rattle.problem_text.specs.Value.{macro_position};
+ghost use Rattle.rule_expand.specs.Plain as plain;
+ghost use Rattle.rule_expand.specs.PlainView.{plain_sum_view, plain_product_view};
+ghost use Rattle.rule_expand.specs.Expansion.{as_expr, expansions_of, expr_expanded, field_of, meant_by, product_expanded, products_expanded, shape_expr, sum_expanded, sums_expanded};
+ghost use Rattle.rule_expand.specs.Counts.{expr_nodes, expr_depth, sum_nodes, sum_depth, sums_nodes, sums_depth, product_nodes, product_depth, products_nodes, products_depth};
+ghost use Rattle.rule_expand.specs.Limits.{GivesExpr, Lacks, SumMade, SumsMade, ProductMade, ProductsMade};
+ghost use Rattle.rule_expand.specs.ScopeView.{scope_view};
+ghost use Rattle.rule_expand.specs.Table.{AreTables};
+
+use crate::limits::Lack;
+use crate::make::{
+    add_product, add_sum, field, greatest, least, negative, number, product, shape_number, sum,
+    take_node,
+};
+use crate::plain::{PlainExpr, PlainProd, PlainSum};
+use crate::scope::{Found, Scope, look_up, value_macro};
+use crate::table::{Tables, position_of};
+use geo_tokens::name::Name;
+use problem_text::problem::Problem;
+use rule_syntax::tree::{Argument, Expr, PlacedName, ProdStep, SumStep};
+use std::alloc::Global;
+
+/// A field of what a name stands for.
+fn expand_field(
+    alloc: Global,
+    problem: &Problem,
+    tables: &Tables,
+    of: &Name,
+    name: &Name,
+    scope: &Scope,
+    room: &mut u32,
+    deep: u32,
+) -> Result<PlainExpr, Lack>
+    requires { AreTables problem.now tables.now }
+    ensures { GivesExpr (field_of (meant_by problem.now of.now (scope_view problem.now scope.now)) name.now) room.old deep room.new result }
+{
+    match look_up(problem, tables, scope, of) {
+        Found::Subject(subject) => field(alloc, subject, name, room, deep),
+        Found::Argument(_e, _caller, _in_sight) => number(0, room, deep),
+        Found::Nothing => number(0, room, deep),
+    }
+}
+
+/// The number of the shape of this name.
+fn expand_shape(
+    problem: &Problem,
+    tables: &Tables,
+    name: &Name,
+    room: &mut u32,
+    deep: u32,
+) -> Result<PlainExpr, Lack>
+    requires { AreTables problem.now tables.now }
+    ensures { GivesExpr (shape_expr problem.now name.now) room.old deep room.new result }
+{
+    match position_of(&tables.shapes, name.as_bytes()) {
+        Some(position) => shape_number(position, room, deep),
+        None => number(0, room, deep),
+    }
+}
+
+/// An expression without its macros, where the first macros are in sight, within the room for nodes and the depth.
+#[cycle(expand)]
+pub fn expand_expr(
+    alloc: Global,
+    problem: &Problem,
+    tables: &Tables,
+    in_sight: usize,
+    e: &Expr,
+    scope: &Scope,
+    room: &mut u32,
+    deep: u32,
+) -> Result<PlainExpr, Lack>
+    requires { AreTables problem.now tables.now }
+    ensures { GivesExpr (expr_expanded (expansions_of problem.now in_sight) problem.now (expr_view e.now) (scope_view problem.now scope.now)) room.old deep room.new result }
+{
+    match e {
+        Expr::Num(_place, n) => number(*n, room, deep),
+        Expr::Field(of, _dot, name) => expand_field(
+            alloc, problem, tables, &of.name, &name.name, &*scope, room, deep,
+        ),
+        Expr::Param(a) => expand_param(alloc, problem, tables, &a.name, &*scope, room, deep),
+        Expr::ShapeNum(_place, a) => expand_shape(problem, tables, &a.name, room, deep),
+        Expr::Neg(_place, e) => expand_negative(
+            alloc, problem, tables, in_sight, e, &*scope, room, deep,
+        ),
+        Expr::Sum(_place, first, steps) => expand_sum(
+            alloc, problem, tables, in_sight, first, steps, &*scope, room, deep,
+        ),
+        Expr::Prod(_place, first, steps) => expand_product(
+            alloc, problem, tables, in_sight, first, steps, &*scope, room, deep,
+        ),
+        Expr::Min(_place, a, b) => expand_least(
+            alloc, problem, tables, in_sight, a, b, &*scope, room, deep,
+        ),
+        Expr::Max(_place, a, b) => expand_greatest(
+            alloc, problem, tables, in_sight, a, b, &*scope, room, deep,
+        ),
+        Expr::CallValue(_place, m, args) => expand_call(
+            alloc, problem, tables, in_sight, m, args, &*scope, room, deep,
+        ),
+    }
+}
+
+/// What a bare name becomes as a number.
+#[cycle(expand)]
+fn expand_param(
+    alloc: Global,
+    problem: &Problem,
+    tables: &Tables,
+    name: &Name,
+    scope: &Scope,
+    room: &mut u32,
+    deep: u32,
+) -> Result<PlainExpr, Lack>
+    requires { AreTables problem.now tables.now }
+    ensures { GivesExpr (as_expr (meant_by problem.now name.now (scope_view problem.now scope.now))) room.old deep room.new result }
+{
+    match look_up(problem, tables, &*scope, name) {
+        Found::Argument(e, caller, in_sight) => expand_expr(
+            alloc, problem, tables, in_sight, e, caller, room, deep,
+        ),
+        Found::Subject(_subject) => number(0, room, deep),
+        Found::Nothing => number(0, room, deep),
+    }
+}
+
+#[cycle(expand)]
+fn expand_negative(
+    alloc: Global,
+    problem: &Problem,
+    tables: &Tables,
+    in_sight: usize,
+    e: &Expr,
+    scope: &Scope,
+    room: &mut u32,
+    deep: u32,
+) -> Result<PlainExpr, Lack>
+    requires { AreTables problem.now tables.now }
+    ensures { GivesExpr (plain.negative (expr_expanded (expansions_of problem.now in_sight) problem.now (expr_view e.now) (scope_view problem.now scope.now))) room.old deep room.new result }
+{
+    if !take_node(room, deep) {
+        return Err(Lack::TooLarge);
+    }
+    match expand_expr(alloc, problem, tables, in_sight, e, &*scope, room, deep - 1) {
+        Ok(inner) => negative(alloc, inner),
+        Err(lack) => Err(lack),
+    }
+}
+
+#[cycle(expand)]
+fn expand_least(
+    alloc: Global,
+    problem: &Problem,
+    tables: &Tables,
+    in_sight: usize,
+    a: &Expr,
+    b: &Expr,
+    scope: &Scope,
+    room: &mut u32,
+    deep: u32,
+) -> Result<PlainExpr, Lack>
+    requires { AreTables problem.now tables.now }
+    ensures { let x = expansions_of problem.now in_sight in let sub = scope_view problem.now scope.now in GivesExpr (plain.least (expr_expanded x problem.now (expr_view a.now) sub) (expr_expanded x problem.now (expr_view b.now) sub)) room.old deep room.new result }
+{
+    if !take_node(room, deep) {
+        return Err(Lack::TooLarge);
+    }
+    match expand_expr(alloc, problem, tables, in_sight, a, &*scope, room, deep - 1) {
+        Ok(left) => match expand_expr(
+            alloc,
+            problem,
+            tables,
+            in_sight,
+            b,
+            &*scope,
+            room,
+            deep - 1,
+        ) {
+            Ok(right) => least(alloc, left, right),
+            Err(lack) => Err(lack),
+        },
+        Err(lack) => Err(lack),
+    }
+}
+
+#[cycle(expand)]
+fn expand_greatest(
+    alloc: Global,
+    problem: &Problem,
+    tables: &Tables,
+    in_sight: usize,
+    a: &Expr,
+    b: &Expr,
+    scope: &Scope,
+    room: &mut u32,
+    deep: u32,
+) -> Result<PlainExpr, Lack>
+    requires { AreTables problem.now tables.now }
+    ensures { let x = expansions_of problem.now in_sight in let sub = scope_view problem.now scope.now in GivesExpr (plain.greatest (expr_expanded x problem.now (expr_view a.now) sub) (expr_expanded x problem.now (expr_view b.now) sub)) room.old deep room.new result }
+{
+    if !take_node(room, deep) {
+        return Err(Lack::TooLarge);
+    }
+    match expand_expr(alloc, problem, tables, in_sight, a, &*scope, room, deep - 1) {
+        Ok(left) => match expand_expr(
+            alloc,
+            problem,
+            tables,
+            in_sight,
+            b,
+            &*scope,
+            room,
+            deep - 1,
+        ) {
+            Ok(right) => greatest(alloc, left, right),
+            Err(lack) => Err(lack),
+        },
+        Err(lack) => Err(lack),
+    }
+}
+
+#[cycle(expand)]
+fn expand_sum(
+    alloc: Global,
+    problem: &Problem,
+    tables: &Tables,
+    in_sight: usize,
+    first: &Expr,
+    steps: &[SumStep],
+    scope: &Scope,
+    room: &mut u32,
+    deep: u32,
+) -> Result<PlainExpr, Lack>
+    requires { AreTables problem.now tables.now }
+    ensures { let x = expansions_of problem.now in_sight in let sub = scope_view problem.now scope.now in GivesExpr (plain.sum (expr_expanded x problem.now (expr_view first.now) sub) (sums_expanded x problem.now (tree.sums (map sum_view steps.now)) sub)) room.old deep room.new result }
+{
+    if !take_node(room, deep) {
+        return Err(Lack::TooLarge);
+    }
+    match expand_expr(
+        alloc,
+        problem,
+        tables,
+        in_sight,
+        first,
+        &*scope,
+        room,
+        deep - 1,
+    ) {
+        Ok(start) => match expand_sum_steps(
+            alloc,
+            problem,
+            tables,
+            in_sight,
+            steps,
+            &*scope,
+            room,
+            deep - 1,
+        ) {
+            Ok(others) => sum(alloc, start, others),
+            Err(lack) => Err(lack),
+        },
+        Err(lack) => Err(lack),
+    }
+}
+
+#[cycle(expand)]
+fn expand_sum_steps(
+    alloc: Global,
+    problem: &Problem,
+    tables: &Tables,
+    in_sight: usize,
+    steps: &[SumStep],
+    scope: &Scope,
+    room: &mut u32,
+    deep: u32,
+) -> Result<Vec<PlainSum>, Lack>
+    requires { AreTables problem.now tables.now }
+    ensures { let t = sums_expanded (expansions_of problem.now in_sight) problem.now (tree.sums (map sum_view steps.now)) (scope_view problem.now scope.now) in MatchResult result (λ v. SumsMade t room.old deep room.new v.items) (λ f. Lacks (sums_nodes t) (sums_depth t) room.old deep f) }
+{
+    let mut made = Vec::new(alloc);
+    for step in steps {
+        match expand_sum_step(alloc, problem, tables, in_sight, step, &*scope, room, deep) {
+            Ok(one) => {
+                if let Err(lack) = add_sum(&mut made, one) {
+                    return Err(lack);
+                }
+            }
+            Err(lack) => return Err(lack),
+        }
+    }
+    Ok(made)
+}
+
+#[cycle(expand)]
+fn expand_sum_step(
+    alloc: Global,
+    problem: &Problem,
+    tables: &Tables,
+    in_sight: usize,
+    step: &SumStep,
+    scope: &Scope,
+    room: &mut u32,
+    deep: u32,
+) -> Result<PlainSum, Lack>
+    requires { AreTables problem.now tables.now }
+    ensures { let t = sum_expanded (expansions_of problem.now in_sight) problem.now (sum_view step.now) (scope_view problem.now scope.now) in MatchResult result (λ s. SumMade t room.old deep room.new s) (λ f. Lacks (sum_nodes t) (sum_depth t) room.old deep f) }
+{
+    match step {
+        SumStep::Plus(e) => match expand_expr(
+            alloc, problem, tables, in_sight, e, &*scope, room, deep,
+        ) {
+            Ok(made) => Ok(PlainSum::Plus(made)),
+            Err(lack) => Err(lack),
+        },
+        SumStep::Minus(e) => match expand_expr(
+            alloc, problem, tables, in_sight, e, &*scope, room, deep,
+        ) {
+            Ok(made) => Ok(PlainSum::Minus(made)),
+            Err(lack) => Err(lack),
+        },
+    }
+}
+
+#[cycle(expand)]
+fn expand_product(
+    alloc: Global,
+    problem: &Problem,
+    tables: &Tables,
+    in_sight: usize,
+    first: &Expr,
+    steps: &[ProdStep],
+    scope: &Scope,
+    room: &mut u32,
+    deep: u32,
+) -> Result<PlainExpr, Lack>
+    requires { AreTables problem.now tables.now }
+    ensures { let x = expansions_of problem.now in_sight in let sub = scope_view problem.now scope.now in GivesExpr (plain.product (expr_expanded x problem.now (expr_view first.now) sub) (products_expanded x problem.now (tree.products (map product_view steps.now)) sub)) room.old deep room.new result }
+{
+    if !take_node(room, deep) {
+        return Err(Lack::TooLarge);
+    }
+    match expand_expr(
+        alloc,
+        problem,
+        tables,
+        in_sight,
+        first,
+        &*scope,
+        room,
+        deep - 1,
+    ) {
+        Ok(start) => match expand_product_steps(
+            alloc,
+            problem,
+            tables,
+            in_sight,
+            steps,
+            &*scope,
+            room,
+            deep - 1,
+        ) {
+            Ok(others) => product(alloc, start, others),
+            Err(lack) => Err(lack),
+        },
+        Err(lack) => Err(lack),
+    }
+}
+
+#[cycle(expand)]
+fn expand_product_steps(
+    alloc: Global,
+    problem: &Problem,
+    tables: &Tables,
+    in_sight: usize,
+    steps: &[ProdStep],
+    scope: &Scope,
+    room: &mut u32,
+    deep: u32,
+) -> Result<Vec<PlainProd>, Lack>
+    requires { AreTables problem.now tables.now }
+    ensures { let t = products_expanded (expansions_of problem.now in_sight) problem.now (tree.products (map product_view steps.now)) (scope_view problem.now scope.now) in MatchResult result (λ v. ProductsMade t room.old deep room.new v.items) (λ f. Lacks (products_nodes t) (products_depth t) room.old deep f) }
+{
+    let mut made = Vec::new(alloc);
+    for step in steps {
+        match expand_product_step(alloc, problem, tables, in_sight, step, &*scope, room, deep) {
+            Ok(one) => {
+                if let Err(lack) = add_product(&mut made, one) {
+                    return Err(lack);
+                }
+            }
+            Err(lack) => return Err(lack),
+        }
+    }
+    Ok(made)
+}
+
+#[cycle(expand)]
+fn expand_product_step(
+    alloc: Global,
+    problem: &Problem,
+    tables: &Tables,
+    in_sight: usize,
+    step: &ProdStep,
+    scope: &Scope,
+    room: &mut u32,
+    deep: u32,
+) -> Result<PlainProd, Lack>
+    requires { AreTables problem.now tables.now }
+    ensures { let t = product_expanded (expansions_of problem.now in_sight) problem.now (product_view step.now) (scope_view problem.now scope.now) in MatchResult result (λ s. ProductMade t room.old deep room.new s) (λ f. Lacks (product_nodes t) (product_depth t) room.old deep f) }
+{
+    match step {
+        ProdStep::Times(e) => match expand_expr(
+            alloc, problem, tables, in_sight, e, &*scope, room, deep,
+        ) {
+            Ok(made) => Ok(PlainProd::Times(made)),
+            Err(lack) => Err(lack),
+        },
+        ProdStep::Div(_place, n) => Ok(PlainProd::Div(*n)),
+        ProdStep::Mod(_place, n) => Ok(PlainProd::Mod(*n)),
+    }
+}
+
+/// The body of a macro, where its parameters stand for the arguments.
+#[cycle(expand)]
+fn expand_call(
+    alloc: Global,
+    problem: &Problem,
+    tables: &Tables,
+    in_sight: usize,
+    m: &PlacedName,
+    args: &[Argument],
+    scope: &Scope,
+    room: &mut u32,
+    deep: u32,
+) -> Result<PlainExpr, Lack>
+    requires { AreTables problem.now tables.now }
+    ensures { let x = expansions_of problem.now in_sight in GivesExpr (expr_expanded x problem.now (tree.value_call 0 m.now (tree.arguments (map argument_view args.now))) (scope_view problem.now scope.now)) room.old deep room.new result }
+{
+    match value_macro(problem, tables, in_sight, &m.name) {
+        Some(called) => expand_expr(
+            alloc,
+            problem,
+            tables,
+            called.index,
+            called.body,
+            &Scope::Parameters(called.params, args, &*scope, in_sight),
+            room,
+            deep,
+        ),
+        None => number(0, room, deep),
+    }
+}

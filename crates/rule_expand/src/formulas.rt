@@ -1,0 +1,494 @@
+//! Formulas without their macros.
+
+ghost use Rattle.std.specs.Prelude.{◌≡◌, ◌+◌, ◌<◌, ◌^◌, ◌++◌, [], ℕ, max, IfOk, MatchResult, map};
+ghost use Rattle.std.specs.List.{cons_option};
+ghost use Rattle.rule_syntax.specs.Tree as tree;
+ghost use Rattle.rule_syntax.specs.View.{argument_view, coll_view, expr_view, formula_view};
+ghost use Rattle.problem_text.specs.Truth.{listed_objects};
+ghost use Rattle.rule_expand.specs.Plain as plain;
+ghost use Rattle.rule_expand.specs.PlainView.{plain_coll_view};
+ghost use Rattle.rule_expand.specs.Expansion.{binders, coll_expanded, expansions_of, expr_expanded, formula_expanded, formulas_expanded};
+ghost use Rattle.rule_expand.specs.Counts.{nodes, depth, nodes_in, depth_in};
+ghost use Rattle.rule_expand.specs.Limits.{FormulasMade, GivesFormula, GivesUnbound, Lacks, PairMade};
+ghost use Rattle.rule_expand.specs.ScopeView.{scope_view};
+ghost use Rattle.rule_expand.specs.Table.{AreTables};
+
+use crate::expressions::expand_expr;
+use crate::limits::Lack;
+use crate::make::{
+    add_formula, all_of, any_of, comparison, equivalence, falsehood, implication, negation,
+    quantified, take_node,
+};
+use crate::plain::{PlainColl, PlainFormula};
+use crate::scope::{Found, Scope, formula_macro, look_up};
+use crate::table::{Tables, position_of};
+use problem_text::problem::Problem;
+use rule_syntax::tree::{Argument, Coll, Expr, Formula, PlacedName, QuantKind, Rel};
+use std::alloc::{AllocError, Global};
+
+/// The position that was found more, where one was.
+fn add_found(positions: &mut Vec<usize>, found: Option<usize>) -> Result<(), AllocError>
+    ensures { IfOk result (λ _. positions.new.items ≡ positions.old.items ++ cons_option found []) }
+{
+    match found {
+        Some(o) => {
+            positions.push(o)?;
+            Ok(())
+        }
+        None => Ok(()),
+    }
+}
+
+/// The listed objects, by their positions.
+fn positions_listed(
+    alloc: Global,
+    problem: &Problem,
+    tables: &Tables,
+    names: &[PlacedName],
+) -> Result<Vec<usize>, AllocError>
+    requires { AreTables problem.now tables.now }
+    ensures { IfOk result (λ v. v.items ≡ listed_objects problem.now names.now) }
+{
+    let mut positions = Vec::new(alloc);
+    for name in names {
+        add_found(
+            &mut positions,
+            position_of(&tables.objects, name.name.as_bytes()),
+        )?;
+    }
+    Ok(positions)
+}
+
+/// What a quantifier's variable ranges over.
+fn expand_coll(
+    alloc: Global,
+    problem: &Problem,
+    tables: &Tables,
+    coll: &Coll,
+    scope: &Scope,
+) -> Result<PlainColl, Lack>
+    requires { AreTables problem.now tables.now }
+    ensures { MatchResult result (λ q. plain_coll_view q ≡ coll_expanded problem.now (coll_view coll.now) (scope_view problem.now scope.now)) (λ e. e ≡ Lack.Memory) }
+{
+    match coll {
+        Coll::Objects => Ok(PlainColl::Objects),
+        Coll::Listed(names) => match positions_listed(alloc, problem, tables, names) {
+            Ok(positions) => Ok(PlainColl::Listed(positions)),
+            Err(_e) => Err(Lack::Memory),
+        },
+        Coll::BoxesOf(a) => match look_up(problem, tables, scope, &a.name) {
+            Found::Subject(subject) => Ok(PlainColl::BoxesOf(subject)),
+            Found::Argument(_e, _caller, _in_sight) => Ok(PlainColl::Listed(Vec::new(alloc))),
+            Found::Nothing => Ok(PlainColl::Listed(Vec::new(alloc))),
+        },
+    }
+}
+
+/// A comparison without its macros.
+fn expand_comparison(
+    alloc: Global,
+    problem: &Problem,
+    tables: &Tables,
+    in_sight: usize,
+    a: &Expr,
+    rel: Rel,
+    b: &Expr,
+    scope: &Scope,
+    room: &mut u32,
+    deep: u32,
+) -> Result<PlainFormula, Lack>
+    requires { AreTables problem.now tables.now }
+    ensures { let x = expansions_of problem.now in_sight in let sub = scope_view problem.now scope.now in GivesUnbound (plain.comparison (expr_expanded x problem.now (expr_view a.now) sub) rel (expr_expanded x problem.now (expr_view b.now) sub)) room.old deep room.new result }
+{
+    if !take_node(room, deep) {
+        return Err(Lack::TooLarge);
+    }
+    match expand_expr(alloc, problem, tables, in_sight, a, scope, room, deep - 1) {
+        Ok(left) => match expand_expr(alloc, problem, tables, in_sight, b, scope, room, deep - 1) {
+            Ok(right) => Ok(comparison(left, rel, right)),
+            Err(lack) => Err(lack),
+        },
+        Err(lack) => Err(lack),
+    }
+}
+
+/// A formula without its macros, where the first macros are in sight, with numbers from `next` on for its variables, within
+/// the room for nodes and the depth.
+#[cycle(formula)]
+pub fn expand_formula(
+    alloc: Global,
+    problem: &Problem,
+    tables: &Tables,
+    in_sight: usize,
+    f: &Formula,
+    scope: &Scope,
+    next: &mut u32,
+    room: &mut u32,
+    deep: u32,
+) -> Result<PlainFormula, Lack>
+    requires known { AreTables problem.now tables.now }
+    requires numbers { next.old + room.old < 2 ^ 32 }
+    ensures { GivesFormula (formula_expanded (expansions_of problem.now in_sight) problem.now (formula_view f.now) (scope_view problem.now scope.now) next.old) next.old room.old deep next.new room.new result }
+{
+    match f {
+        Formula::True(_place) => {
+            if !take_node(room, deep) {
+                return Err(Lack::TooLarge);
+            }
+            Ok(PlainFormula::True)
+        }
+        Formula::False(_place) => {
+            if !take_node(room, deep) {
+                return Err(Lack::TooLarge);
+            }
+            Ok(PlainFormula::False)
+        }
+        Formula::Not(_place, f) => expand_negation(
+            alloc, problem, tables, in_sight, f, &*scope, next, room, deep,
+        ),
+        Formula::And(_place, fs) => expand_all_of(
+            alloc, problem, tables, in_sight, fs, &*scope, next, room, deep,
+        ),
+        Formula::Or(_place, fs) => expand_any_of(
+            alloc, problem, tables, in_sight, fs, &*scope, next, room, deep,
+        ),
+        Formula::Implies(_place, f, g) => expand_implication(
+            alloc, problem, tables, in_sight, f, g, &*scope, next, room, deep,
+        ),
+        Formula::Iff(_place, f, g) => expand_equivalence(
+            alloc, problem, tables, in_sight, f, g, &*scope, next, room, deep,
+        ),
+        Formula::Compare(_place, a, rel, b) => expand_comparison(
+            alloc, problem, tables, in_sight, a, *rel, b, &*scope, room, deep,
+        ),
+        Formula::Quant(_place, kind, v, coll, f) => expand_quantified(
+            alloc, problem, tables, in_sight, *kind, v, coll, f, &*scope, next, room, deep,
+        ),
+        Formula::Call(_place, m, args) => expand_formula_call(
+            alloc, problem, tables, in_sight, m, args, &*scope, next, room, deep,
+        ),
+    }
+}
+
+#[cycle(formula)]
+fn expand_negation(
+    alloc: Global,
+    problem: &Problem,
+    tables: &Tables,
+    in_sight: usize,
+    f: &Formula,
+    scope: &Scope,
+    next: &mut u32,
+    room: &mut u32,
+    deep: u32,
+) -> Result<PlainFormula, Lack>
+    requires known { AreTables problem.now tables.now }
+    requires numbers { next.old + room.old < 2 ^ 32 }
+    ensures { GivesFormula (plain.negation (formula_expanded (expansions_of problem.now in_sight) problem.now (formula_view f.now) (scope_view problem.now scope.now) next.old)) next.old room.old deep next.new room.new result }
+{
+    if !take_node(room, deep) {
+        return Err(Lack::TooLarge);
+    }
+    match expand_formula(
+        alloc,
+        problem,
+        tables,
+        in_sight,
+        f,
+        &*scope,
+        next,
+        room,
+        deep - 1,
+    ) {
+        Ok(inner) => negation(alloc, inner),
+        Err(lack) => Err(lack),
+    }
+}
+
+#[cycle(formula)]
+fn expand_all_of(
+    alloc: Global,
+    problem: &Problem,
+    tables: &Tables,
+    in_sight: usize,
+    fs: &[Formula],
+    scope: &Scope,
+    next: &mut u32,
+    room: &mut u32,
+    deep: u32,
+) -> Result<PlainFormula, Lack>
+    requires known { AreTables problem.now tables.now }
+    requires numbers { next.old + room.old < 2 ^ 32 }
+    ensures { GivesFormula (plain.all_of (formulas_expanded (expansions_of problem.now in_sight) problem.now (tree.formulas (map formula_view fs.now)) (scope_view problem.now scope.now) next.old)) next.old room.old deep next.new room.new result }
+{
+    if !take_node(room, deep) {
+        return Err(Lack::TooLarge);
+    }
+    match expand_each(
+        alloc,
+        problem,
+        tables,
+        in_sight,
+        fs,
+        &*scope,
+        next,
+        room,
+        deep - 1,
+    ) {
+        Ok(parts) => Ok(all_of(parts)),
+        Err(lack) => Err(lack),
+    }
+}
+
+#[cycle(formula)]
+fn expand_any_of(
+    alloc: Global,
+    problem: &Problem,
+    tables: &Tables,
+    in_sight: usize,
+    fs: &[Formula],
+    scope: &Scope,
+    next: &mut u32,
+    room: &mut u32,
+    deep: u32,
+) -> Result<PlainFormula, Lack>
+    requires known { AreTables problem.now tables.now }
+    requires numbers { next.old + room.old < 2 ^ 32 }
+    ensures { GivesFormula (plain.any_of (formulas_expanded (expansions_of problem.now in_sight) problem.now (tree.formulas (map formula_view fs.now)) (scope_view problem.now scope.now) next.old)) next.old room.old deep next.new room.new result }
+{
+    if !take_node(room, deep) {
+        return Err(Lack::TooLarge);
+    }
+    match expand_each(
+        alloc,
+        problem,
+        tables,
+        in_sight,
+        fs,
+        &*scope,
+        next,
+        room,
+        deep - 1,
+    ) {
+        Ok(parts) => Ok(any_of(parts)),
+        Err(lack) => Err(lack),
+    }
+}
+
+/// The same of each of several.
+#[cycle(formula)]
+fn expand_each(
+    alloc: Global,
+    problem: &Problem,
+    tables: &Tables,
+    in_sight: usize,
+    fs: &[Formula],
+    scope: &Scope,
+    next: &mut u32,
+    room: &mut u32,
+    deep: u32,
+) -> Result<Vec<PlainFormula>, Lack>
+    requires known { AreTables problem.now tables.now }
+    requires numbers { next.old + room.old < 2 ^ 32 }
+    ensures { let t = formulas_expanded (expansions_of problem.now in_sight) problem.now (tree.formulas (map formula_view fs.now)) (scope_view problem.now scope.now) next.old in MatchResult result (λ v. FormulasMade t next.old room.old deep next.new room.new v.items) (λ e. Lacks (nodes_in t) (depth_in t) room.old deep e) }
+{
+    let mut parts = Vec::new(alloc);
+    for f in fs {
+        match expand_formula(
+            alloc, problem, tables, in_sight, f, &*scope, next, room, deep,
+        ) {
+            Ok(part) => {
+                if let Err(lack) = add_formula(&mut parts, part) {
+                    return Err(lack);
+                }
+            }
+            Err(lack) => return Err(lack),
+        }
+    }
+    Ok(parts)
+}
+
+/// Two formulas, one behind the other.
+#[cycle(formula)]
+fn expand_pair(
+    alloc: Global,
+    problem: &Problem,
+    tables: &Tables,
+    in_sight: usize,
+    f: &Formula,
+    g: &Formula,
+    scope: &Scope,
+    next: &mut u32,
+    room: &mut u32,
+    deep: u32,
+) -> Result<(PlainFormula, PlainFormula), Lack>
+    requires known { AreTables problem.now tables.now }
+    requires numbers { next.old + room.old < 2 ^ 32 }
+    ensures { let x = expansions_of problem.now in_sight in let sub = scope_view problem.now scope.now in let t = formula_expanded x problem.now (formula_view f.now) sub next.old in let u = formula_expanded x problem.now (formula_view g.now) sub (next.old + binders t) in MatchResult result (λ r. PairMade t u next.old room.old deep next.new room.new r.0 r.1) (λ e. Lacks (nodes t + nodes u) (max (depth t) (depth u)) room.old deep e) }
+{
+    match expand_formula(
+        alloc, problem, tables, in_sight, f, &*scope, next, room, deep,
+    ) {
+        Ok(left) => match expand_formula(
+            alloc, problem, tables, in_sight, g, &*scope, next, room, deep,
+        ) {
+            Ok(right) => Ok((left, right)),
+            Err(lack) => Err(lack),
+        },
+        Err(lack) => Err(lack),
+    }
+}
+
+#[cycle(formula)]
+fn expand_implication(
+    alloc: Global,
+    problem: &Problem,
+    tables: &Tables,
+    in_sight: usize,
+    f: &Formula,
+    g: &Formula,
+    scope: &Scope,
+    next: &mut u32,
+    room: &mut u32,
+    deep: u32,
+) -> Result<PlainFormula, Lack>
+    requires known { AreTables problem.now tables.now }
+    requires numbers { next.old + room.old < 2 ^ 32 }
+    ensures { let x = expansions_of problem.now in_sight in let sub = scope_view problem.now scope.now in let t = formula_expanded x problem.now (formula_view f.now) sub next.old in GivesFormula (plain.implication t (formula_expanded x problem.now (formula_view g.now) sub (next.old + binders t))) next.old room.old deep next.new room.new result }
+{
+    if !take_node(room, deep) {
+        return Err(Lack::TooLarge);
+    }
+    match expand_pair(
+        alloc,
+        problem,
+        tables,
+        in_sight,
+        f,
+        g,
+        &*scope,
+        next,
+        room,
+        deep - 1,
+    ) {
+        Ok(pair) => implication(alloc, pair.0, pair.1),
+        Err(lack) => Err(lack),
+    }
+}
+
+#[cycle(formula)]
+fn expand_equivalence(
+    alloc: Global,
+    problem: &Problem,
+    tables: &Tables,
+    in_sight: usize,
+    f: &Formula,
+    g: &Formula,
+    scope: &Scope,
+    next: &mut u32,
+    room: &mut u32,
+    deep: u32,
+) -> Result<PlainFormula, Lack>
+    requires known { AreTables problem.now tables.now }
+    requires numbers { next.old + room.old < 2 ^ 32 }
+    ensures { let x = expansions_of problem.now in_sight in let sub = scope_view problem.now scope.now in let t = formula_expanded x problem.now (formula_view f.now) sub next.old in GivesFormula (plain.equivalence t (formula_expanded x problem.now (formula_view g.now) sub (next.old + binders t))) next.old room.old deep next.new room.new result }
+{
+    if !take_node(room, deep) {
+        return Err(Lack::TooLarge);
+    }
+    match expand_pair(
+        alloc,
+        problem,
+        tables,
+        in_sight,
+        f,
+        g,
+        &*scope,
+        next,
+        room,
+        deep - 1,
+    ) {
+        Ok(pair) => equivalence(alloc, pair.0, pair.1),
+        Err(lack) => Err(lack),
+    }
+}
+
+/// A quantifier, whose variable takes the next number.
+#[cycle(formula)]
+fn expand_quantified(
+    alloc: Global,
+    problem: &Problem,
+    tables: &Tables,
+    in_sight: usize,
+    kind: QuantKind,
+    v: &PlacedName,
+    coll: &Coll,
+    f: &Formula,
+    scope: &Scope,
+    next: &mut u32,
+    room: &mut u32,
+    deep: u32,
+) -> Result<PlainFormula, Lack>
+    requires known { AreTables problem.now tables.now }
+    requires numbers { next.old + room.old < 2 ^ 32 }
+    ensures { GivesFormula (formula_expanded (expansions_of problem.now in_sight) problem.now (tree.quantified 0 kind v.now (coll_view coll.now) (formula_view f.now)) (scope_view problem.now scope.now) next.old) next.old room.old deep next.new room.new result }
+{
+    if !take_node(room, deep) {
+        return Err(Lack::TooLarge);
+    }
+    match expand_coll(alloc, problem, tables, coll, &*scope) {
+        Ok(elements) => {
+            let own = *next;
+            *next += 1;
+            match expand_formula(
+                alloc,
+                problem,
+                tables,
+                in_sight,
+                f,
+                &Scope::Variable(&*scope, &v.name, own),
+                next,
+                room,
+                deep - 1,
+            ) {
+                Ok(body) => quantified(alloc, kind, own, elements, body),
+                Err(lack) => Err(lack),
+            }
+        }
+        Err(_lack) => Err(Lack::Memory),
+    }
+}
+
+/// The body of a macro, where its parameters stand for the arguments.
+#[cycle(formula)]
+fn expand_formula_call(
+    alloc: Global,
+    problem: &Problem,
+    tables: &Tables,
+    in_sight: usize,
+    m: &PlacedName,
+    args: &[Argument],
+    scope: &Scope,
+    next: &mut u32,
+    room: &mut u32,
+    deep: u32,
+) -> Result<PlainFormula, Lack>
+    requires known { AreTables problem.now tables.now }
+    requires numbers { next.old + room.old < 2 ^ 32 }
+    ensures { GivesFormula (formula_expanded (expansions_of problem.now in_sight) problem.now (tree.formula_call 0 m.now (tree.arguments (map argument_view args.now))) (scope_view problem.now scope.now) next.old) next.old room.old deep next.new room.new result }
+{
+    match formula_macro(problem, tables, in_sight, &m.name) {
+        Some(called) => expand_formula(
+            alloc,
+            problem,
+            tables,
+            called.index,
+            called.body,
+            &Scope::Parameters(called.params, args, &*scope, in_sight),
+            next,
+            room,
+            deep,
+        ),
+        None => falsehood(room, deep),
+    }
+}

@@ -1,0 +1,34 @@
+//! Why an expansion within limits has no tree.
+
+use std::alloc::{AllocError, AllocFailed};
+
+/// Why there is no tree.
+#[derive(Clone, Copy)]
+pub enum Lack {
+    /// More nodes than the room, or deeper than allowed.
+    TooLarge,
+    /// Memory ran out.
+    Memory,
+}
+
+impl<T: Drop> From<AllocFailed<T>> for Lack {
+    ghost use Rattle.std.specs.Prelude.{◌≡◌};
+    ghost use Rattle.rule_expand.specs.declared.limits.Lack.TheVariants.{Memory};
+
+    ghost from_gives = { λ e f. f ≡ Memory };
+
+    fn from(_e: AllocFailed<T>) -> Lack {
+        Lack::Memory
+    }
+}
+
+impl From<AllocError> for Lack {
+    ghost use Rattle.std.specs.Prelude.{◌≡◌};
+    ghost use Rattle.rule_expand.specs.declared.limits.Lack.TheVariants.{Memory};
+
+    ghost from_gives = { λ e f. f ≡ Memory };
+
+    fn from(_e: AllocError) -> Lack {
+        Lack::Memory
+    }
+}

@@ -1,0 +1,154 @@
+//! All rules of a problem without their macros.
+
+ghost use Rattle.std.specs.Prelude.{◌≡◌, None, false, IfOk, List, MatchResult, map, ◌++◌, ◌∷◌, []};
+ghost use Rattle.problem_text.specs.Tuple.{Tuple};
+ghost use Rattle.problem_text.specs.ProblemView.{range_data};
+ghost use Rattle.rule_expand.specs.Rules.{AllAskSame, IsFaultOf, RuleLacks, expansion_fault, first_place, is_large, large_fault, multiplies_coordinates, plain_rule_data, rule_expanded, rules_expanded};
+ghost use Rattle.rule_expand.specs.Table.{AreTables};
+
+use crate::degree::multiplies;
+use crate::formulas::expand_formula;
+use crate::limits::Lack;
+use crate::plain::{PlainBody, PlainRule};
+use crate::scope::Scope;
+use crate::table::{Tables, tables_of};
+use geo_tokens::fault::{FaultWord, TextFault};
+use problem_text::problem::{Demand, Problem, RangeDef, RuleDef};
+use std::alloc::{AllocError, Global};
+
+/// How many nodes an expanded rule may have.
+pub const MAX_NODES: u32 = 20000;
+
+/// How deep an expanded rule may be.
+pub const MAX_DEPTH: u32 = 256;
+
+/// The ranges once more.
+fn copied(alloc: Global, ranges: &[RangeDef]) -> Result<Vec<RangeDef>, AllocError>
+    ensures { IfOk result (λ v. v.items ≡ ranges.now) }
+{
+    Vec::from_slice(alloc, ranges)
+}
+
+/// A rule without its macros.
+fn expand_rule(
+    alloc: Global,
+    problem: &Problem,
+    tables: &Tables,
+    rule: &RuleDef,
+) -> Result<PlainRule, Lack>
+    requires { AreTables problem.now tables.now }
+    ensures { MatchResult result (λ r. (plain_rule_data r ≡ rule_expanded problem.now rule.now) × (is_large (rule_expanded problem.now rule.now).demand ≡ false)) (λ e. RuleLacks (rule_expanded problem.now rule.now) e) }
+{
+    let place = rule.place();
+    match rule.demand() {
+        Demand::Apart => Ok(PlainRule {
+            place,
+            body: PlainBody::Apart,
+        }),
+        Demand::Within(ranges) => match copied(alloc, ranges) {
+            Ok(own) => Ok(PlainRule {
+                place,
+                body: PlainBody::Within(own),
+            }),
+            Err(_e) => Err(Lack::Memory),
+        },
+        Demand::Plain(f) => {
+            let mut next = 0;
+            let mut room = MAX_NODES;
+            let in_sight = problem.macros().len();
+            match expand_formula(
+                alloc,
+                problem,
+                tables,
+                in_sight,
+                f,
+                &Scope::Objects,
+                &mut next,
+                &mut room,
+                MAX_DEPTH,
+            ) {
+                Ok(made) => Ok(PlainRule {
+                    place,
+                    body: PlainBody::Plain(made),
+                }),
+                Err(lack) => Err(lack),
+            }
+        }
+    }
+}
+
+/// One rule more.
+fn add_rule(rules: &mut Vec<PlainRule>, rule: PlainRule) -> Result<(), AllocError>
+    ensures { IfOk result (λ _. rules.new.items ≡ rules.old.items ++ rule ∷ []) }
+{
+    rules.push(rule)?;
+    Ok(())
+}
+
+/// The rules in file order, each without its macros, where none is too large.
+fn expand_rules(
+    alloc: Global,
+    problem: &Problem,
+    tables: &Tables,
+) -> Result<Vec<PlainRule>, TextFault>
+    requires { AreTables problem.now tables.now }
+    ensures { MatchResult result (λ v. (map plain_rule_data v.items ≡ rules_expanded problem.now) × (first_place is_large (rules_expanded problem.now) ≡ None)) (λ e. IsFaultOf (large_fault problem.now) e) }
+{
+    let rules = problem.rules();
+    let mut made = Vec::new(alloc);
+    for rule in rules {
+        match expand_rule(alloc, problem, tables, rule) {
+            Ok(one) => {
+                if let Err(_e) = add_rule(&mut made, one) {
+                    return Err(TextFault::Memory);
+                }
+            }
+            Err(Lack::TooLarge) => return Err(TextFault::At(rule.place(), FaultWord::Expand)),
+            Err(Lack::Memory) => return Err(TextFault::Memory),
+        }
+    }
+    Ok(made)
+}
+
+/// Whether a rule multiplies coordinates.
+fn is_product(rule: &PlainRule) -> bool
+    ensures { result ≡ multiplies_coordinates (plain_rule_data rule.now).demand }
+{
+    match &rule.body {
+        PlainBody::Apart => false,
+        PlainBody::Within(_ranges) => false,
+        PlainBody::Plain(f) => multiplies(f),
+    }
+}
+
+/// The place of the first rule that multiplies coordinates.
+fn first_product(rules: &[PlainRule]) -> Option<u64>
+    ensures { result ≡ first_place multiplies_coordinates (map plain_rule_data rules.now) }
+{
+    for rule in rules {
+        if is_product(rule) {
+            return Some(rule.place);
+        }
+    }
+    None
+}
+
+/// The rules of a problem in file order, each without its macros.
+///
+/// A rule with more than 20,000 nodes or a depth above 256 is refused with `expand`. Where there is none, one that multiplies
+/// coordinates, or has them under `div`, `mod`, `min` or `max`, is refused with `product`; each at the place of its name, the
+/// first in file order. On each tuple a rule without macros holds exactly where the rule holds.
+pub fn expand_all(alloc: Global, problem: &Problem) -> Result<Vec<PlainRule>, TextFault>
+    ensures expanded { MatchResult result (λ v. (map plain_rule_data v.items ≡ rules_expanded problem.now) × (expansion_fault problem.now ≡ None)) (λ e. IsFaultOf (expansion_fault problem.now) e) }
+    ensures meaning { IfOk result (λ v. (t : Tuple) → AllAskSame problem.now t problem.now.rules (map plain_rule_data v.items)) }
+{
+    let tables = match tables_of(alloc, problem) {
+        Ok(tables) => tables,
+        Err(_e) => return Err(TextFault::Memory),
+    };
+    let rules = expand_rules(alloc, problem, &tables)?;
+    match first_product(rules.as_slice()) {
+        Some(place) => Err(TextFault::At(place, FaultWord::Product)),
+        None => Ok(rules),
+    }
+}

@@ -1,0 +1,197 @@
+//! The names in sight of a part of a rule, and what they stand for.
+
+ghost use Rattle.std.specs.Prelude.{◌≡◌, ◌≤◌, [], MatchOption, length, map, take};
+ghost use Rattle.std.specs.List.{position};
+ghost use Rattle.std.specs.Str.{bytes_eq};
+ghost use Rattle.problem_text.specs.ProblemView.{param_data};
+ghost use Rattle.std.specs.Option.{option_map_or};
+ghost use Rattle.rule_syntax.specs.Tree.{arguments, param};
+ghost use Rattle.rule_syntax.specs.View.{argument_view, expr_view};
+ghost use Rattle.problem_text.specs.Problem.{ProblemData};
+ghost use Rattle.rule_expand.specs.Costs.{cost_by, cost, costs, price_all, CostEnv, MacroCosts};
+ghost use Rattle.rule_expand.specs.Expansion.{meant_by, meant, arguments_meant, give_all, Subst, Expansions};
+ghost use Rattle.rule_expand.specs.ScopeView.{scope_view, prices, found_meant, found_cost, IsNoName, IsValueMacro, IsNoValueMacro, IsFormulaMacro, IsNoFormulaMacro};
+ghost use Rattle.rule_expand.specs.Table.{AreTables};
+
+use crate::plain::Subject;
+use crate::table::{Tables, position_of};
+use geo_tokens::name::Name;
+use problem_text::problem::{ParamDef, Problem};
+use problem_text::tree::MacroBody;
+use rule_syntax::tree::{Argument, Expr, Formula, PlacedName};
+
+/// The names in sight, the innermost first. The objects' names are always in sight.
+#[derive(Clone, Copy, Drop)]
+pub enum Scope<'a> {
+    /// The objects alone.
+    Objects,
+    /// A quantifier's variable with its number, and what is in sight outside.
+    Variable(&'a Scope<'a>, &'a Name, u32),
+    /// The parameters of a macro and the arguments of its call, with what is in sight of the arguments: names, and how many macros.
+    Parameters(&'a [ParamDef], &'a [Argument], &'a Scope<'a>, usize),
+}
+
+/// What a name stands for.
+#[derive(Clone, Copy, Drop)]
+pub enum Found<'a> {
+    Subject(Subject),
+    /// An argument that is no bare name, with what is in sight of it: names, and how many macros.
+    Argument(&'a Expr, &'a Scope<'a>, usize),
+    Nothing,
+}
+
+/// A macro that gives a number, with its position among the macros.
+#[derive(Clone, Copy, Drop)]
+pub struct ValueMacro<'a> {
+    pub index: usize,
+    pub params: &'a [ParamDef],
+    pub body: &'a Expr,
+}
+
+/// A macro that gives a formula, with its position among the macros.
+#[derive(Clone, Copy, Drop)]
+pub struct FormulaMacro<'a> {
+    pub index: usize,
+    pub params: &'a [ParamDef],
+    pub body: &'a Formula,
+}
+
+/// Which of the first parameters has this name.
+fn parameter_index(params: &[ParamDef], count: usize, name: &Name) -> Option<usize>
+    ensures { result ≡ position (λ q. bytes_eq name.now q.name) (take count params.now) }
+{
+    params.iter().take(count).position(|q| *name == q.name)
+}
+
+/// The object of this name.
+fn object_named<'a>(problem: &Problem, tables: &Tables, name: &Name) -> Found<'a>
+    requires { AreTables problem.now tables.now }
+    ensures meant { found_meant problem.now result ≡ meant_by problem.now name.now [] }
+    ensures cost { found_cost problem.now result ≡ 0 }
+{
+    match position_of(&tables.objects, name.as_bytes()) {
+        Some(o) => Found::Subject(Subject::Object(o)),
+        None => Found::Nothing,
+    }
+}
+
+/// The argument that is given for the parameter of this name.
+fn bound_argument<'a>(params: &[ParamDef], args: &'a [Argument], name: &Name) -> Option<&'a Expr>
+    ensures meant { (x : Expansions) (p : ProblemData) (sub : Subst) → meant_by p name.now (give_all (map param_data params.now) (arguments_meant x p (arguments (map argument_view args.now)) sub)) ≡ option_map_or (λ e. meant x p (expr_view e.now) sub) result (meant_by p name.now []) }
+    ensures cost { (c : MacroCosts) (p : ProblemData) (env : CostEnv) → cost_by name.now (price_all (map param_data params.now) (costs c p (arguments (map argument_view args.now)) env)) ≡ option_map_or (λ e. cost c p (expr_view e.now) env) result 0 }
+{
+    match parameter_index(params, args.len(), name) {
+        Some(i) => Some(&args[i].value),
+        None => None,
+    }
+}
+
+/// The name that an expression is, where it is a bare name.
+fn bare_name(e: &Expr) -> Option<&PlacedName>
+    ensures { MatchOption result (IsNoName (expr_view e.now)) (λ a. expr_view e.now ≡ param a.now) }
+{
+    match e {
+        Expr::Param(a) => Some(a),
+        Expr::Num(_place, _n) => None,
+        Expr::Field(_of, _dot, _field) => None,
+        Expr::ShapeNum(_place, _shape) => None,
+        Expr::Neg(_place, _e) => None,
+        Expr::Sum(_place, _e, _steps) => None,
+        Expr::Prod(_place, _e, _steps) => None,
+        Expr::Min(_place, _a, _b) => None,
+        Expr::Max(_place, _a, _b) => None,
+        Expr::CallValue(_place, _m, _args) => None,
+    }
+}
+
+/// What a name stands for.
+pub fn look_up<'a>(
+    problem: &Problem,
+    tables: &Tables,
+    scope: &'a Scope<'a>,
+    name: &Name,
+) -> Found<'a>
+    requires { AreTables problem.now tables.now }
+    ensures meant { found_meant problem.now result ≡ meant_by problem.now name.now (scope_view problem.now scope.now) }
+    ensures cost { found_cost problem.now result ≤ cost_by name.now (prices problem.now scope.now) }
+{
+    match scope {
+        Scope::Objects => object_named(problem, tables, name),
+        Scope::Variable(outer, own, number) => {
+            if *name == **own {
+                Found::Subject(Subject::Variable(*number))
+            } else {
+                look_up(problem, tables, outer, name)
+            }
+        }
+        Scope::Parameters(params, args, caller, in_sight) => {
+            match bound_argument(params, args, name) {
+                Some(argument) => match bare_name(argument) {
+                    Some(passed) => look_up(problem, tables, caller, &passed.name),
+                    None => Found::Argument(argument, caller, *in_sight),
+                },
+                None => object_named(problem, tables, name),
+            }
+        }
+    }
+}
+
+/// The macro that a call of this name means, where it gives a number and stands among the first macros.
+pub fn value_macro<'a>(
+    problem: &'a Problem,
+    tables: &Tables,
+    in_sight: usize,
+    name: &Name,
+) -> Option<ValueMacro<'a>>
+    requires { AreTables problem.now tables.now }
+    ensures { MatchOption result (IsNoValueMacro problem.now in_sight name.now) (λ v. IsValueMacro problem.now in_sight name.now v) }
+{
+    match position_of(&tables.macros, name.as_bytes()) {
+        Some(index) => {
+            let macros = problem.macros();
+            if index >= in_sight {
+                return None;
+            }
+            let called = &macros[index];
+            match called.body() {
+                MacroBody::Is(body) => Some(ValueMacro {
+                    index,
+                    params: called.params(),
+                    body,
+                }),
+                MacroBody::Means(_formula) => None,
+            }
+        }
+        None => None,
+    }
+}
+
+/// The macro that a call of this name means, where it gives a formula and stands among the first macros.
+pub fn formula_macro<'a>(
+    problem: &'a Problem,
+    tables: &Tables,
+    in_sight: usize,
+    name: &Name,
+) -> Option<FormulaMacro<'a>>
+    requires { AreTables problem.now tables.now }
+    ensures { MatchOption result (IsNoFormulaMacro problem.now in_sight name.now) (λ v. IsFormulaMacro problem.now in_sight name.now v) }
+{
+    match position_of(&tables.macros, name.as_bytes()) {
+        Some(index) => {
+            let macros = problem.macros();
+            if index >= in_sight {
+                return None;
+            }
+            let called = &macros[index];
+            match called.body() {
+                MacroBody::Means(body) => Some(FormulaMacro {
+                    index,
+                    params: called.params(),
+                    body,
+                }),
+                MacroBody::Is(_expr) => None,
+            }
+        }
+        None => None,
+    }
+}
