@@ -4,6 +4,8 @@
 mod any;
 mod form;
 mod indexical;
+#[cfg(test)]
+mod tests;
 mod tree;
 
 pub use any::AnyIndexical;
