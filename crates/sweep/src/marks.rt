@@ -7,7 +7,10 @@ pub struct Marks<const K: usize> {
 }
 
 impl<const K: usize> Marks<K> {
-    pub fn new() -> Self {
+    /// No mark is set: each is 0.
+    pub fn new() -> Self
+        ensures { (p : ℕ) → p < K → slice_index result.places p ≡ 0 }
+    {
         Marks { places: [0; K] }
     }
 
