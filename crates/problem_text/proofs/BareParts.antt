@@ -155,7 +155,7 @@ body_bare (means f) = refl
 body_bare (equals e) = refl
 
 macro_bare : (m : MacroTree) → meaning.macro_of (bare_macro_tree m) ≡ bare_macro (meaning.macro_of m)
-macro_bare m = λ i. record { name = m.name.name; params = map_after meaning.param_of bare_param meaning.param_of (λ p. refl) m.params i; body = body_bare m.body i }
+macro_bare m = λ i. record { place = 0; name = m.name.name; params = map_after meaning.param_of bare_param meaning.param_of (λ p. refl) m.params i; body = body_bare m.body i }
 
 demand_bare : (d : DemandTree) → meaning.demand_of (bare_demand d) ≡ bare_demand_data (meaning.demand_of d)
 demand_bare apart = refl

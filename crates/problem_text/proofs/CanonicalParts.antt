@@ -233,7 +233,7 @@ objects_back names [] h = refl
 objects_back names (o ∷ os) h = λ i. object_back names o h.0 i ∷ objects_back names os h.1 i
 
 macro_back : (m : MacroData) → meaning.macro_of (macro_tree_of m) ≡ bare_macro m
-macro_back m = λ i. record { name = m.name; params = map_back meaning.param_of param_of (λ q. refl) m.params i; body = body_bare m.body i }
+macro_back m = λ i. record { place = 0; name = m.name; params = map_back meaning.param_of param_of (λ q. refl) m.params i; body = body_bare m.body i }
 
 demand_back : (d : DemandData) → meaning.demand_of (demand_of d) ≡ bare_demand d
 demand_back apart = refl

@@ -19,14 +19,11 @@ use Rattle.problem_text.specs.Faults.{Among, Repeated, text_of, first_place, sid
 use Rattle.problem_text.specs.Meaning as meaning
 use Rattle.problem_text.specs.Problem.{ProblemData}
 use Rattle.problem_text.specs.Canonical.{name_at, counts_from, is_high}
-use Rattle.problem_text.specs.ReadBack.{IsSpelled}
 use Rattle.problem_text.proofs.PrintingParts.{all_as}
 use Rattle.problem_text.proofs.ReadStatements.{mapped}
 use Rattle.problem_text.proofs.Positions.{Made, range_counts}
-use Rattle.problem_text.proofs.PrintingProblem.{problem_again}
-use Rattle.problem_text.proofs.BareParts.{parts_bare, meaning_bare}
-use Rattle.problem_text.proofs.CanonicalParts.{IsPosition, ArePositions, HavePositions, IsConsistent, parts_canonical, canonical_meaning}
-use Rattle.problem_text.proofs.SaysAgain.{Says, says_written, object_shapes_made, order_made, shape_names_of, object_names_of}
+use Rattle.problem_text.proofs.CanonicalParts.{IsPosition, ArePositions, HavePositions, IsConsistent}
+use Rattle.problem_text.proofs.SaysAgain.{Says, object_shapes_made, order_made, shape_names_of, object_names_of}
 
 position_is : (names : List (List ℕ)) (n : PlacedName) → Made names n → IsPosition names (meaning.position_of names n)
 position_is names n m = ap (λ (b : List ℕ). position_or_len (bytes_eq b) names) m.is
@@ -63,7 +60,7 @@ all_at P [] k x h e = absurd cc
 all_at P (y ∷ xs) zero x h e = let is : y ≡ x = cc in subst P is h.0
 all_at P (y ∷ xs) (suc k) x h e = all_at P xs k x h.1 e
 
-map_at : {A B : Type 0} (f : A → B) (xs : List A) (k : ℕ) (x : A) → slice_get xs k ≡ Some x → slice_get (map f xs) k ≡ Some (f x)
+pub map_at : {A B : Type 0} (f : A → B) (xs : List A) (k : ℕ) (x : A) → slice_get xs k ≡ Some x → slice_get (map f xs) k ≡ Some (f x)
 map_at f [] k x e = absurd cc
 map_at f (y ∷ xs) zero x e = let is : y ≡ x = cc in ap (λ (u : _). Some (f u)) is
 map_at f (y ∷ xs) (suc k) x e = map_at f xs k x e
@@ -192,15 +189,3 @@ module _ (q : Parts) (faultless : (f : Fault) → IsFault q f → ⊥) where
 
 pub says_consistent : (text : List ℕ) (p : ProblemData) → Says text p → IsConsistent p
 says_consistent text p s = subst IsConsistent s.is (parts_consistent (parts_of s.tree) s.faultless)
-
--- the canonical text of a problem that a text says spells it
-pub says_spelled : (text : List ℕ) (p : ProblemData) → Says text p → IsSpelled p
-says_spelled text p s =
-    let x = problem_again p (says_written text p s) in
-    record {
-      tokens = x.list;
-      tree = x.tree;
-      cut = x.tokens;
-      word = x.word;
-      same = sym (meaning_bare (parts_of x.tree)) ∙ ap meaning.problem_of (sym (parts_bare x.tree) ∙ ap parts_of x.same ∙ parts_canonical p) ∙ canonical_meaning p (says_consistent text p s);
-    }

@@ -28,3 +28,8 @@ pub mod SaysAgain
 pub mod BareParts
 pub mod CanonicalParts
 pub mod Consistent
+pub mod Said
+pub mod Listed
+pub mod SameZeros
+pub mod SameFaults
+pub mod CanonicalRight

@@ -1,11 +1,8 @@
 -- What lists are that have no fault.
-use Rattle.std.proofs.Common.{◌≡◌, ◌≢◌, ◌<◌, ◌≤◌, ◌+◌, ℕ, ℤ, pos, negsuc, ◌≤ℤ◌, ◌<ℤ◌, List, [], length, take, map, get_or, subst, sym, ◌∙◌, ap, arith, refl, inl, inr, min}
-use Rattle.std.specs.Prelude.{◌⊎◌, slice_get, slice_index_or, Some, All, AllPairs, Contains}
-use Rattle.std.specs.List.{position_or_len}
-use Rattle.std.specs.Str.{bytes_eq}
+use Rattle.std.proofs.Common.{◌≡◌, ◌<◌, ◌≤◌, ℕ, pos, List, [], length, take, map, get_or, subst, sym, ◌∙◌, arith, refl, inl, inr, min}
+use Rattle.std.specs.Prelude.{All}
 use Rattle.std.proofs.Math.Logic.{⊎_elim}
 use Rattle.std.proofs.lemmas.Bool.{cases_lt}
-use Rattle.std.proofs.lemmas.Int.{ints}
 use Rattle.std.proofs.lemmas.Option.{slice_get-get_or}
 use Rattle.std.proofs.lemmas.List.{length-take, get_or-map, length-map}
 use Rattle.geo_tokens.specs.declared.fault.FaultWord.TheVariants as words
@@ -15,9 +12,8 @@ use Rattle.problem_text.specs.declared.tree.Int.{Int}
 use Rattle.problem_text.specs.declared.tree.RangeText.{RangeText}
 use Rattle.problem_text.specs.Least.{fault}
 use Rattle.problem_text.specs.Limits.{IsSmall, IsSize}
-use Rattle.problem_text.specs.Faults.{Among, PastLimit, Miscounted, first_place, OffsetFault, SizeFault, OffsetsFault, SizesFault, UpsideDown, RangeFault, RangesFault, int_place, range_place}
-use Rattle.problem_text.specs.Problem.{RangeData, BoxData}
-use Rattle.problem_text.specs.Meaning.{number_of, range_of}
+use Rattle.problem_text.specs.Faults.{Among, PastLimit, Miscounted, first_place, OffsetFault, SizeFault, RangeFault, RangesFault, range_place}
+use Rattle.problem_text.specs.Meaning.{range_of}
 use Rattle.problem_text.specs.WellFormed.{IsRange}
 use Rattle.problem_text.proofs.Signs.{at_most, above, same_number}
 

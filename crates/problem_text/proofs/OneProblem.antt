@@ -1,11 +1,10 @@
 -- A text is accepted with one problem, which is well formed, and then it has no fault.
-use Rattle.std.proofs.Common.{◌≡◌, ℕ, ◌<◌, ◌≤◌, List, length, Err, sym, ap, ◌∙◌, subst, arith}
+use Rattle.std.proofs.Common.{◌≡◌, ℕ, ◌≤◌, List, length, Err, sym, ap, ◌∙◌, subst, arith}
 use Rattle.geo_tokens.specs.declared.token.Token.{Token}
 use Rattle.geo_tokens.specs.declared.fault.FaultWord.{FaultWord}
 use Rattle.geo_tokens.specs.declared.fault.TextFault.TheVariants as faults
 use Rattle.geo_tokens.specs.Deep.{Spells}
 use Rattle.geo_tokens.proofs.Cuts.{one_list, list_or_fault}
-use Rattle.problem_text.specs.declared.faults.fault.Fault.{Fault}
 use Rattle.problem_text.specs.Tree.{ProblemTree}
 use Rattle.problem_text.specs.View.{problem_view}
 use Rattle.problem_text.specs.Grammar.{ProblemWords}

@@ -1,7 +1,7 @@
 -- What statements without a fault spell is well formed.
-use Rattle.std.proofs.Common.{◌≡◌, ◌≢◌, ◌<◌, ◌≤◌, ◌+◌, ◌-◌, ℕ, ℤ, pos, negsuc, ◌≤ℤ◌, ◌<ℤ◌, Bool, true, false, not, List, [], ◌∷◌, length, take, map, get_or, subst, sym, ◌∙◌, ap, arith, refl, inl, inr, replicate, nat_eq, zero-add}
-use Rattle.std.specs.Prelude.{◌⊎◌, slice_get, slice_index_or, Some, All, AllPairs, Contains}
-use Rattle.std.specs.List.{position_or_len, range_with_len}
+use Rattle.std.proofs.Common.{◌≡◌, ◌≢◌, ◌<◌, ◌≤◌, ℕ, ℤ, pos, negsuc, ◌≤ℤ◌, ◌<ℤ◌, Bool, true, false, not, List, [], ◌∷◌, length, take, map, get_or, subst, sym, ◌∙◌, ap, arith, refl, inl, inr, nat_eq, zero-add}
+use Rattle.std.specs.Prelude.{◌⊎◌, All, AllPairs, Contains}
+use Rattle.std.specs.List.{range_with_len}
 use Rattle.std.specs.Str.{bytes_eq}
 use Rattle.std.proofs.Math.Logic.{⊎_elim}
 use Rattle.std.proofs.lemmas.Bool.{cases_lt, cases_order, false≢true}
@@ -17,11 +17,9 @@ use Rattle.std.proofs.lemmas.List.{get_or-take, get_or_default, length-take, get
 use Rattle.std.proofs.lemmas.List.FromFn.{get_or-range_with_len, length-range_with_len}
 use Rattle.geo_base.specs.declared.TheConstants.{MAX_DIMS}
 use Rattle.rule_syntax.specs.declared.tree.PlacedName.{PlacedName}
+use Rattle.geo_tokens.specs.Names.{AllDifferent}
 use Rattle.geo_tokens.specs.declared.fault.FaultWord.TheVariants as words
-use Rattle.problem_text.specs.declared.faults.fault.Fault.{Fault}
 use Rattle.problem_text.specs.declared.tree.Int.{Int}
-use Rattle.problem_text.specs.declared.tree.SideText.{SideText}
-use Rattle.problem_text.specs.declared.tree.Side.{Side}
 use Rattle.problem_text.specs.declared.tree.Side.TheVariants as sides
 use Rattle.problem_text.specs.Tree.{BoxTree, ShapeTree, ObjectTree, OrderTree, SidesTree, MacroTree, DemandTree, RuleTree}
 use Rattle.problem_text.specs.Tree as trees
@@ -29,12 +27,11 @@ use Rattle.problem_text.specs.Least.{fault}
 use Rattle.problem_text.specs.Parts.{Parts}
 use Rattle.problem_text.specs.Faults.{Among, PastLimit, Repeated, NotMade, Miscounted, OffsetsFault, OffsetFault, SizesFault, SizeFault, BoxFault, ShapeFault, ShapesFault, ObjectFault, ObjectsFault, OrderFault, IsComplete, SidesFault, DemandFault, RuleFault, RulesFault, DimsFault, IsDims, IsFault, shapes, objects, orders, rules, dims, count_of, text_of, shape_name, object_name, shape_names, object_names, int_place, side_place}
 use Rattle.problem_text.specs.Faults as faults
-use Rattle.problem_text.specs.Limits.{IsSmall, IsSize}
-use Rattle.problem_text.specs.Problem.{BoxData, ShapeData, RangeData, ObjectData, DemandData, RuleData, ProblemData}
-use Rattle.problem_text.specs.Meaning.{number_of, box_of, shape_of, range_of, object_of, demand_of, rule_of, position_of, order_of, side_of, sides_of, problem_of}
-use Rattle.problem_text.specs.WellFormed.{IsBox, IsRange, IsObject, IsDemand, IsWellFormed}
-use Rattle.problem_text.proofs.Signs.{at_most, above, same_number}
-use Rattle.problem_text.proofs.NoFault.{NoFault, none_among, within_limit, counted, small_number, size_number, all_mapped, ranges_fit}
+use Rattle.problem_text.specs.Problem.{ShapeData, RangeData, RuleData, ProblemData}
+use Rattle.problem_text.specs.Meaning.{number_of, box_of, shape_of, object_of, demand_of, rule_of, position_of, order_of, side_of, sides_of, problem_of}
+use Rattle.problem_text.specs.WellFormed.{IsBox, IsObject, IsDemand, IsWellFormed}
+use Rattle.problem_text.proofs.Signs.{at_most}
+use Rattle.problem_text.proofs.NoFault.{NoFault, none_among, within_limit, counted, size_number, all_mapped, ranges_fit}
 
 no_int : Int
 no_int = record { place = 0; value = pos 0 }
@@ -103,6 +100,40 @@ made_there names ns h = all_mapped (position_of names) (λ i. i < length names) 
     ⊎_elim (λ lt. lt) (λ le. absurd (none_among (λ before n f. (Contains names n.name → ⊥) × (f ≡ fault n.place words.Unknown)) ns h i no_name l (fault (get_or ns i no_name).place words.Unknown)
     ((λ c. let lt = position_there names (get_or ns i no_name) c in absurd (omega arith)), refl))) (cases_lt (position_of names (get_or ns i no_name)) (length names)))
 
+-- names that are repeated nowhere are different
+distinct_names : (ns : List PlacedName) → NoFault (Repeated ns) → (i j : ℕ) (d : PlacedName) → i < j → j < length ns → (get_or ns i d).name ≡ (get_or ns j d).name → ⊥
+distinct_names ns h i j d l m e =
+    none_among (λ before n f. Contains (map text_of before) n.name × (f ≡ fault n.place words.Twice)) ns h j d m (fault (get_or ns j d).place words.Twice) (
+      (
+        i,
+        (let k : length (map text_of (take j ns)) ≡ length (take j ns) = length-map (take j ns) text_of in let t = length-take j ns in omega (arith, k, t)),
+        (let short : i < length (take j ns) = (let t = length-take j ns in omega (arith, t)) in
+            get_or-map text_of (take j ns) i d (get_or ns j d).name short ∙ (ap text_of (get_or-take j ns i d l) ∙ e)),
+      ),
+      refl,
+    )
+
+-- the texts of such names are different
+pub texts_differ : (ns : List PlacedName) → NoFault (Repeated ns) → AllDifferent (map text_of ns)
+texts_differ ns h i j d l m e =
+    let n : length (map text_of ns) ≡ length ns = length-map ns text_of in
+    let m' : j < length ns = omega (arith, m, n) in
+    let l' : i < length ns = omega (arith, l, m') in
+    distinct_names ns h i j no_name l m' (sym (get_or-map text_of ns i no_name d l') ∙ (e ∙ get_or-map text_of ns j no_name d m'))
+
+-- and so are their positions, where each is there
+positions_differ : (names : List (List ℕ)) (ns : List PlacedName) → NoFault (Repeated ns) → NoFault (NotMade names ns) → AllDifferent (map (position_of names) ns)
+positions_differ names ns once made i j d l m e =
+    let n : length (map (position_of names) ns) ≡ length ns = length-map ns (position_of names) in
+    let m' : j < length ns = omega (arith, m, n) in
+    let l' : i < length ns = omega (arith, l, m') in
+    let a = get_or-map (position_of names) ns i no_name d l' in
+    let b = get_or-map (position_of names) ns j no_name d m' in
+    let there_i : position_of names (get_or ns i no_name) < length names = subst (λ x. x < length names) a (made_there names ns made i d (omega (arith, l', n))) in
+    let there_j : position_of names (get_or ns j no_name) < length names = subst (λ x. x < length names) b (made_there names ns made j d m) in
+    let same : position_of names (get_or ns i no_name) ≡ position_of names (get_or ns j no_name) = sym a ∙ (e ∙ b) in
+    distinct_names ns once i j no_name l m' (sym (position_reads names (get_or ns i no_name) [] there_i) ∙ (ap (λ k. get_or names k []) same ∙ position_reads names (get_or ns j no_name) [] there_j))
+
 -- ---- objects
 
 no_range : RangeData
@@ -117,6 +148,7 @@ object_fits p k made o e m some h =
       some = omega (arith, n);
       few = omega (arith, n, few);
       shapes = subst (λ (c : ℕ). All (λ i. i < c) (map (position_of made) o.shapes)) m (made_there made o.shapes (λ f w. h f (inr (inl w))));
+      once = positions_differ made o.shapes (λ f w. h f (inl (inr w))) (λ f w. h f (inr (inl w)));
       dimensions = ranges.0 ∙ e;
       ranges = ranges.1;
     }
@@ -156,19 +188,6 @@ module _ (objects : List (List ℕ)) (distinct : (i j : ℕ) (d : List ℕ) → 
       (λ before. absurd (distinct (position_of objects n) k [] before h (position_reads objects n [] l ∙ sym e)))
       (λ after. absurd (omega (arith, first, after)))) (cases_order (position_of objects n) k)
 
--- names that are repeated nowhere are different
-distinct_names : (ns : List PlacedName) → NoFault (Repeated ns) → (i j : ℕ) (d : PlacedName) → i < j → j < length ns → (get_or ns i d).name ≡ (get_or ns j d).name → ⊥
-distinct_names ns h i j d l m e =
-    none_among (λ before n f. Contains (map text_of before) n.name × (f ≡ fault n.place words.Twice)) ns h j d m (fault (get_or ns j d).place words.Twice) (
-      (
-        i,
-        (let k : length (map text_of (take j ns)) ≡ length (take j ns) = length-map (take j ns) text_of in let t = length-take j ns in omega (arith, k, t)),
-        (let short : i < length (take j ns) = (let t = length-take j ns in omega (arith, t)) in
-            get_or-map text_of (take j ns) i d (get_or ns j d).name short ∙ (ap text_of (get_or-take j ns i d l) ∙ e)),
-      ),
-      refl,
-    )
-
 -- a number is in a list, or it is not
 contains_or_not : (xs : List ℕ) (x : ℕ) → Contains xs x ⊎ (Contains xs x → ⊥)
 contains_or_not xs x = by_test (is_member nat_eq xs x) refl
@@ -202,17 +221,7 @@ module _ (objects : List (List ℕ)) (distinct : (i j : ℕ) (d : List ℕ) → 
   stated_order before o h = record {
     numbers = made;
     each = λ u l. ⊎_elim (λ c. c) (λ never. absurd (h (fault o.place words.Order) (inr (inr (inr ((λ complete. never (stands u l complete)), refl)))))) (contains_or_not (map (position_of objects) o.names) u);
-    once = λ i j d l m e.
-        let n : length (map (position_of objects) o.names) ≡ length o.names = length-map o.names (position_of objects) in
-        let m' : j < length o.names = omega (arith, m, n) in
-        let l' : i < length o.names = omega (arith, l, m') in
-        let a = get_or-map (position_of objects) o.names i no_name d l' in
-        let b = get_or-map (position_of objects) o.names j no_name d m' in
-        let there_i : position_of objects (get_or o.names i no_name) < length objects = subst (λ x. x < length objects) a (made i d (omega (arith, l', n))) in
-        let there_j : position_of objects (get_or o.names j no_name) < length objects = subst (λ x. x < length objects) b (made j d m) in
-        let same : position_of objects (get_or o.names i no_name) ≡ position_of objects (get_or o.names j no_name) = sym a ∙ (e ∙ b) in
-        distinct_names o.names (λ f w. h f (inr (inl w))) i j no_name l m'
-        (sym (position_reads objects (get_or o.names i no_name) [] there_i) ∙ (ap (λ k. get_or objects k []) same ∙ position_reads objects (get_or o.names j no_name) [] there_j));
+    once = positions_differ objects o.names (λ f w. h f (inr (inl w))) (λ f w. h f (inr (inr (inl w))));
   }
     where
       made : All (λ i. i < length objects) (map (position_of objects) o.names)
@@ -240,14 +249,7 @@ dims_fit v h = counted_dims v.value (at_most (pos 1) v.value (λ n. h (fault v.p
 
 order_fits : (objects : List ObjectTree) (os : List OrderTree) → NoFault (Repeated (map object_name objects)) → NoFault (Among (OrderFault (object_names objects)) os) → IsOrder (length (object_names objects)) (order_of (object_names objects) os)
 order_fits os [] named h = file_order (length (object_names os))
-order_fits os (o ∷ others) named h = stated_order (object_names os) distinct [] o (none_among (OrderFault (object_names os)) (o ∷ others) h 0 o (omega arith))
-  where
-    distinct : (i j : ℕ) (d : List ℕ) → i < j → j < length (object_names os) → get_or (object_names os) i d ≡ get_or (object_names os) j d → ⊥
-    distinct i j d l m e =
-        let n : length (map text_of (map object_name os)) ≡ length (map object_name os) = length-map (map object_name os) text_of in
-        let m' : j < length (map object_name os) = omega (arith, m, n) in
-        let l' : i < length (map object_name os) = omega (arith, l, m') in
-        distinct_names (map object_name os) named i j no_name l m' (sym (get_or-map text_of (map object_name os) i no_name d l') ∙ (e ∙ get_or-map text_of (map object_name os) j no_name d m'))
+order_fits os (o ∷ others) named h = stated_order (object_names os) (texts_differ (map object_name os) named) [] o (none_among (OrderFault (object_names os)) (o ∷ others) h 0 o (omega arith))
 
 sides_fit : (k : ℕ) (ss : List SidesTree) → NoFault (Among (SidesFault k) ss) → length (sides_of k ss) ≡ k
 sides_fit k [] h = length-replicate k sides.Low

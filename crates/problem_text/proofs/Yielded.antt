@@ -1,10 +1,10 @@
 -- What holds of each value that tokens spell: each object has a shape.
-use Rattle.std.proofs.Common.{◌≡◌, ◌<◌, ◌≤◌, ℕ, zero, suc, List, [], ◌∷◌, length, subst, sym, arith, refl}
-use Rattle.std.specs.Prelude.{Option, None, Some, All}
+use Rattle.std.proofs.Common.{◌≡◌, ◌<◌, ℕ, zero, suc, List, [], ◌∷◌, length, subst, arith}
+use Rattle.std.specs.Prelude.{Some, All}
 use Rattle.std.specs.List.{filter_map}
 use Rattle.std.proofs.lemmas.List.Elements.{All-cons, All-head, All-tail}
 use Rattle.geo_tokens.specs.declared.token.Token.{Token}
-use Rattle.geo_tokens.specs.Words.{Lang, Pure, Tok, Bind, cut, both, Either, left, right, Opt, there, not_there, UpTo, Many}
+use Rattle.geo_tokens.specs.Words.{Lang, Pure, Bind, cut, both, Either, left, right, there, not_there, UpTo, Many}
 use Rattle.rule_syntax.specs.declared.tree.PlacedName.{PlacedName}
 use Rattle.problem_text.specs.Tree.{ObjectTree, StatementTree, a_shape, an_object, an_order, some_sides, a_macro, a_rule, ProblemTree}
 use Rattle.rule_syntax.specs.Grammar.{Named}

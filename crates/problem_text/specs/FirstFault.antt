@@ -13,7 +13,7 @@ use Rattle.problem_text.specs.Tree.{ProblemTree}
 use Rattle.problem_text.specs.Grammar.{ProblemWords}
 use Rattle.problem_text.specs.WholeText.{IsWhole, FirstFault}
 use Rattle.problem_text.specs.Problem.{ProblemData}
-use Rattle.problem_text.specs.Parts.{parts_of}
+use Rattle.problem_text.specs.Parts.{Parts, parts_of}
 use Rattle.problem_text.specs.Least.{fault, IsFirst}
 use Rattle.problem_text.specs.Faults.{IsFault}
 use Rattle.problem_text.specs.Meaning.{problem_of}
@@ -35,6 +35,18 @@ pub record Accepts (text : List ℕ) (problem : ProblemData) : Type 0 where
   pub says : Says text tree
   pub right : (f : Fault) → IsFault (parts_of tree) f → ⊥
   pub means : problem ≡ problem_of (parts_of tree)
+
+-- some text says these statements
+pub record AreSaid (parts : Parts) : Type 0 where
+  pub text : List ℕ
+  pub tree : ProblemTree
+  pub says : Says text tree
+  pub are : parts_of tree ≡ parts
+
+-- some text says the problem
+pub record IsSaid (problem : ProblemData) : Type 0 where
+  pub text : List ℕ
+  pub accepts : Accepts text problem
 
 -- the first fault of the text is this word at this place
 pub data HasFirstFault (text : List ℕ) (place : ℕ) (word : FaultWord) : Type 0 where

@@ -1,6 +1,6 @@
 -- Which tuples are layouts of a problem.
-use Rattle.std.specs.Prelude.{◌≡◌, true, List, All}
-use Rattle.problem_text.specs.Problem.{RangeData, DemandData, apart, within, plain, RuleData, ProblemData}
+use Rattle.std.specs.Prelude.{◌≡◌, true, All}
+use Rattle.problem_text.specs.Problem.{DemandData, apart, within, plain, ProblemData}
 use Rattle.problem_text.specs.Tuple.{Tuple}
 use Rattle.problem_text.specs.Truth.{formula_holds}
 use Rattle.problem_text.specs.Cells.{IsApart, IsWithin, IsTuple}

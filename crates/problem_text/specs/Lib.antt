@@ -5,6 +5,7 @@ pub mod Grammar
 pub mod Reading
 pub mod WholeText
 pub mod Problem
+pub mod NameTable
 pub mod TreeCode
 pub mod ProblemCode
 pub mod ProblemView

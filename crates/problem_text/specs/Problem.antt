@@ -34,7 +34,9 @@ pub record ParamData : Type 0 where
   pub name : List ℕ
   pub kind : ParamKind
 
+-- a macro, with the place of its name in the text
 pub record MacroData : Type 0 where
+  pub place : ℕ
   pub name : List ℕ
   pub params : List ParamData
   pub body : BodyTree

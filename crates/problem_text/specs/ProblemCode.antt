@@ -61,9 +61,9 @@ body_again (equals e) = refl
 
 abbrev pub macro_code : Coded MacroData
 macro_code =
-    code_by (List ℕ × (List ParamData × BodyTree))
-    (coded× (coded_list coded_ℕ) (coded× (coded_list param_code) (code_by (FormulaTree ⊎ ExprTree) (coded⊎ formula_coded expr_coded) of_body body_of body_again)))
-    (λ m. (m.name, (m.params, m.body))) (λ p. record { name = p.0; params = p.1.0; body = p.1.1 }) (λ _. refl)
+    code_by (ℕ × (List ℕ × (List ParamData × BodyTree)))
+    (coded× coded_ℕ (coded× (coded_list coded_ℕ) (coded× (coded_list param_code) (code_by (FormulaTree ⊎ ExprTree) (coded⊎ formula_coded expr_coded) of_body body_of body_again))))
+    (λ m. (m.place, (m.name, (m.params, m.body)))) (λ p. record { place = p.0; name = p.1.0; params = p.1.1.0; body = p.1.1.1 }) (λ _. refl)
 
 abbrev of_demand : DemandData → ℕ ⊎ (List RangeData ⊎ FormulaTree)
 of_demand apart = inl 0

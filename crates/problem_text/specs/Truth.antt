@@ -1,15 +1,14 @@
 -- The truth of a formula on a tuple.
-use Rattle.std.specs.Prelude.{ℕ, zero, suc, ◌+◌, ◌-◌, ◌==◌, nat_le, ◌&&◌, ◌||◌, not, Bool, true, false, if◌then◌else◌, List, [], ◌∷◌, map, length, ℤ, pos, int_lt, slice_index_or}
-use Rattle.std.specs.Prelude.{Option, None, Some}
-use Rattle.std.specs.Option.{option_map_or, option_map}
+use Rattle.std.specs.Prelude.{ℕ, zero, suc, ◌==◌, nat_le, ◌&&◌, ◌||◌, not, Bool, true, false, if◌then◌else◌, List, [], ◌∷◌, map, length, ℤ, pos, int_lt, slice_index_or}
+use Rattle.std.specs.Option.{option_map_or}
 use Rattle.std.specs.List.{list_all, list_any, count_by, filter_map, range_with_len}
 use Rattle.rule_syntax.specs.declared.tree.PlacedName.{PlacedName}
 use Rattle.rule_syntax.specs.declared.tree.Rel.{Rel}
 use Rattle.rule_syntax.specs.declared.tree.Rel.TheVariants.{Lt, Le, Eq, Ne, Ge, Gt}
 use Rattle.rule_syntax.specs.declared.tree.QuantKind.{QuantKind}
 use Rattle.rule_syntax.specs.declared.tree.QuantKind.TheVariants.{ForAll, Exists, AtLeast, AtMost}
-use Rattle.rule_syntax.specs.Tree.{ExprTree, ArgumentTrees, CollTree, all_objects, listed, boxes_of, FormulaTree, truth, falsehood, negation, all_of, any_of, implication, equivalence, comparison, quantified, formula_call, FormulaTrees, no_formulas, a_formula}
-use Rattle.problem_text.specs.Problem.{BoxData, ParamData, MacroData, ProblemData}
+use Rattle.rule_syntax.specs.Tree.{CollTree, all_objects, listed, boxes_of, FormulaTree, truth, falsehood, negation, all_of, any_of, implication, equivalence, comparison, quantified, formula_call, FormulaTrees, no_formulas, a_formula}
+use Rattle.problem_text.specs.Problem.{ParamData, MacroData, ProblemData}
 use Rattle.problem_text.specs.Tree.{BodyTree, means, equals}
 use Rattle.problem_text.specs.Tuple.{Tuple, boxes_in}
 use Rattle.problem_text.specs.Value.{Thing, Number, Object, Part, Env, bind, look, object_position, macro_position, Calls, things, value}
@@ -83,7 +82,7 @@ body_truth c p t (means f) env = holds c p t f env
 body_truth c p t (equals e) env = false
 
 abbrev pub macro_of : ProblemData → ℕ → MacroData
-macro_of p k = slice_index_or p.macros k (record { name = []; params = []; body = means (falsehood 0) })
+macro_of p k = slice_index_or p.macros k (record { place = 0; name = []; params = []; body = means (falsehood 0) })
 
 -- what the first n macros mean: the body of each one sees its parameters and the objects' names, and calls the macros before it
 abbrev pub calls_of : ProblemData → Tuple → ℕ → Calls

@@ -1,9 +1,9 @@
 -- A tuple: it gives each object a shape and an origin.
-use Rattle.std.specs.Prelude.{ℕ, ◌+◌, ◌-◌, ◌==◌, if◌then◌else◌, List, [], map, ℤ, pos, slice_get, slice_index_or}
-use Rattle.std.specs.Prelude.{Option, None, Some}
+use Rattle.std.specs.Prelude.{ℕ, ◌+◌, ◌-◌, ◌==◌, if◌then◌else◌, List, [], ℤ, pos, slice_get, slice_index_or}
+use Rattle.std.specs.Prelude.{Option, None}
 use Rattle.std.specs.Option.{option_map_or}
 pub use Rattle.geo_base.specs.Tuple.{Spot, Tuple, spot}
-use Rattle.problem_text.specs.Problem.{BoxData, ShapeData, ObjectData, ProblemData}
+use Rattle.problem_text.specs.Problem.{BoxData, ObjectData, ProblemData}
 
 -- the spot of an object, in file order
 abbrev pub spot_of : Tuple → ℕ → Spot

@@ -1,13 +1,12 @@
 -- The value of an expression on a tuple. A macro is a function of the values of its arguments.
-use Rattle.std.specs.Prelude.{ℕ, zero, suc, ◌+◌, ◌-◌, ◌==◌, nat_le, ◌&&◌, Bool, true, false, if◌then◌else◌, List, [], ◌∷◌, map, ℤ, pos, ◌+ℤ◌, ◌-ℤ◌, ◌*ℤ◌, neg_ℤ, int_lt, slice_index_or, codes}
+use Rattle.std.specs.Prelude.{ℕ, ◌+◌, ◌-◌, ◌==◌, nat_le, ◌&&◌, Bool, if◌then◌else◌, List, [], ◌∷◌, ℤ, pos, ◌+ℤ◌, ◌*ℤ◌, neg_ℤ, slice_index_or, codes}
 use Rattle.std.specs.Prelude.{Option, None, Some}
 use Rattle.std.specs.Option.{option_map_or}
 use Rattle.std.specs.List.{position}
 use Rattle.std.specs.Int.{int_min, int_max, int_div_euclid, int_rem_euclid}
 use Rattle.std.specs.Str.{bytes_eq}
-use Rattle.rule_syntax.specs.declared.tree.PlacedName.{PlacedName}
 use Rattle.rule_syntax.specs.Tree.{ExprTree, number, field, param, shape_number, negative, sum, product, least, greatest, value_call, SumTree, plus, minus, SumTrees, no_sums, a_sum, ProductTree, times, over, modulo, ProductTrees, no_products, a_product, ArgumentTree, argument, ArgumentTrees, no_arguments, an_argument}
-use Rattle.problem_text.specs.Problem.{BoxData, AttributeData, ObjectData, ShapeData, MacroData, ProblemData}
+use Rattle.problem_text.specs.Problem.{BoxData, AttributeData, ProblemData}
 use Rattle.problem_text.specs.Tuple.{Tuple, spot_of, object_of, shape_number_in}
 
 -- what a name may stand for

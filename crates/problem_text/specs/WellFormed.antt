@@ -1,7 +1,7 @@
 -- What holds of the data of every problem that a text says.
-use Rattle.std.specs.Prelude.{◌≡◌, ◌≢◌, ◌<◌, ◌≤◌, ◌≤ℤ◌, ◌<ℤ◌, ℕ, ℤ, List, length, pos, negsuc, All, AllPairs, Contains}
+use Rattle.std.specs.Prelude.{◌≡◌, ◌≢◌, ◌<◌, ◌≤◌, ◌≤ℤ◌, ◌<ℤ◌, ℕ, length, pos, negsuc, All, AllPairs, Contains}
 use Rattle.geo_base.specs.declared.TheConstants.{MAX_DIMS}
-use Rattle.problem_text.specs.Problem.{BoxData, ShapeData, RangeData, ObjectData, DemandData, apart, within, plain, RuleData, ProblemData}
+use Rattle.problem_text.specs.Problem.{BoxData, RangeData, ObjectData, DemandData, apart, within, plain, ProblemData}
 
 -- an offset and a size from 1 on for each dimension
 pub record IsBox (k : ℕ) (b : BoxData) : Type 0 where
@@ -15,11 +15,12 @@ pub record IsRange (r : RangeData) : Type 0 where
   pub filled : r.low ≤ℤ r.high
   pub high : r.high ≤ℤ pos 1000000
 
--- at least one shape that is there, and a range for each dimension
+-- 1 to 16 different shapes that are there, and a range for each dimension
 pub record IsObject (p : ProblemData) (o : ObjectData) : Type 0 where
   pub some : 0 < length o.shapes
   pub few : length o.shapes ≤ 16
   pub shapes : All (λ n. n < length p.shapes) o.shapes
+  pub once : AllPairs (λ m n. m ≢ n) o.shapes
   pub dimensions : length o.ranges ≡ p.dims
   pub ranges : All IsRange o.ranges
 

@@ -6,6 +6,7 @@ ghost use Rattle.problem_text.specs.Seen.{met};
 ghost use Rattle.problem_text.specs.declared.faults.fault.Fault.{Fault};
 ghost use Rattle.problem_text.specs.Parts.{parts_view};
 ghost use Rattle.problem_text.specs.Faults.{IsFault, shape_names, object_names};
+ghost use Rattle.problem_text.specs.FirstFault.{AreSaid};
 ghost use Rattle.problem_text.specs.Meaning.{object_of, order_of, problem_of};
 
 mod objects;
@@ -52,9 +53,10 @@ fn objects_among(
     build_objects(alloc, &names, objects)
 }
 
-/// The problem that the statements spell.
+/// The problem that the statements of a text spell.
 pub fn build(alloc: Global, said: Parts) -> Result<Problem, AllocError>
-    requires { (f : Fault) → IsFault (parts_view said) f → ⊥ }
+    requires said { AreSaid (parts_view said) }
+    requires right { (f : Fault) → IsFault (parts_view said) f → ⊥ }
     ensures { IfOk result (λ p. p ≡ problem_of (parts_view said)) }
 {
     let Parts {

@@ -6,6 +6,9 @@
 
 pub mod build;
 pub mod faults;
+pub mod names;
+#[cfg(test)]
+mod names_tests;
 pub mod numbers;
 pub mod objects;
 pub mod order;

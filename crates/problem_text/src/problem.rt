@@ -3,6 +3,7 @@
 ghost use Rattle.std.specs.Prelude.{◌≡◌, map};
 ghost use Rattle.problem_text.specs.View.{body_view};
 ghost use Rattle.problem_text.specs.ProblemView.{range_data, attribute_data, param_data, demand_data};
+ghost use Rattle.problem_text.specs.FirstFault.{IsSaid};
 
 use crate::tree::{MacroBody, ParamKind, Side};
 use geo_tokens::name::Name;
@@ -179,9 +180,10 @@ pub struct ParamDef {
     pub kind: ParamKind,
 }
 
-/// A macro.
+/// A macro, with the place of its name in the text.
 #[derive(Debug, Drop)]
 pub struct MacroDef {
+    place: u64,
     name: Name,
     params: Vec<ParamDef>,
     body: MacroBody,
@@ -198,15 +200,27 @@ impl Model for MacroDef {
 
     ghost coded = { macro_code };
 
-    ghost view = { λ m. record { name = m.name; params = map param_data m.params.items; body = body_view m.body } };
+    ghost view = { λ m. record { place = m.place; name = m.name; params = map param_data m.params.items; body = body_view m.body } };
 }
 
 impl MacroDef {
     /// A macro.
-    pub fn new(name: Name, params: Vec<ParamDef>, body: MacroBody) -> MacroDef
-        ensures { result ≡ record { name = name; params = map param_data params.items; body = body_view body } }
+    pub fn new(place: u64, name: Name, params: Vec<ParamDef>, body: MacroBody) -> MacroDef
+        ensures { result ≡ record { place = place; name = name; params = map param_data params.items; body = body_view body } }
     {
-        MacroDef { name, params, body }
+        MacroDef {
+            place,
+            name,
+            params,
+            body,
+        }
+    }
+
+    /// How many bytes of the text stand before its name.
+    pub fn place(&self) -> u64
+        ensures { result ≡ self.now.place }
+    {
+        self.place
     }
 
     /// The macro's name.
@@ -296,7 +310,7 @@ impl RuleDef {
     }
 }
 
-/// A problem.
+/// A problem. Some text says it.
 #[derive(Debug, Drop)]
 pub struct Problem {
     dims: usize,
@@ -316,7 +330,11 @@ impl Model for Problem {
 
     ghost coded = { problem_code };
 
+    ghost use Rattle.problem_text.specs.FirstFault.{IsSaid};
+
     ghost view = { λ p. record { dims = p.dims; shapes = p.shapes.items; objects = p.objects.items; macros = p.macros.items; rules = p.rules.items; order = p.order.items; sides = p.sides.items } };
+
+    ghost invariant = { λ p. IsSaid (record { dims = p.dims; shapes = p.shapes.items; objects = p.objects.items; macros = p.macros.items; rules = p.rules.items; order = p.order.items; sides = p.sides.items }) };
 }
 
 impl Problem {
@@ -329,6 +347,7 @@ impl Problem {
         order: Vec<u16>,
         sides: Vec<Side>,
     ) -> Problem
+        requires { IsSaid (record { dims = dims; shapes = shapes.items; objects = objects.items; macros = macros.items; rules = rules.items; order = order.items; sides = sides.items }) }
         ensures { result ≡ record { dims = dims; shapes = shapes.items; objects = objects.items; macros = macros.items; rules = rules.items; order = order.items; sides = sides.items } }
     {
         Problem {
@@ -340,6 +359,13 @@ impl Problem {
             order,
             sides,
         }
+    }
+
+    /// What holds of every problem: some text says it. It does nothing.
+    pub fn is_said(&self)
+        ensures { IsSaid self.now }
+    {
+        let _ = &self.dims;
     }
 
     /// The number of dimensions.

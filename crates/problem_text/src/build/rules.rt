@@ -35,8 +35,8 @@ fn build_macro(alloc: Global, said: MacroText) -> Result<MacroDef, AllocError>
 {
     let MacroText { name, params, body } = said;
     let params = build_params(alloc, params)?;
-    let PlacedName { place: _, name } = name;
-    Ok(MacroDef::new(name, params, body))
+    let PlacedName { place, name } = name;
+    Ok(MacroDef::new(place, name, params, body))
 }
 
 /// The macros.

@@ -1,8 +1,7 @@
 use Rattle.std.proofs.Common.{◌≡◌, ◌∙◌}
 use Rattle.problem_text.specs.Canonical.{problem_text}
 use Rattle.problem_text.proofs.PrintingSink.{written_as}
-use Rattle.problem_text.proofs.SaysAgain.{says_of}
-use Rattle.problem_text.proofs.Consistent.{says_spelled}
+use Rattle.problem_text.proofs.CanonicalRight.{said_spelled, said_again}
 use Rattle.problem_text.proofs.print.print_problem.Goals as goal
 
 pub returns-clause-bytes : goal.returns-clause-bytes
@@ -11,7 +10,13 @@ returns-clause-bytes g c =
     written_as _ _ c.write_all_bytes.result c.as_slice.result.now (problem_text c.args.problem.now) e c.write_all_bytes.ensures.bytes
 
 pub returns-clause-spelled : goal.returns-clause-spelled
-returns-clause-spelled g c text s = says_spelled text c.args.problem.now (says_of text c.args.problem.now s)
+returns-clause-spelled g c = said_spelled c.args.problem.now c.is_said.ensures
+
+pub returns-clause-read_back : goal.returns-clause-read_back
+returns-clause-read_back g c short = said_again c.args.problem.now c.is_said.ensures short
 
 pub returns-in_err-text-clause-spelled : goal.returns-in_err-text-clause-spelled
-returns-in_err-text-clause-spelled g c text s = says_spelled text c.args.problem.now (says_of text c.args.problem.now s)
+returns-in_err-text-clause-spelled g c = said_spelled c.args.problem.now c.is_said.ensures
+
+pub returns-in_err-text-clause-read_back : goal.returns-in_err-text-clause-read_back
+returns-in_err-text-clause-read_back g c short = said_again c.args.problem.now c.is_said.ensures short

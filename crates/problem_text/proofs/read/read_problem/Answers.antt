@@ -17,9 +17,6 @@ passed : (text : List ℕ) (r : Result Problem TextFault) (e : TextFault) → Is
 passed text (Ok p) e h a = absurd h
 passed text (Err f) e h a = subst (λ (x : TextFault). Answer (Err x) text) (sym h) a
 
-pub build-requires : goal.build-requires
-build-requires c = subst (λ o. IsLeast (IsFault (parts_view c.in_ok-parts.parts)) o) c.in-None.is c.in_ok-fault.ensures
-
 pub returns-in_err-list-clause-only : goal.returns-in_err-list-clause-only
 returns-in_err-list-clause-only c = (passed c.args.text.now c.from_residual.result c.in_err-list.field-0.0 c.from_residual.ensures.1 (not_cut c.args.text.now c.if-text-gt-MOST_BYTES.false c.in_err-list.field-0.0 c.in_err-list.ensures.value c.in_err-list.ensures.only)).only
 
@@ -30,6 +27,22 @@ module _ (text : List ℕ) (short : length text ≤ 1048576) (list list1 : List 
 
   one_of : ((us : List Token) → IsTokens text us → us ≡ list) → (us : List Token) → IsTokens text us → us ≡ list1
   one_of only us h = only us h ∙ sym same
+
+pub build-requires : goal.build-requires
+build-requires c = record {
+  said = record {
+    text = c.args.text.now;
+    tree = problem_view c.in_ok-said.said;
+    says = record {
+      short = c.if-text-gt-MOST_BYTES.false;
+      list = c.as_slice.result.now;
+      tokens = stands c.args.text.now c.if-text-gt-MOST_BYTES.false c.in_ok-list.list.items c.as_slice.result.now c.as_slice.ensures.value c.in_ok-list.ensures.value;
+      spells = c.in_ok-said.ensures.answer;
+    };
+    are = sym c.in_ok-parts.ensures;
+  };
+  right = subst (λ o. IsLeast (IsFault (parts_view c.in_ok-parts.parts)) o) c.in-None.is c.in_ok-fault.ensures;
+}
 
 pub returns-in_err-said-clause-answer : goal.returns-in_err-said-clause-answer
 returns-in_err-said-clause-answer c =

@@ -1,0 +1,235 @@
+-- The canonical text of a problem that a text says has no fault, and so it says the same problem, places aside.
+use Rattle.std.proofs.Common.{◌≡◌, ℕ, zero, suc, ◌≤◌, ℤ, pos, negsuc, ◌≤ℤ◌, List, [], ◌∷◌, length, take, map, Some, Bool, true, false, inl, inr, refl, sym, ap, ◌∙◌, subst, arith}
+use Rattle.std.specs.Prelude.{slice_get, not}
+use Rattle.std.specs.List.{list_any}
+use Rattle.std.proofs.lemmas.Int.{ints}
+use Rattle.std.proofs.lemmas.List.{length-map}
+use Rattle.geo_tokens.specs.declared.token.Token.{Token}
+use Rattle.geo_tokens.specs.declared.fault.FaultWord.TheVariants as words
+use Rattle.geo_tokens.proofs.Good.{reads_all}
+use Rattle.rule_syntax.specs.declared.tree.PlacedName.{PlacedName}
+use Rattle.rule_syntax.specs.Spelled.{bare_name}
+use Rattle.rule_syntax.proofs.Respelled.{AllOf}
+use Rattle.problem_text.specs.declared.faults.fault.Fault.{Fault}
+use Rattle.problem_text.specs.Tree.{BoxTree, ShapeTree, ObjectTree, OrderTree, SidesTree, MacroTree, DemandTree, apart, within, plain, RuleTree, ProblemTree}
+use Rattle.problem_text.specs.Grammar.{ProblemWords}
+use Rattle.problem_text.specs.Reading.{problem_at}
+use Rattle.problem_text.specs.WholeText.{IsWhole}
+use Rattle.problem_text.specs.Least.{fault}
+use Rattle.problem_text.specs.Parts.{Parts, parts_of}
+use Rattle.problem_text.specs.Faults.{Among, OrderFault, SidesFault, IsDims, IsFault, version, dims, shapes, objects, orders, sides, macros, rules, ShapesFault, ObjectsFault, RulesFault, shape_name, object_name, shape_names, object_names, count_of}
+use Rattle.problem_text.specs.Meaning as meaning
+use Rattle.problem_text.specs.Problem.{ProblemData}
+use Rattle.problem_text.specs.Canonical.{name_at, counts_from, is_high, problem_text}
+use Rattle.problem_text.specs.FirstFault.{most_bytes, IsSaid}
+use Rattle.problem_text.specs.ReadBack.{IsSpelled, ReadsBack}
+use Rattle.problem_text.specs.WellFormed.{IsWellFormed}
+use Rattle.problem_text.proofs.Right.{problem_good}
+use Rattle.problem_text.proofs.Levels.{problem_reading}
+use Rattle.problem_text.proofs.WholeText.{is_whole}
+use Rattle.problem_text.proofs.OneProblem.{accepted_well_formed}
+use Rattle.problem_text.proofs.PrintingParts.{bare_int, bare_range, bare_box, bare_attribute, bare_param, bare_demand, int_of, name_of, range_of, box_of, attribute_of, param_of, demand_of, bare_side, side_of}
+use Rattle.problem_text.proofs.BareParts.{bare_shape, bare_object, bare_order, bare_sides, bare_macro_tree, bare_rule_tree, bare_parts, parts_bare, meaning_bare, map_after}
+use Rattle.problem_text.proofs.CanonicalParts.{shape_tree_of, object_tree_of, order_tree_of, sides_tree_of, macro_tree_of, rule_tree_of, one_if, canonical_parts, parts_canonical, canonical_meaning}
+use Rattle.problem_text.proofs.PrintingProblem.{problem_again}
+use Rattle.problem_text.proofs.Positions.{Made, range_counts}
+use Rattle.problem_text.proofs.SaysAgain.{Says, says_of, says_written, object_shapes_made, order_made, shape_names_of, object_names_of}
+use Rattle.problem_text.proofs.Consistent.{says_consistent}
+use Rattle.problem_text.proofs.Signs.{at_most}
+use Rattle.problem_text.proofs.SameFaults.{texts_alike, names_alike, shapes_carried, objects_carried, orders_carried, macros_carried, rules_carried}
+
+-- ---- the canonical statements of the problem that statements spell are those statements without places
+
+box_again : (b : BoxTree) → box_of (meaning.box_of b) ≡ bare_box b
+box_again b = λ i. record { place = 0; offsets = map_after int_of meaning.number_of bare_int (λ v. refl) b.offsets i; sizes = map_after int_of meaning.number_of bare_int (λ v. refl) b.sizes i }
+
+shape_again : (s : ShapeTree) → shape_tree_of (meaning.shape_of s) ≡ bare_shape s
+shape_again s = λ i. record { name = bare_name s.name; boxes = map_after box_of meaning.box_of bare_box box_again s.boxes i }
+
+names_again : (names : List (List ℕ)) (ns : List PlacedName) → AllOf (Made names) ns → map (λ i. name_of (name_at names i)) (map (meaning.position_of names) ns) ≡ map bare_name ns
+names_again names [] h = refl
+names_again names (n ∷ ns) h = λ i. name_of (h.0.is i) ∷ names_again names ns h.1 i
+
+object_again : (names : List (List ℕ)) (o : ObjectTree) → AllOf (Made names) o.shapes → object_tree_of names (meaning.object_of names o) ≡ bare_object o
+object_again names o h = λ i. record {
+  name = bare_name o.name;
+  shapes = names_again names o.shapes h i;
+  ranges = map_after range_of meaning.range_of bare_range (λ r. refl) o.ranges i;
+  attributes = map_after attribute_of meaning.attribute_of bare_attribute (λ a. refl) o.attributes i;
+}
+
+objects_again : (names : List (List ℕ)) (os : List ObjectTree) → AllOf (λ (o : ObjectTree). AllOf (Made names) o.shapes) os → map (object_tree_of names) (map (meaning.object_of names) os) ≡ map bare_object os
+objects_again names [] h = refl
+objects_again names (o ∷ os) h = λ i. object_again names o h.0 i ∷ objects_again names os h.1 i
+
+order_again : (names : List (List ℕ)) (o : OrderTree) → AllOf (Made names) o.names → order_tree_of names (map (meaning.position_of names) o.names) ≡ bare_order o
+order_again names o h = λ i. record { place = 0; names = names_again names o.names h i }
+
+macro_again : (m : MacroTree) → macro_tree_of (meaning.macro_of m) ≡ bare_macro_tree m
+macro_again m = λ i. record { name = bare_name m.name; params = map_after param_of meaning.param_of bare_param (λ q. refl) m.params i; body = (bare_macro_tree m).body }
+
+demand_again : (d : DemandTree) → demand_of (meaning.demand_of d) ≡ bare_demand d
+demand_again apart = refl
+demand_again (within rs) = ap within (map_after range_of meaning.range_of bare_range (λ r. refl) rs)
+demand_again (plain f) = refl
+
+rule_again : (r : RuleTree) → rule_tree_of (meaning.rule_of r) ≡ bare_rule_tree r
+rule_again r = λ i. record { name = bare_name r.name; demand = demand_again r.demand i }
+
+-- ---- lists with one item or none
+
+none_left : {A B : Type 0} (f : A → B) (xs : List A) → map f xs ≡ [] → xs ≡ []
+none_left f [] e = refl
+none_left f (x ∷ xs) e = absurd cc
+
+no_fault_in_none : {A : Type 0} (R : List A → A → Fault → Type 0) (xs : List A) (f : Fault) → xs ≡ [] → Among R xs f → ⊥
+no_fault_in_none {A} R [] f e h = (let no_item : slice_get [] h.index ≡ Some h.item = h.there in absurd cc)
+no_fault_in_none R (x ∷ xs) f e h = absurd cc
+
+-- the only item of a list has nothing before it
+alone : {A B : Type 0} (g : A → B) (b : B) (xs : List A) (i : ℕ) (x : A) → map g xs ≡ b ∷ [] → slice_get xs i ≡ Some x → (take i xs ≡ []) × (g x ≡ b)
+alone g b [] i x e h = absurd cc
+alone g b (y ∷ ys) zero x e h = (refl, (let is : y ≡ x = cc in let top : g y ≡ b = cc in ap g (sym is) ∙ top))
+alone g b (y ∷ ys) (suc i) x e h = (let rest : map g ys ≡ [] = cc in let none : ys ≡ [] = none_left g ys rest in let there : slice_get ys i ≡ Some x = h in absurd (no_item ys i x none there))
+  where
+    no_item : {A : Type 0} (zs : List A) (j : ℕ) (z : A) → zs ≡ [] → slice_get zs j ≡ Some z → ⊥
+    no_item [] j z e h = absurd cc
+    no_item (w ∷ zs) j z e h = absurd cc
+
+not_true : (b : Bool) → not b ≡ true → b ≡ false
+not_true true e = absurd cc
+not_true false e = refl
+
+-- a number that is at least 1
+counted : (v : ℤ) → pos 1 ≤ℤ v → pos (count_of v) ≡ v
+counted (pos n) h = refl
+counted (negsuc n) h = absurd (omega (arith, ints))
+
+-- ---- statements that are the canonical ones of a problem that faultless statements spell
+
+module _ (o : Parts) (faultless : (f : Fault) → IsFault o f → ⊥) (well : IsWellFormed (meaning.problem_of o)) (q : Parts) (same : bare_parts q ≡ canonical_parts (meaning.problem_of o)) where
+  abbrev p : ProblemData
+  p = meaning.problem_of o
+
+  abbrev k : ℕ
+  k = count_of o.dims.value
+
+  shapes_like : map bare_shape q.shapes ≡ map bare_shape o.shapes
+  shapes_like = ap (λ (u : Parts). u.shapes) same ∙ map_after shape_tree_of meaning.shape_of bare_shape shape_again o.shapes
+
+  objects_like : map bare_object q.objects ≡ map bare_object o.objects
+  objects_like =
+      ap (λ (u : Parts). u.objects) same ∙ ap (λ (names : List (List ℕ)). map (object_tree_of names) p.objects) (shape_names_of o)
+      ∙ objects_again (shape_names o.shapes) o.objects (object_shapes_made o faultless)
+
+  macros_like : map bare_macro_tree q.macros ≡ map bare_macro_tree o.macros
+  macros_like = ap (λ (u : Parts). u.macros) same ∙ map_after macro_tree_of meaning.macro_of bare_macro_tree macro_again o.macros
+
+  rules_like : map bare_rule_tree q.rules ≡ map bare_rule_tree o.rules
+  rules_like = ap (λ (u : Parts). u.rules) same ∙ map_after rule_tree_of meaning.rule_of bare_rule_tree rule_again o.rules
+
+  -- the number of dimensions
+  stated : IsDims o.dims.value
+  stated = (positive, few)
+    where
+      positive : pos 1 ≤ℤ o.dims.value
+      positive = at_most (pos 1) o.dims.value (λ n. faultless (fault o.dims.place words.Limit) (dims ((λ d. n d.0), refl)))
+
+      few : o.dims.value ≤ℤ pos 4
+      few = at_most o.dims.value (pos 4) (λ n. faultless (fault o.dims.place words.Limit) (dims ((λ d. n d.1), refl)))
+
+  dims_like : q.dims.value ≡ o.dims.value
+  dims_like = ap (λ (u : Parts). u.dims.value) same ∙ counted o.dims.value stated.0
+
+  k_like : count_of q.dims.value ≡ k
+  k_like = ap count_of dims_like
+
+  shape_names_like : shape_names q.shapes ≡ shape_names o.shapes
+  shape_names_like = texts_alike (map shape_name q.shapes) (map shape_name o.shapes) (names_alike bare_shape shape_name (λ s. refl) q.shapes o.shapes shapes_like)
+
+  object_names_like : object_names q.objects ≡ object_names o.objects
+  object_names_like = texts_alike (map object_name q.objects) (map object_name o.objects) (names_alike bare_object object_name (λ s. refl) q.objects o.objects objects_like)
+
+  -- ---- the order
+
+  abbrev names : List (List ℕ)
+  names = object_names o.objects
+
+  stated_order : (b : Bool) (os : List OrderTree) → os ≡ o.orders → not (counts_from 0 (meaning.order_of names os)) ≡ b → map bare_order q.orders ≡ one_if b (order_tree_of names (meaning.order_of names os)) → (f : Fault) → Among (OrderFault names) q.orders f → ⊥
+  stated_order false os e c like f h = no_fault_in_none (OrderFault names) q.orders f (none_left bare_order q.orders like) h
+  stated_order true [] e c like f h = (let counts : counts_from 0 (meaning.order_of names []) ≡ true = range_counts 0 (length names) in let no : counts_from 0 (meaning.order_of names []) ≡ false = not_true (counts_from 0 (meaning.order_of names [])) c in let z : true ≡ false = sym counts ∙ no in absurd cc)
+  stated_order true (x ∷ []) e c like f h =
+      let is : map bare_order q.orders ≡ map bare_order (x ∷ []) = like ∙ ap (λ (t : OrderTree). t ∷ []) (order_again names x (order_made o faultless x [] (sym e))) in
+      let r = orders_carried names q.orders (x ∷ []) is f h in
+      faultless r.0 (orders (subst (λ (us : List OrderTree). Among (OrderFault names) us r.0) e r.1))
+  stated_order true (x ∷ y ∷ os) e c like f h =
+      faultless (fault y.place words.Twice) (orders (subst (λ (us : List OrderTree). Among (OrderFault names) us (fault y.place words.Twice)) e (record { index = 1; item = y; there = refl; wrong = inl ((let one : 1 ≤ length (x ∷ []) = omega arith in one), refl) })))
+
+  order_right : (f : Fault) → Among (OrderFault names) q.orders f → ⊥
+  order_right = stated_order (not (counts_from 0 (meaning.order_of names o.orders))) o.orders refl refl
+      (ap (λ (u : Parts). u.orders) same ∙ ap (λ (ns : List (List ℕ)). one_if (not (counts_from 0 p.order)) (order_tree_of ns p.order)) (object_names_of o))
+
+  -- ---- the sides
+
+  stated_sides : (b : Bool) → map bare_sides q.sides ≡ one_if b (sides_tree_of p.sides) → (f : Fault) → Among (SidesFault k) q.sides f → ⊥
+  stated_sides false like f h = no_fault_in_none (SidesFault k) q.sides f (none_left bare_sides q.sides like) h
+  stated_sides true like f h = wrong_side h.wrong
+    where
+      only : (take h.index q.sides ≡ []) × (bare_sides h.item ≡ sides_tree_of p.sides)
+      only = alone bare_sides (sides_tree_of p.sides) q.sides h.index h.item like h.there
+
+      long : length h.item.sides ≡ k
+      long = sym (length-map h.item.sides bare_side) ∙ ap (λ (s : SidesTree). length s.sides) only.1 ∙ length-map p.sides side_of ∙ well.sides
+
+      wrong_side : SidesFault k (take h.index q.sides) h.item f → ⊥
+      wrong_side (inl w) = (let none : length (take h.index q.sides) ≡ 0 = ap (λ (us : List SidesTree). length us) only.0 in let some : 1 ≤ length (take h.index q.sides) = w.0 in absurd (omega arith))
+      wrong_side (inr w) = w.0 long
+
+  -- ---- all
+
+  pub right_again : (f : Fault) → IsFault q f → ⊥
+  right_again f (version w) = w.0 (ap (λ (u : Parts). u.version.value) same)
+  right_again f (dims w) = w.0 (subst IsDims (sym dims_like) stated)
+  right_again f (shapes w) =
+      let r = shapes_carried k q.shapes o.shapes shapes_like f (subst (λ (n : ℕ). ShapesFault n q.shapes f) k_like w) in faultless r.0 (shapes r.1)
+  right_again f (objects w) =
+      let r = objects_carried k (shape_names o.shapes) q.objects o.objects objects_like f (subst (λ (ns : List (List ℕ)). ObjectsFault k ns q.objects f) shape_names_like (subst (λ (n : ℕ). ObjectsFault n (shape_names q.shapes) q.objects f) k_like w)) in
+      faultless r.0 (objects r.1)
+  right_again f (orders w) = order_right f (subst (λ (ns : List (List ℕ)). Among (OrderFault ns) q.orders f) object_names_like w)
+  right_again f (sides w) = stated_sides (list_any is_high p.sides) (ap (λ (u : Parts). u.sides) same) f (subst (λ (n : ℕ). Among (SidesFault n) q.sides f) k_like w)
+  right_again f (macros w) = let r = macros_carried q.macros o.macros macros_like f w in faultless r.0 (macros r.1)
+  right_again f (rules w) =
+      let r = rules_carried k q.rules o.rules rules_like f (subst (λ (n : ℕ). RulesFault n q.rules f) k_like w) in faultless r.0 (rules r.1)
+
+-- ---- the canonical text
+
+-- tokens that spell statements spell them and nothing else, whatever levels they open
+whole_again : (text : List ℕ) (list : List Token) (tree : ProblemTree) → ProblemWords text 64 (Some tree) list → IsWhole (ProblemWords text) 64 list tree
+whole_again text list tree w =
+    is_whole (ProblemWords text) 64 _ _ (problem_good text 64).facts (problem_at text 64) (problem_good text 64).reads (problem_reading text 64) (length text) list tree [] (reads_all (problem_good text 64) tree list w) refl
+
+-- the canonical text of a problem that a text says spells it, without a fault
+pub said_spelled : (p : ProblemData) → IsSaid p → IsSpelled p
+said_spelled p s =
+    let a = s.accepts in
+    let says : Says s.text p = says_of s.text p a in
+    let x = problem_again p (says_written s.text p says) in
+    let parts : bare_parts (parts_of x.tree) ≡ canonical_parts p = sym (parts_bare x.tree) ∙ ap parts_of x.same ∙ parts_canonical p in
+    record {
+      tokens = x.list;
+      tree = x.tree;
+      cut = x.tokens;
+      spells = whole_again (problem_text p) x.list x.tree x.word;
+      right = right_again (parts_of a.tree) a.right (subst IsWellFormed a.means (accepted_well_formed s.text p a)) (parts_of x.tree) (parts ∙ ap canonical_parts a.means);
+      same = sym (meaning_bare (parts_of x.tree)) ∙ ap meaning.problem_of parts ∙ canonical_meaning p (says_consistent s.text p says);
+    }
+
+-- where it is short enough it says the problem
+pub said_again : (p : ProblemData) → IsSaid p → length (problem_text p) ≤ most_bytes → ReadsBack p
+said_again p s short =
+    let x = said_spelled p s in
+    record {
+      again = meaning.problem_of (parts_of x.tree);
+      accepts = record { tree = x.tree; says = record { short = short; list = x.tokens; tokens = x.cut; spells = x.spells }; right = x.right; means = refl };
+      same = x.same;
+    }
