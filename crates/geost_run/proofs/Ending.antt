@@ -1,26 +1,23 @@
 -- How a run ends, from what its parts did.
-use Rattle.std.proofs.Common.{◌≡◌, ◌⊎◌, inl, inr, ℕ, ◌<◌, ◌≤◌, List, [], ◌++◌, length, refl, sym, subst, ◌∙◌, ap, append-nil, arith}
-use Rattle.std.specs.Prelude.{Option, None, Some, Ok, Err, Result, IsErrOf, codes, Bool}
-use Rattle.std.specs.Io.KnownBytes.{Appends, Keeps}
+use Rattle.std.proofs.Common.{◌≡◌, inl, inr, ℕ, ◌≤◌, List, [], ◌++◌, length, refl, sym, subst, ◌∙◌, ap, append-nil, arith}
+use Rattle.std.specs.Prelude.{Option, None, Some, codes}
+use Rattle.std.specs.Io.KnownBytes.{Appends}
 use Rattle.std.proofs.lemmas.Grind.{common_steps}
-use Rattle.geo_chan.specs.Causes.{Rose}
-use Rattle.geo_chan.specs.declared.outside.PutFault.{PutFault}
-use Rattle.geo_chan.specs.declared.outside.PutFault.TheVariants.{Failed}
-use Rattle.geo_chan.specs.Written.{Writes, AppendsFront}
+use Rattle.geo_chan.specs.Written.{AppendsFront}
 use Rattle.problem_text.specs.Problem.{ProblemData}
 use Rattle.geo_tokens.specs.declared.fault.FaultWord.{FaultWord}
-use Rattle.problem_text.specs.FirstFault.{most_bytes, Says, Accepts, HasFirstFault, long, no_token, no_statements, in_statements}
+use Rattle.problem_text.specs.FirstFault.{most_bytes, Accepts, HasFirstFault, long, no_token, no_statements, in_statements}
 use Rattle.geost_run.specs.declared.command.Command.{Command}
-use Rattle.geost_run.specs.declared.command.Command.TheVariants.{First, Show}
 use Rattle.geost_run.specs.declared.command.Status.{Status}
 use Rattle.geost_run.specs.declared.command.Status.TheVariants.{Answered, No, Refused, Budget, BadWords, BadToken, ReadFault, WriteFault, Memory}
+use Rattle.geost_run.specs.Accepted.{IsAccepted, IsRefused, unread, misnamed, unexpanded}
 use Rattle.geost_run.specs.Words.{HasForm, HasNoForm}
 use Rattle.geost_run.specs.declared.decision.Decision.{Decision}
 use Rattle.geost_run.specs.declared.decision.Decision.TheVariants.{Refuse, Nothing, Layout, Shown}
 use Rattle.geost_run.specs.Decision.{decision_text, decision_status}
 use Rattle.geost_run.specs.Answer.{RefusedAnswer, FirstAnswer, ShowAnswer, FrontOf, AnswerTo, BeginsOf, BadWordsAnswer, Answer, Begins}
 use Rattle.geost_run.specs.Reading.{Tells, IsFirstText, IsReadFrom}
-use Rattle.geost_run.specs.Ends.{Gave, Began, WroteFront, Ends, EndsUnread, Finishes}
+use Rattle.geost_run.specs.Ends.{Gave, WroteFront, Ends, EndsUnread, Finishes}
 
 -- the answer to the text that was read is the answer to the input
 whole_text : (input text : List ℕ) → IsFirstText input text → length text ≤ most_bytes → text ≡ input
@@ -38,18 +35,26 @@ fault_of_input input text place word h (no_token s f) = subst (λ (t : List ℕ)
 fault_of_input input text place word h (no_statements s list tokens f) = subst (λ (t : List ℕ). HasFirstFault t place word) (whole_text input text h s) (no_statements s list tokens f)
 fault_of_input input text place word h (in_statements t says f) = subst (λ (u : List ℕ). HasFirstFault u place word) (whole_text input text h says.short) (in_statements t says f)
 
+accepted_input : (input text : List ℕ) (p : ProblemData) → IsFirstText input text → IsAccepted text p → IsAccepted input p
+accepted_input input text p h a = record { spells = accepts_input input text p h a.spells; names = a.names; expands = a.expands }
+
+refused_of_input : (input text : List ℕ) (place : ℕ) (word : FaultWord) → IsFirstText input text → IsRefused text place word → IsRefused input place word
+refused_of_input input text place word h (unread f) = unread (fault_of_input input text place word h f)
+refused_of_input input text place word h (misnamed p a m) = misnamed p (accepts_input input text p h a) m
+refused_of_input input text place word h (unexpanded p a right e) = unexpanded p (accepts_input input text p h a) right e
+
 refused_input : (input text out : List ℕ) → IsFirstText input text → RefusedAnswer text out → RefusedAnswer input out
-refused_input input text out h (place, word, f, e) = (place, word, fault_of_input input text place word h f, e)
+refused_input input text out h (place, word, f, e) = (place, word, refused_of_input input text place word h f, e)
 
 -- an answer to the text that was read is an answer to the input
 abbrev pub Lifts : (List ℕ → List ℕ → Status → Type 0) → Type 0
 Lifts answer = (input text out : List ℕ) (status : Status) → IsFirstText input text → answer text out status → answer input out status
 
 pub lifts_first : Lifts FirstAnswer
-lifts_first input text out Answered h (p, t, a, f, l, e) = (p, t, accepts_input input text p h a, f, l, e)
-lifts_first input text out No h (p, a, f, l, e) = (p, accepts_input input text p h a, f, l, e)
+lifts_first input text out Answered h (p, t, a, f, l, e) = (p, t, accepted_input input text p h a, f, l, e)
+lifts_first input text out No h (p, a, f, l, e) = (p, accepted_input input text p h a, f, l, e)
 lifts_first input text out Refused h (inl r) = inl (refused_input input text out h r)
-lifts_first input text out Refused h (inr (p, place, a, f, e)) = inr (p, place, accepts_input input text p h a, f, e)
+lifts_first input text out Refused h (inr (p, place, a, f, e)) = inr (p, place, accepted_input input text p h a, f, e)
 lifts_first input text out Budget h a = a
 lifts_first input text out BadWords h a = a
 lifts_first input text out BadToken h a = a
@@ -58,7 +63,7 @@ lifts_first input text out WriteFault h a = a
 lifts_first input text out Memory h a = a
 
 pub lifts_show : Lifts ShowAnswer
-lifts_show input text out Answered h (p, a, e) = (p, accepts_input input text p h a, e)
+lifts_show input text out Answered h (p, a, e) = (p, accepted_input input text p h a, e)
 lifts_show input text out Refused h r = refused_input input text out h r
 lifts_show input text out No h a = a
 lifts_show input text out Budget h a = a

@@ -1,23 +1,21 @@
 -- The same words and the same input have one status.
-use Rattle.std.proofs.Common.{◌≡◌, ◌<◌, ◌⊎◌, inl, inr, ℕ, suc, List, [], ◌∷◌, ◌++◌, length, get_or, refl, sym, ◌∙◌, ap, subst, arith, length-append}
+use Rattle.std.proofs.Common.{◌≡◌, ◌<◌, ◌⊎◌, inl, inr, ℕ, List, [], ◌∷◌, ◌++◌, length, get_or, refl, sym, ◌∙◌, ap, subst, arith, length-append}
 use Rattle.geo_base.specs.Tuple.{Tuple}
-use Rattle.geo_tokens.specs.declared.fault.FaultWord.{FaultWord}
 use Rattle.problem_text.specs.Problem.{DemandData, apart, within, plain, RuleData, ProblemData}
 use Rattle.problem_text.specs.Layouts.{IsLayout}
-use Rattle.problem_text.specs.FirstFault.{Accepts, HasFirstFault}
-use Rattle.problem_text.proofs.OneProblem.{accepted_once, accepted_not_refused}
-use Rattle.geost_run.specs.declared.command.Command.{Command}
 use Rattle.geost_run.specs.declared.command.Command.TheVariants.{First, Show}
 use Rattle.geost_run.specs.declared.command.Status.{Status}
 use Rattle.geost_run.specs.declared.command.Status.TheVariants.{Answered, No, Refused, Budget, BadWords, BadToken, ReadFault, WriteFault, Memory}
-use Rattle.geost_run.specs.First.{IsFirstLayout, HasNoLayout}
+use Rattle.geost_run.specs.Accepted.{IsAccepted}
+use Rattle.geost_run.proofs.Refusals.{same_problem, not_refused}
+use Rattle.geost_run.specs.First.{HasNoLayout}
 use Rattle.geost_run.specs.Formulas.{IsFormula, IsNoFormula, HasNoFormula, HasFormulaAt}
 use Rattle.geost_run.specs.Words.{HasForm}
 use Rattle.geost_run.specs.Answer.{RefusedAnswer, LaterAnswer, FirstAnswer, ShowAnswer, Answer}
 
 -- a text of which a problem with a layout is spelled spells none without
-layout_or_none : (input : List ℕ) (p q : ProblemData) (t : Tuple) → Accepts input p → IsLayout p t → Accepts input q → HasNoLayout q → ⊥
-layout_or_none input p q t a l b none = subst HasNoLayout (accepted_once input q p b a) none t l
+layout_or_none : (input : List ℕ) (p q : ProblemData) (t : Tuple) → IsAccepted input p → IsLayout p t → IsAccepted input q → HasNoLayout q → ⊥
+layout_or_none input p q t a l b none = subst HasNoLayout (same_problem input q p b a) none t l
 
 formula_or_not : (d : DemandData) → IsFormula d → IsNoFormula d → ⊥
 formula_or_not apart f n = f
@@ -35,11 +33,11 @@ no_formula_later p place none h =
     let there : length h.before < length p.rules = omega (arith, ap length h.rules, length-append h.before (h.rule ∷ h.behind)) in
     formula_or_not h.rule.demand h.formula (subst (λ (r : RuleData). IsNoFormula r.demand) at (none (length h.before) h.rule there))
 
-accepted_not_later : (input out : List ℕ) (p : ProblemData) → Accepts input p → HasNoFormula p → LaterAnswer input out → ⊥
-accepted_not_later input out p a none (q, place, b, h, e) = no_formula_later q place (subst HasNoFormula (accepted_once input p q a b) none) h
+accepted_not_later : (input out : List ℕ) (p : ProblemData) → IsAccepted input p → HasNoFormula p → LaterAnswer input out → ⊥
+accepted_not_later input out p a none (q, place, b, h, e) = no_formula_later q place (subst HasNoFormula (same_problem input p q a b) none) h
 
-first_refused : (input out : List ℕ) (p : ProblemData) → Accepts input p → HasNoFormula p → RefusedAnswer input out ⊎ LaterAnswer input out → ⊥
-first_refused input out p a none (inl (place, word, f, e)) = accepted_not_refused input p place word a f
+first_refused : (input out : List ℕ) (p : ProblemData) → IsAccepted input p → HasNoFormula p → RefusedAnswer input out ⊎ LaterAnswer input out → ⊥
+first_refused input out p a none (inl (place, word, f, e)) = not_refused input p place word a f
 first_refused input out p a none (inr later) = accepted_not_later input out p a none later
 
 first_status : (input t u : List ℕ) (s r : Status) → FirstAnswer input t s → FirstAnswer input u r → s ≡ r
@@ -68,8 +66,8 @@ first_status input t u s Memory a b = absurd b
 show_status : (input t u : List ℕ) (s r : Status) → ShowAnswer input t s → ShowAnswer input u r → s ≡ r
 show_status input t u Answered Answered a b = refl
 show_status input t u Refused Refused a b = refl
-show_status input t u Answered Refused (p, a, e) (place, word, f, g) = absurd (accepted_not_refused input p place word a f)
-show_status input t u Refused Answered (place, word, f, g) (p, a, e) = absurd (accepted_not_refused input p place word a f)
+show_status input t u Answered Refused (p, a, e) (place, word, f, g) = absurd (not_refused input p place word a f)
+show_status input t u Refused Answered (place, word, f, g) (p, a, e) = absurd (not_refused input p place word a f)
 show_status input t u No r a b = absurd a
 show_status input t u Budget r a b = absurd a
 show_status input t u BadWords r a b = absurd a

@@ -1,19 +1,18 @@
 -- Objects that are placed: that they stay placed, and what is known once all of them are.
-use Rattle.std.proofs.Common.{◌≡◌, ◌≢◌, ◌<◌, ◌≤◌, ◌+◌, ℕ, suc, ℤ, List, [], length, subst, sym, ◌∙◌, ap, arith, get_or, inl, inr, refl}
-use Rattle.std.specs.Prelude.{◌⊎◌, ◌≤ℤ◌, slice_index_or, All, true, false}
+use Rattle.std.proofs.Common.{◌≡◌, ◌<◌, ◌+◌, ℕ, length, subst, sym, ◌∙◌, ap, arith}
+use Rattle.std.specs.Prelude.{slice_index_or}
 use Rattle.std.proofs.Math.Logic.{⊎_elim}
 use Rattle.std.proofs.lemmas.Bool.{cases_lt, cases_order}
 use Rattle.std.proofs.lemmas.List.{ext_get_or}
-use Rattle.geo_base.specs.Boxes.{coordinate}
 use Rattle.geo_base.specs.Tuple.{Spot, Tuple, spot, nothing_put}
-use Rattle.problem_text.specs.Problem.{DemandData, apart, within, plain, RuleData, ProblemData}
+use Rattle.problem_text.specs.Problem.{DemandData, apart, within, plain, ProblemData}
 use Rattle.problem_text.specs.Tuple.{object_of}
-use Rattle.problem_text.specs.Cells.{range_at, IsInRanges, IsCellOf, NoCommonCell, LiesWithin, HasForm, IsShaped, IsSpotOf, IsTuple}
+use Rattle.problem_text.specs.Cells.{IsInRanges, IsCellOf, IsShaped}
 use Rattle.problem_text.specs.Layouts.{DemandHolds, IsLayout}
 use Rattle.problem_text.specs.WellFormed.{IsWellFormed}
 use Rattle.geost_run.specs.Formulas.{IsNoFormula, HasNoFormula}
 use Rattle.geost_run.specs.Placing.{object_at, AgreesBefore, AgreesUpTo, Allows, Fits, IsPlaced, IsInRangesUpTo}
-use Rattle.geost_run.proofs.Spots.{two_objects, IsAt, place_of_object, cell_along, allows_along, fits_along}
+use Rattle.geost_run.proofs.Spots.{two_objects, place_of_object, fits_along}
 
 pub placed_along : (p : ProblemData) (j : ℕ) (t u : Tuple) → AgreesBefore p j t u → IsPlaced p j t → IsPlaced p j u
 placed_along p j t u a w = record {

@@ -1,16 +1,16 @@
 -- Facts of objects that follow from their spots alone.
-use Rattle.std.proofs.Common.{◌≡◌, ◌≢◌, ◌<◌, ◌≤◌, ◌+◌, ◌-◌, ◌==◌, ℕ, suc, zero, ℤ, List, [], length, subst, sym, ◌∙◌, ap, arith, get_or, if◌then◌else◌, inl, inr, get_or-set_other, get_or-set_same}
-use Rattle.std.specs.Prelude.{◌⊎◌, ◌≤ℤ◌, slice_get, slice_set, slice_index_or, Option, None, Some, All}
+use Rattle.std.proofs.Common.{◌≡◌, ◌≢◌, ◌<◌, ◌+◌, ◌-◌, ◌==◌, ℕ, ℤ, List, [], length, subst, sym, ◌∙◌, arith, if◌then◌else◌, get_or-set_other, get_or-set_same}
+use Rattle.std.specs.Prelude.{slice_get, slice_set, slice_index_or, None}
 use Rattle.std.specs.Option.{option_map_or}
 use Rattle.std.proofs.Math.Logic.{⊎_elim}
-use Rattle.std.proofs.lemmas.Bool.{cases_lt, cases_order}
+use Rattle.std.proofs.lemmas.Bool.{cases_order}
 use Rattle.std.proofs.lemmas.List.{get_or_default}
 use Rattle.geo_base.specs.Tuple.{Spot, Tuple, spot, nothing_put}
-use Rattle.problem_text.specs.Problem.{BoxData, DemandData, apart, within, plain, RuleData, ProblemData}
+use Rattle.problem_text.specs.Problem.{BoxData, DemandData, apart, within, plain, ProblemData}
 use Rattle.problem_text.specs.Tuple.{object_of, boxes_of_shape}
-use Rattle.problem_text.specs.Cells.{BoxHas, box_at, IsCellOf, NoCommonCell, LiesWithin, IsInRanges, HasForm, IsShaped}
+use Rattle.problem_text.specs.Cells.{BoxHas, box_at, IsCellOf, NoCommonCell}
 use Rattle.problem_text.specs.WellFormed.{IsWellFormed}
-use Rattle.geost_run.specs.Placing.{object_at, AgreesBefore, Allows, Fits}
+use Rattle.geost_run.specs.Placing.{object_at, Allows, Fits}
 
 -- ---- a tuple with another spot for one object
 

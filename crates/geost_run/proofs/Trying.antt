@@ -1,25 +1,21 @@
 -- The first layout among those that agree with what is placed, as values are tried one after another.
-use Rattle.std.proofs.Common.{◌≡◌, ◌≢◌, ◌<◌, ◌≤◌, ◌+◌, ◌-◌, ℕ, suc, ℤ, Bool, true, false, List, [], ◌∷◌, ◌++◌, length, map, drop, subst, sym, ◌∙◌, ap, arith, get_or, inl, inr, refl, add-one}
-use Rattle.std.specs.Prelude.{◌⊎◌, ◌≤ℤ◌, ◌<ℤ◌, ◌+ℤ◌, ◌-ℤ◌, pos, flat_map, slice_set, slice_index_or}
+use Rattle.std.proofs.Common.{◌≡◌, ◌<◌, ◌≤◌, ◌+◌, ℕ, ℤ, Bool, true, false, List, ◌∷◌, length, subst, sym, ◌∙◌, ap, arith, inl, inr, refl}
+use Rattle.std.specs.Prelude.{◌⊎◌, ◌≤ℤ◌, ◌+ℤ◌, ◌-ℤ◌, pos, slice_set}
 use Rattle.std.proofs.Math.Logic.{⊎_elim}
-use Rattle.std.proofs.Math.Seq.{drop-cons}
 use Rattle.std.proofs.lemmas.Bool.{cases_lt, cases_eq}
 use Rattle.std.proofs.lemmas.Int.{ints}
-use Rattle.std.proofs.lemmas.List.{length-map, drop_all, get_or-set_other, get_or-set_same, length-set}
+use Rattle.std.proofs.lemmas.List.{get_or-set_other, get_or-set_same, length-set}
 use Rattle.geo_base.specs.Boxes.{coordinate}
 use Rattle.geo_base.specs.Tuple.{Spot, Tuple, spot}
-use Rattle.geo_conditions.specs.Walk.{Variable, PlaceOf, CoordinateOf, IsBefore, value_in, variables_of, coordinates_from, values, Precedes}
+use Rattle.geo_conditions.specs.Walk.{Variable, CoordinateOf, IsBefore, value_in}
 use Rattle.problem_text.specs.Problem.{RangeData, ProblemData}
 use Rattle.problem_text.specs.Tuple.{object_of}
-use Rattle.problem_text.specs.Cells.{range_at, IsInRanges, HasForm, IsShaped}
+use Rattle.problem_text.specs.Cells.{range_at, HasForm, IsShaped}
 use Rattle.problem_text.specs.Layouts.{IsLayout}
 use Rattle.problem_text.specs.WellFormed.{IsWellFormed}
-use Rattle.geost_run.specs.First.{runs_down, downs, variables_for, ComesBefore, IsFirstLayout, HasNoLayout}
-use Rattle.geost_run.specs.Formulas.{IsNoFormula, HasNoFormula}
-use Rattle.geost_run.specs.Placing.{object_at, AgreesBefore, AgreesUpTo, rest, rest_from, Fits, IsPlaced, IsInRangesUpTo, IsFirstOf, Searched, value_of, range_for, ValueChanged, PlaceChanged}
-use Rattle.geost_run.proofs.Spots.{spot_changed, spot_kept, object_there, two_objects, fits_along}
+use Rattle.geost_run.specs.Placing.{object_at, AgreesBefore, AgreesUpTo, IsInRangesUpTo, IsFirstOf, value_of, range_for, ValueChanged, PlaceChanged}
+use Rattle.geost_run.proofs.Spots.{spot_changed, spot_kept, object_there, two_objects}
 use Rattle.problem_text.proofs.Signs.{tri}
-use Rattle.geost_run.proofs.Placed.{placed_along, all_placed, shaped_layout, all_agree, layout_fits, agrees_next}
 
 -- ---- agreement
 

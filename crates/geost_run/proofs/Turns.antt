@@ -1,22 +1,22 @@
 -- The turns of the search: a place or a coordinate is tried after another, and the objects behind it are placed.
-use Rattle.std.proofs.Common.{◌≡◌, ◌≢◌, ◌<◌, ◌≤◌, ◌+◌, ◌-◌, ◌*◌, ℕ, suc, ℤ, Bool, true, false, List, [], ◌∷◌, ◌++◌, length, map, drop, subst, sym, ◌∙◌, ap, arith, get_or, inl, inr, refl, add-one}
-use Rattle.std.specs.Prelude.{◌⊎◌, ◌≤ℤ◌, ◌<ℤ◌, ◌+ℤ◌, ◌-ℤ◌, pos, flat_map, slice_set, slice_index_or}
+use Rattle.std.proofs.Common.{◌≡◌, ◌<◌, ◌≤◌, ◌+◌, ◌-◌, ◌*◌, ℕ, suc, ℤ, Bool, true, false, ◌∷◌, ◌++◌, length, subst, sym, ◌∙◌, ap, arith, inl, inr, add-one}
+use Rattle.std.specs.Prelude.{◌⊎◌, ◌≤ℤ◌, ◌+ℤ◌, pos, flat_map, slice_set, slice_index_or}
 use Rattle.std.proofs.Math.Logic.{⊎_elim}
 use Rattle.std.proofs.Math.Seq.{drop-cons}
-use Rattle.std.proofs.lemmas.Bool.{cases_lt, cases_order}
+use Rattle.std.proofs.lemmas.Bool.{cases_order}
 use Rattle.std.proofs.lemmas.Int.{ints}
 use Rattle.std.proofs.lemmas.List.{length-map, drop_all}
 use Rattle.geo_base.specs.Boxes.{coordinate}
-use Rattle.geo_base.specs.Tuple.{Spot, Tuple, spot}
-use Rattle.geo_conditions.specs.Walk.{Variable, PlaceOf, CoordinateOf, IsBefore, value_in, variables_of, coordinates_from, values, Precedes}
+use Rattle.geo_base.specs.Tuple.{Tuple, spot}
+use Rattle.geo_conditions.specs.Walk.{PlaceOf, CoordinateOf, IsBefore, variables_of, coordinates_from}
 use Rattle.problem_text.specs.Problem.{RangeData, ProblemData}
 use Rattle.problem_text.specs.Tuple.{object_of}
-use Rattle.problem_text.specs.Cells.{range_at, IsInRanges, HasForm, IsShaped}
+use Rattle.problem_text.specs.Cells.{IsShaped}
 use Rattle.problem_text.specs.Layouts.{IsLayout}
 use Rattle.problem_text.specs.WellFormed.{IsWellFormed}
-use Rattle.geost_run.specs.First.{runs_down, downs, variables_for, ComesBefore, IsFirstLayout, HasNoLayout}
-use Rattle.geost_run.specs.Formulas.{IsNoFormula, HasNoFormula}
-use Rattle.geost_run.specs.Placing.{object_at, AgreesBefore, AgreesUpTo, rest, rest_from, Fits, IsPlaced, IsInRangesUpTo, IsFirstOf, Searched, value_of, range_for, down_at, ValueChanged, PlaceChanged}
+use Rattle.geost_run.specs.First.{runs_down, downs}
+use Rattle.geost_run.specs.Formulas.{HasNoFormula}
+use Rattle.geost_run.specs.Placing.{object_at, AgreesBefore, AgreesUpTo, rest, rest_from, Fits, IsPlaced, IsFirstOf, Searched, value_of, range_for, down_at, ValueChanged, PlaceChanged}
 use Rattle.geost_run.proofs.Spots.{fits_along, object_there}
 use Rattle.geost_run.proofs.Placed.{all_placed, shaped_layout, all_agree, layout_fits, agrees_next}
 use Rattle.geost_run.proofs.Trying.{agrees_same, agrees_on, agrees_up_to_same, agrees_up_to_on, agrees_less, agrees_more, value_changed, place_changed, IsLeft, left_first, value_from, value_to, left_next, left_or_before, none_left, in_front}

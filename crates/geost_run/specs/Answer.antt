@@ -1,17 +1,17 @@
 -- What the program answers: the text that it writes and the status that it ends with.
-use Rattle.std.specs.Prelude.{◌≡◌, ◌⊎◌, ◌<◌, ◌++◌, ℕ, List, codes, decimal, length, slice_index_or}
+use Rattle.std.specs.Prelude.{◌≡◌, ◌⊎◌, ◌++◌, ℕ, List, codes, decimal}
 use Rattle.geo_base.specs.Tuple.{Tuple}
 use Rattle.geo_tokens.specs.declared.fault.FaultWord.{FaultWord}
 use Rattle.geo_tokens.specs.declared.fault.FaultWord.TheVariants.{Later}
 use Rattle.geo_tokens.specs.Fault.{fault_bytes}
 use Rattle.layout_text.specs.Block.{block_of}
-use Rattle.problem_text.specs.Problem.{DemandData, apart, within, plain, RuleData, ProblemData}
+use Rattle.problem_text.specs.Problem.{ProblemData}
 use Rattle.problem_text.specs.Canonical.{problem_text}
-use Rattle.problem_text.specs.FirstFault.{Accepts, HasFirstFault}
 use Rattle.geost_run.specs.declared.command.Command.{Command}
 use Rattle.geost_run.specs.declared.command.Command.TheVariants.{First, Show}
 use Rattle.geost_run.specs.declared.command.Status.{Status}
 use Rattle.geost_run.specs.declared.command.Status.TheVariants.{Answered, No, Refused, Budget, BadWords, BadToken, ReadFault, WriteFault, Memory}
+use Rattle.geost_run.specs.Accepted.{IsAccepted, IsRefused}
 use Rattle.geost_run.specs.First.{IsFirstLayout, HasNoLayout}
 use Rattle.geost_run.specs.Formulas.{HasNoFormula, HasFormulaAt}
 use Rattle.geost_run.specs.Words.{HasForm, HasNoForm}
@@ -20,19 +20,19 @@ use Rattle.geost_run.specs.Words.{HasForm, HasNoForm}
 abbrev pub refusal : ℕ → FaultWord → List ℕ
 refusal place word = codes "refused " ++ (decimal place ++ (codes " " ++ (fault_bytes word ++ codes "\n")))
 
--- The text is no problem, and this is its first fault.
+-- The text is refused, and this is its first fault.
 abbrev pub RefusedAnswer : List ℕ → List ℕ → Type 0
-RefusedAnswer input text = (place : ℕ) × (word : FaultWord) × HasFirstFault input place word × (text ≡ refusal place word)
+RefusedAnswer input text = (place : ℕ) × (word : FaultWord) × IsRefused input place word × (text ≡ refusal place word)
 
 -- A text with a formula is refused at the name of its first formula rule, since formulas are not tried yet.
 abbrev pub LaterAnswer : List ℕ → List ℕ → Type 0
-LaterAnswer input text = (p : ProblemData) × (place : ℕ) × Accepts input p × HasFormulaAt p place × (text ≡ refusal place Later)
+LaterAnswer input text = (p : ProblemData) × (place : ℕ) × IsAccepted input p × HasFormulaAt p place × (text ≡ refusal place Later)
 
 -- `first N`. The printed layout satisfies every rule by its cells and precedes every other layout; `none` means that
 -- there is no layout; any other text is refused at its first fault.
 abbrev pub FirstAnswer : List ℕ → List ℕ → Status → Type 0
-FirstAnswer input text Answered = (p : ProblemData) × (t : Tuple) × Accepts input p × HasNoFormula p × IsFirstLayout p t × (text ≡ block_of p t)
-FirstAnswer input text No = (p : ProblemData) × Accepts input p × HasNoFormula p × HasNoLayout p × (text ≡ codes "none\n")
+FirstAnswer input text Answered = (p : ProblemData) × (t : Tuple) × IsAccepted input p × HasNoFormula p × IsFirstLayout p t × (text ≡ block_of p t)
+FirstAnswer input text No = (p : ProblemData) × IsAccepted input p × HasNoFormula p × HasNoLayout p × (text ≡ codes "none\n")
 FirstAnswer input text Refused = RefusedAnswer input text ⊎ LaterAnswer input text
 FirstAnswer input text Budget = ⊥
 FirstAnswer input text BadWords = ⊥
@@ -43,7 +43,7 @@ FirstAnswer input text Memory = ⊥
 
 -- `show`. The problem in its canonical spelling; any other text is refused at its first fault.
 abbrev pub ShowAnswer : List ℕ → List ℕ → Status → Type 0
-ShowAnswer input text Answered = (p : ProblemData) × Accepts input p × (text ≡ problem_text p)
+ShowAnswer input text Answered = (p : ProblemData) × IsAccepted input p × (text ≡ problem_text p)
 ShowAnswer input text Refused = RefusedAnswer input text
 ShowAnswer input text No = ⊥
 ShowAnswer input text Budget = ⊥

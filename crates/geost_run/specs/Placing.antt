@@ -1,9 +1,9 @@
 -- What the search answers of the layouts that go on from what is placed. Objects are placed in search order.
-use Rattle.std.specs.Prelude.{◌≡◌, ◌⊎◌, ◌<◌, ◌≤ℤ◌, ◌+ℤ◌, ◌-ℤ◌, ◌++◌, ℕ, suc, ℤ, pos, Bool, true, false, List, length, All, drop, flat_map, slice_index_or}
+use Rattle.std.specs.Prelude.{◌≡◌, ◌⊎◌, ◌<◌, ◌≤ℤ◌, ◌+ℤ◌, ◌-ℤ◌, ◌++◌, ℕ, suc, ℤ, pos, Bool, true, false, List, All, drop, flat_map, slice_index_or}
 use Rattle.geo_base.specs.Boxes.{coordinate}
 use Rattle.geo_base.specs.Tuple.{Tuple, spot}
 use Rattle.geo_conditions.specs.Walk.{Variable, variables_of, coordinates_from, values, Precedes}
-use Rattle.problem_text.specs.Problem.{RangeData, DemandData, apart, within, plain, RuleData, ProblemData}
+use Rattle.problem_text.specs.Problem.{RangeData, DemandData, apart, within, plain, ProblemData}
 use Rattle.problem_text.specs.Tuple.{object_of}
 use Rattle.problem_text.specs.Cells.{range_at, IsInRanges, IsShaped, NoCommonCell, LiesWithin}
 use Rattle.problem_text.specs.Layouts.{IsLayout}

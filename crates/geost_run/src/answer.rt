@@ -8,11 +8,11 @@ ghost use Rattle.geost_run.specs.Ends.{Ends, Finishes};
 ghost use Rattle.geost_run.specs.Formulas.{IsFormula, IsNoFormula, HasNoFormula, HasFormulaAt};
 ghost use Rattle.geost_run.specs.Reading.{TakesAtMost};
 
+use crate::accepted::read_accepted;
 use crate::{Decision, ReadFault, Status, first_layout, read_first_text, write_decision};
 use geo_chan::{PutFault, Sink, Source};
 use geo_tokens::fault::{FaultWord, TextFault};
 use problem_text::problem::{Demand, Problem};
-use problem_text::read::read_problem;
 use std::alloc::{AllocError, Global};
 
 /// Reads a problem and writes its first layout.
@@ -54,7 +54,7 @@ fn decide_first(alloc: Global, text: &[u8]) -> Result<Decision, AllocError>
     ensures answer { IfOk result (λ decision. FirstAnswer text.now (decision_text decision) (decision_status decision)) }
     ensures decided { IfOk result IsDecided }
 {
-    let problem = match read_problem(alloc, text) {
+    let problem = match read_accepted(alloc, text) {
         Ok(problem) => problem,
         Err(TextFault::At(place, word)) => return Ok(Decision::Refuse(place, word)),
         Err(TextFault::Memory) => return Err(AllocError),
@@ -73,7 +73,7 @@ fn decide_show(alloc: Global, text: &[u8]) -> Result<Decision, AllocError>
     ensures answer { IfOk result (λ decision. ShowAnswer text.now (decision_text decision) (decision_status decision)) }
     ensures decided { IfOk result IsDecided }
 {
-    match read_problem(alloc, text) {
+    match read_accepted(alloc, text) {
         Ok(problem) => Ok(Decision::Shown(problem)),
         Err(TextFault::At(place, word)) => Ok(Decision::Refuse(place, word)),
         Err(TextFault::Memory) => Err(AllocError),

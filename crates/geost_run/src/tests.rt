@@ -165,3 +165,21 @@ fn a_formula_is_refused_at_its_rule(rt: HostRuntime) -> Result<(), Fail> {
     assert_eq!(rt; text.as_slice(), b"refused 67 later\n".as_slice());
     Ok(())
 }
+
+#[test]
+fn wrong_rules_are_refused_by_every_command(rt: HostRuntime) -> Result<(), Fail> {
+    let alloc = rt.alloc();
+    let kind =
+        b"geost 1 dims 1 shape s box 0 size 1 ; object a as s at 0..9 ; rule r : 3 < a ; end";
+    let product =
+        b"geost 1 dims 1 shape s box 0 size 1 ; object a as s at 0..9 ; rule r : a.x1 * 0 * a.x1 <= 4 ; end";
+    for command in [["first", "1"].as_slice(), ["show"].as_slice()] {
+        let (status, text) = answer(alloc, command, kind)?;
+        assert_eq!(rt; status, Status::Refused);
+        assert_eq!(rt; text.as_slice(), b"refused 75 kind\n".as_slice());
+        let (status, text) = answer(alloc, command, product)?;
+        assert_eq!(rt; status, Status::Refused);
+        assert_eq!(rt; text.as_slice(), b"refused 67 product\n".as_slice());
+    }
+    Ok(())
+}

@@ -1,6 +1,6 @@
 -- A call of a macro in sight is its body, where the macros before it are in sight.
-use Rattle.std.proofs.Common.{◌≡◌, ◌≢◌, ℕ, zero, suc, ◌+◌, ◌<◌, ◌≤◌, eqb, Bool, true, false, cond, List, [], ◌∷◌, length, map, get_or, sym, ap, ◌∙◌, refl, arith}
-use Rattle.std.specs.Prelude.{Option, None, Some}
+use Rattle.std.proofs.Common.{◌≡◌, ◌≢◌, ℕ, zero, suc, ◌<◌, ◌≤◌, eqb, Bool, true, false, cond, List, [], length, get_or, sym, ap, ◌∙◌, refl, arith}
+use Rattle.std.specs.Prelude.{Some}
 use Rattle.std.specs.Option.{option_map_or}
 use Rattle.std.proofs.lemmas.Bool.Decides.{nat_tests}
 use Rattle.std.specs.Str.{bytes_eq}
@@ -8,13 +8,13 @@ use Rattle.std.proofs.lemmas.List.{get_or_default}
 use Rattle.std.proofs.lemmas.List.Quantifiers.{position-Some}
 use Rattle.problem_text.specs.Problem.{ParamData, MacroData, ProblemData}
 use Rattle.rule_syntax.specs.Tree.{falsehood}
-use Rattle.problem_text.specs.Tree.{BodyTree, means, equals}
+use Rattle.problem_text.specs.Tree.{BodyTree, means}
 use Rattle.problem_text.specs.Value.{macro_position}
 use Rattle.problem_text.specs.Truth.{macro_of}
 use Rattle.rule_expand.specs.Plain as plain
 use Rattle.rule_expand.specs.Plain.{PlainExprTree, PlainFormulaTree}
-use Rattle.rule_expand.specs.Expansion.{Meant, Subst, Expansions, give_all, body_expr, body_formula, expansions_of}
-use Rattle.rule_expand.specs.Costs.{MacroCosts, CostEnv, price_all, body_cost, costs_of, body_formula_cost, formula_costs_of}
+use Rattle.rule_expand.specs.Expansion.{Meant, give_all, body_expr, body_formula, expansions_of}
+use Rattle.rule_expand.specs.Costs.{price_all, body_cost, costs_of, body_formula_cost, formula_costs_of}
 
 -- what is made stage by stage, one macro at a time
 staged_by : (A : Type 0) (F : ℕ → ℕ → A) (B : ℕ → A) (n k : ℕ) (b : Bool) → eqb k n ≡ b → k < suc n → (k < n → F n k ≡ B k) → cond b (B n) (F n k) ≡ B k
@@ -33,11 +33,15 @@ unstaged : (A : Type 0) (F : ℕ → ℕ → A) (B : ℕ → A) (d : A) → ((k 
 unstaged A F B d z s zero k h = z k
 unstaged A F B d z s (suc n) k h = s n k ∙ unstaged_by A F B d n k (eqb k n) refl (omega arith) (unstaged A F B d z s n k (omega arith))
 
+-- a macro in sight becomes its body
+pub number-called : (p : ProblemData) (n k : ℕ) (ms : List Meant) → k < n → (expansions_of p n).number k ms ≡ body_expr (expansions_of p k) p (macro_of p k).body (give_all (macro_of p k).params ms)
+number-called p n k ms h = staged PlainExprTree (λ n k. (expansions_of p n).number k ms) (λ k. body_expr (expansions_of p k) p (macro_of p k).body (give_all (macro_of p k).params ms)) (λ n k. refl) n k h
+
 pub value-called : (p : ProblemData) (n k : ℕ) (name : List ℕ) (m : MacroData) (b : BodyTree) (params : List ParamData) → macro_position p name ≡ Some k → k < n → m ≡ macro_of p k → b ≡ m.body → params ≡ m.params → (ms : List Meant) →
     option_map_or (λ i. (expansions_of p n).number i ms) (macro_position p name) (plain.number 0) ≡ body_expr (expansions_of p k) p b (give_all params ms)
 value-called p n k name m b params e h i j l ms =
     ap (λ o. option_map_or (λ i. (expansions_of p n).number i ms) o (plain.number 0)) e
-    ∙ staged PlainExprTree (λ n k. (expansions_of p n).number k ms) (λ k. body_expr (expansions_of p k) p (macro_of p k).body (give_all (macro_of p k).params ms)) (λ n k. refl) n k h
+    ∙ number-called p n k ms h
     ∙ sym (ap (λ x. body_expr (expansions_of p k) p x (give_all params ms)) (j ∙ ap (λ x. x.body) i)
     ∙ ap (λ x. body_expr (expansions_of p k) p (macro_of p k).body (give_all x ms)) (l ∙ ap (λ x. x.params) i))
 
@@ -81,4 +85,4 @@ pub macro-inside : (p : ProblemData) (name : List ℕ) (k : ℕ) → macro_posit
 macro-inside p name k e = (position-Some (λ m. bytes_eq name m.name) p.macros k (macro_of p 0) e).0
 
 pub macro-at : (p : ProblemData) (ms : List MacroData) (k : ℕ) (m : MacroData) → k < length ms → ms ≡ p.macros → m ≡ get_or ms k m → m ≡ macro_of p k
-macro-at p ms k m h e f = f ∙ get_or_default ms k m (record { name = []; params = []; body = means (falsehood 0) }) h ∙ ap (λ l. get_or l k (record { name = []; params = []; body = means (falsehood 0) })) e
+macro-at p ms k m h e f = f ∙ get_or_default ms k m (record { place = 0; name = []; params = []; body = means (falsehood 0) }) h ∙ ap (λ l. get_or l k (record { place = 0; name = []; params = []; body = means (falsehood 0) })) e

@@ -12,14 +12,14 @@ use Rattle.rule_syntax.specs.Tree.{ExprTree, number, field, param, shape_number,
 use Rattle.problem_text.specs.Problem.{BoxData, ParamData, ProblemData}
 use Rattle.problem_text.specs.Tree.{BodyTree, means, equals}
 use Rattle.problem_text.specs.Tuple.{Tuple, boxes_in}
-use Rattle.problem_text.specs.Value.{Thing, Number, Object, Part, Env, bind, object_position, shape_position, macro_position, look, as_number, field_value, shape_value, Calls, thing, sum_value, sums_value, product_value, products_value, argument_thing, things, value}
-use Rattle.problem_text.specs.Truth.{compare, same_truth, quantify, boxes_of_thing, listed_objects, elements, holds, all_hold, some_holds, bind_all, body_value, body_truth, macro_of, calls_of, formula_holds}
+use Rattle.problem_text.specs.Value.{Thing, Number, Object, Part, Env, bind, object_position, shape_position, macro_position, look, as_number, field_value, Calls, thing, sum_value, sums_value, product_value, products_value, argument_thing, things, value}
+use Rattle.problem_text.specs.Truth.{compare, same_truth, quantify, boxes_of_thing, elements, holds, all_hold, some_holds, bind_all, body_value, body_truth, macro_of, calls_of, formula_holds}
 use Rattle.rule_expand.specs.declared.plain.Subject.{Subject}
 use Rattle.rule_expand.specs.declared.plain.Subject.TheVariants as subjects
 use Rattle.rule_expand.specs.Plain as plain
 use Rattle.rule_expand.specs.Plain.{PlainExprTree, PlainCollTree, PlainFormulaTree}
 use Rattle.rule_expand.specs.PlainTruth.{PlainEnv, set_variable, variable_in, subject_in, plain_value, plain_sum, plain_sums, plain_product, plain_products, plain_elements, plain_holds, plain_all, plain_some}
-use Rattle.rule_expand.specs.Expansion.{Meant, an_expr, a_subject, MeantName, Subst, give, meant_by, as_expr, field_of, shape_expr, binders, Expansions, meant, sum_expanded, sums_expanded, product_expanded, products_expanded, argument_meant, arguments_meant, expr_expanded, boxes_expanded, coll_expanded, formula_expanded, formulas_expanded, give_all, body_expr, body_formula, expansions_of, expanded}
+use Rattle.rule_expand.specs.Expansion.{Meant, an_expr, a_subject, Subst, give, meant_by, as_expr, field_of, binders, Expansions, meant, sum_expanded, sums_expanded, product_expanded, products_expanded, argument_meant, arguments_meant, expr_expanded, boxes_expanded, coll_expanded, formula_expanded, formulas_expanded, give_all, body_expr, body_formula, expansions_of, expanded}
 
 -- the value of what a name became
 abbrev pub meant_thing : ProblemData → Tuple → PlainEnv → Meant → Thing

@@ -1,7 +1,7 @@
 pub mod Expanded
-pub mod Tables
 pub mod Scopes
 pub mod Called
+pub mod HandedOn
 pub mod Steps
 pub mod Operands
 pub mod Degrees

@@ -1,12 +1,11 @@
 -- Looking a parameter up.
-use Rattle.std.proofs.Common.{◌≡◌, ℕ, suc, ◌+◌, ◌<◌, ◌≤◌, Bool, true, false, cond, not, List, [], ◌∷◌, length, take, map, get_or, ltb, sym, ap, ◌∙◌, refl, arith}
+use Rattle.std.proofs.Common.{◌≡◌, ℕ, suc, ◌+◌, Bool, true, false, cond, not, List, [], ◌∷◌, length, take, map, get_or, ltb, sym, ap, ◌∙◌, refl, arith}
 use Rattle.std.specs.Prelude.{Option, None, Some}
 use Rattle.std.specs.Option.{option_map_or, option_map}
 use Rattle.std.specs.List.{position, position_or_len}
 use Rattle.std.specs.Str.{bytes_eq}
 use Rattle.std.proofs.lemmas.Bool.Decides.{nat_tests}
 use Rattle.rule_syntax.specs.declared.tree.Argument.{Argument}
-use Rattle.rule_syntax.specs.declared.tree.Expr.{Expr}
 use Rattle.rule_syntax.specs.declared.tree.Expr.TheFolds.{fold_out-Argument}
 use Rattle.rule_syntax.specs.Tree.{ExprTree, ProductTree, SumTree, ArgumentTree, argument, arguments}
 use Rattle.rule_syntax.specs.View.{argument_view, expr_view, expr_step, product_step, sum_step, argument_step}

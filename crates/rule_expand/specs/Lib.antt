@@ -2,6 +2,7 @@ pub mod Plain
 pub mod PlainView
 pub mod PlainTruth
 pub mod Expansion
+pub mod Handed
 pub mod Table
 pub mod Counts
 pub mod Limits

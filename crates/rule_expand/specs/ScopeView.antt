@@ -1,5 +1,5 @@
 -- What the names in sight of the program stand for.
-use Rattle.std.specs.Prelude.{◌≡◌, ℕ, ◌+◌, ◌<◌, ◌≤◌, List, [], ◌∷◌, map, length, Option, None, Some}
+use Rattle.std.specs.Prelude.{◌≡◌, ℕ, ◌<◌, List, [], map, Some}
 use Rattle.std.specs.Option.{option_map_or}
 use Rattle.rule_syntax.specs.Tree.{ExprTree, arguments}
 use Rattle.rule_syntax.specs.View.{expr_view, argument_view, formula_view}
@@ -50,6 +50,8 @@ found_cost p found_as.Nothing = 0
 
 -- a call of the name, where n macros are in sight, is this macro's body
 pub record IsValueMacro (p : ProblemData) (n : ℕ) (name : List ℕ) (v : ValueMacro) : Type 0 where
+  pub at : macro_position p name ≡ Some v.index
+  pub in_sight : v.index < n
   pub expands : (ms : List Meant) → option_map_or (λ k. (expansions_of p n).number k ms) (macro_position p name) (plain.number 0) ≡ expr_expanded (expansions_of p v.index) p (expr_view v.body.now) (give_all (map param_data v.params.now) ms)
   pub ends : (ks : List ℕ) → option_map_or (λ k. costs_of p n k ks) (macro_position p name) 0 ≡ cost (costs_of p v.index) p (expr_view v.body.now) (price_all (map param_data v.params.now) ks)
 

@@ -13,6 +13,7 @@ ghost use Rattle.rule_expand.specs.Limits.{GivesExpr, Lacks, SumMade, SumsMade, 
 ghost use Rattle.rule_expand.specs.ScopeView.{scope_view};
 ghost use Rattle.rule_expand.specs.Table.{AreTables};
 
+use crate::handed::handed_index;
 use crate::limits::Lack;
 use crate::make::{
     add_product, add_sum, field, greatest, least, negative, number, product, shape_number, sum,
@@ -20,9 +21,10 @@ use crate::make::{
 };
 use crate::plain::{PlainExpr, PlainProd, PlainSum};
 use crate::scope::{Found, Scope, look_up, value_macro};
-use crate::table::{Tables, position_of};
+use crate::table::Tables;
 use geo_tokens::name::Name;
 use problem_text::problem::Problem;
+use rule_names::table::position_of;
 use rule_syntax::tree::{Argument, Expr, PlacedName, ProdStep, SumStep};
 use std::alloc::Global;
 
@@ -58,7 +60,7 @@ fn expand_shape(
     requires { AreTables problem.now tables.now }
     ensures { GivesExpr (shape_expr problem.now name.now) room.old deep room.new result }
 {
-    match position_of(&tables.shapes, name.as_bytes()) {
+    match position_of(&tables.names.shapes, name.as_bytes()) {
         Some(position) => shape_number(position, room, deep),
         None => number(0, room, deep),
     }
@@ -444,16 +446,28 @@ fn expand_call(
     ensures { let x = expansions_of problem.now in_sight in GivesExpr (expr_expanded x problem.now (tree.value_call 0 m.now (tree.arguments (map argument_view args.now))) (scope_view problem.now scope.now)) room.old deep room.new result }
 {
     match value_macro(problem, tables, in_sight, &m.name) {
-        Some(called) => expand_expr(
-            alloc,
-            problem,
-            tables,
-            called.index,
-            called.body,
-            &Scope::Parameters(called.params, args, &*scope, in_sight),
-            room,
-            deep,
-        ),
+        Some(called) => match handed_index(tables.handed.as_slice(), called.index, args.len()) {
+            Some(i) => expand_expr(
+                alloc,
+                problem,
+                tables,
+                in_sight,
+                &args[i].value,
+                &*scope,
+                room,
+                deep,
+            ),
+            None => expand_expr(
+                alloc,
+                problem,
+                tables,
+                called.index,
+                called.body,
+                &Scope::Parameters(called.params, args, &*scope, in_sight),
+                room,
+                deep,
+            ),
+        },
         None => number(0, room, deep),
     }
 }

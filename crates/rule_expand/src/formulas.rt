@@ -21,8 +21,9 @@ use crate::make::{
 };
 use crate::plain::{PlainColl, PlainFormula};
 use crate::scope::{Found, Scope, formula_macro, look_up};
-use crate::table::{Tables, position_of};
+use crate::table::Tables;
 use problem_text::problem::Problem;
+use rule_names::table::position_of;
 use rule_syntax::tree::{Argument, Coll, Expr, Formula, PlacedName, QuantKind, Rel};
 use std::alloc::{AllocError, Global};
 
@@ -53,7 +54,7 @@ fn positions_listed(
     for name in names {
         add_found(
             &mut positions,
-            position_of(&tables.objects, name.name.as_bytes()),
+            position_of(&tables.names.objects, name.name.as_bytes()),
         )?;
     }
     Ok(positions)

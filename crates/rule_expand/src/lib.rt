@@ -4,9 +4,12 @@
 mod degree;
 pub mod expressions;
 pub mod formulas;
+mod handed;
 pub mod limits;
 mod make;
 pub mod plain;
 pub mod rules;
 pub mod scope;
 pub mod table;
+#[cfg(test)]
+mod tests;

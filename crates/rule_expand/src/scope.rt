@@ -14,10 +14,11 @@ ghost use Rattle.rule_expand.specs.ScopeView.{scope_view, prices, found_meant, f
 ghost use Rattle.rule_expand.specs.Table.{AreTables};
 
 use crate::plain::Subject;
-use crate::table::{Tables, position_of};
+use crate::table::Tables;
 use geo_tokens::name::Name;
 use problem_text::problem::{ParamDef, Problem};
 use problem_text::tree::MacroBody;
+use rule_names::table::position_of;
 use rule_syntax::tree::{Argument, Expr, Formula, PlacedName};
 
 /// The names in sight, the innermost first. The objects' names are always in sight.
@@ -57,7 +58,7 @@ pub struct FormulaMacro<'a> {
 }
 
 /// Which of the first parameters has this name.
-fn parameter_index(params: &[ParamDef], count: usize, name: &Name) -> Option<usize>
+pub fn parameter_index(params: &[ParamDef], count: usize, name: &Name) -> Option<usize>
     ensures { result ≡ position (λ q. bytes_eq name.now q.name) (take count params.now) }
 {
     params.iter().take(count).position(|q| *name == q.name)
@@ -69,7 +70,7 @@ fn object_named<'a>(problem: &Problem, tables: &Tables, name: &Name) -> Found<'a
     ensures meant { found_meant problem.now result ≡ meant_by problem.now name.now [] }
     ensures cost { found_cost problem.now result ≡ 0 }
 {
-    match position_of(&tables.objects, name.as_bytes()) {
+    match position_of(&tables.names.objects, name.as_bytes()) {
         Some(o) => Found::Subject(Subject::Object(o)),
         None => Found::Nothing,
     }
@@ -146,7 +147,7 @@ pub fn value_macro<'a>(
     requires { AreTables problem.now tables.now }
     ensures { MatchOption result (IsNoValueMacro problem.now in_sight name.now) (λ v. IsValueMacro problem.now in_sight name.now v) }
 {
-    match position_of(&tables.macros, name.as_bytes()) {
+    match position_of(&tables.names.macros, name.as_bytes()) {
         Some(index) => {
             let macros = problem.macros();
             if index >= in_sight {
@@ -176,7 +177,7 @@ pub fn formula_macro<'a>(
     requires { AreTables problem.now tables.now }
     ensures { MatchOption result (IsNoFormulaMacro problem.now in_sight name.now) (λ v. IsFormulaMacro problem.now in_sight name.now v) }
 {
-    match position_of(&tables.macros, name.as_bytes()) {
+    match position_of(&tables.names.macros, name.as_bytes()) {
         Some(index) => {
             let macros = problem.macros();
             if index >= in_sight {

@@ -1,7 +1,6 @@
 -- Each turn of the search, from what stands before it to what stands behind it.
-use Rattle.std.proofs.Common.{◌≡◌, ◌<◌, ◌≤◌, ◌≤ℤ◌, ◌+◌, ◌-◌, ◌*◌, ℕ, ℤ, true, false, length, subst, sym, ◌∙◌, ap, arith, refl}
-use Rattle.problem_text.specs.Tuple.{object_of}
-use Rattle.geost_run.specs.Placing.{range_for, object_at, rest, rest_from, AgreesBefore, AgreesUpTo, Searched}
+use Rattle.std.proofs.Common.{◌≡◌, ◌≤ℤ◌, false, length, subst, sym, ap, arith}
+use Rattle.geost_run.specs.Placing.{range_for, object_at, rest_from, AgreesUpTo, Searched}
 use Rattle.geost_run.proofs.Placed.{placed_along, placed_next}
 use Rattle.geost_run.proofs.Trying.{agrees_on, agrees_up_to_on, agrees_less, in_ranges_along, in_ranges_more}
 use Rattle.geost_run.proofs.Turns.{leaf, misfit, passed_on, value_found, value_missed, place_found, place_missed, fewer_places}

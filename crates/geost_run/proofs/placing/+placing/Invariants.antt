@@ -1,6 +1,5 @@
 -- The search ends: each call has fewer variables left.
-use Rattle.std.proofs.Common.{◌≡◌, ◌+◌, ◌-◌, ◌*◌, ℕ, length}
-use Rattle.geo_base.specs.Tuple.{spot}
+use Rattle.std.proofs.Common.{◌+◌, ◌-◌, ◌*◌, length}
 use Rattle.geost_run.proofs.Turns.{TryingValues, TryingPlaces}
 use Rattle.geost_run.proofs.placing.+placing.Given as goal
 

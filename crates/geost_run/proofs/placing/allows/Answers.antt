@@ -1,9 +1,9 @@
-use Rattle.std.proofs.Common.{◌≡◌, ℕ, List, map, true, false, subst, sym, ◌∙◌, ap}
+use Rattle.std.proofs.Common.{◌≡◌, map, subst, sym, ◌∙◌, ap}
 use Rattle.std.specs.Bool.{OnTrue, OnFalse}
-use Rattle.problem_text.specs.Problem.{RangeData, DemandData, within}
+use Rattle.problem_text.specs.Problem.{within}
 use Rattle.problem_text.specs.ProblemView.{range_data, demand_data}
 use Rattle.problem_text.specs.Cells.{LiesWithin}
-use Rattle.geost_run.specs.Placing.{object_at, Allows}
+use Rattle.geost_run.specs.Placing.{Allows}
 use Rattle.geost_run.proofs.placing.allows.Goals as goal
 
 pub returns-in-Within-clause-yes : goal.returns-in-Within-clause-yes

@@ -1,4 +1,4 @@
-use Rattle.std.proofs.Common.{ℕ, ℤ, List, subst, below_more, arith}
+use Rattle.std.proofs.Common.{ℕ, subst, below_more, arith}
 use Rattle.problem_text.specs.Cells.{IsCellOf, NoCommonCell}
 use Rattle.geost_run.specs.Placing.{object_at}
 use Rattle.geost_run.proofs.placing.is_apart.Goals as goal

@@ -1,4 +1,3 @@
-use Rattle.std.proofs.Common.{◌≡◌}
 use Rattle.geost_run.proofs.Turns.{place_set}
 use Rattle.geost_run.proofs.placing.put_place.Goals as goal
 

@@ -1,4 +1,4 @@
-use Rattle.std.proofs.Common.{◌≡◌, ℕ, ℤ, to_z, of_z, w64, ◌∙◌, ap, arith}
+use Rattle.std.proofs.Common.{◌≡◌, to_z, of_z, w64, ◌∙◌, ap, arith}
 use Rattle.std.proofs.lemmas.Int.{ints}
 use Rattle.problem_text.specs.Tuple.{object_of}
 use Rattle.problem_text.specs.Cells.{range_at}

@@ -2,7 +2,7 @@ use Rattle.std.proofs.Common.{◌≡◌, ◌<◌, ℕ, List, map, length, get_or
 use Rattle.std.specs.Prelude.{All}
 use Rattle.std.proofs.lemmas.List.{get_or-map, length-map}
 use Rattle.problem_text.specs.declared.problem.RangeDef.{RangeDef}
-use Rattle.problem_text.specs.Problem.{RangeData, ObjectData}
+use Rattle.problem_text.specs.Problem.{ObjectData}
 use Rattle.problem_text.specs.ProblemView.{range_data}
 use Rattle.problem_text.specs.WellFormed.{IsRange, IsObject}
 use Rattle.geost_run.proofs.placing.range_of.Goals as goal

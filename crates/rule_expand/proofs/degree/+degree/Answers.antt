@@ -1,7 +1,7 @@
-use Rattle.std.proofs.Common.{◌≡◌, ◌∙◌, ◌||◌, ap, arith}
+use Rattle.std.proofs.Common.{◌∙◌, ◌||◌, ap, arith}
 use Rattle.rule_expand.specs.PlainView.{plain_product_view}
 use Rattle.rule_expand.specs.Degree.{product_breaks}
-use Rattle.rule_expand.proofs.Degrees.{sums-left-init, sums-left-step, sums-left-have, sums-left-break, products-left-init, products-left-step, products-left-have, products-left-break}
+use Rattle.rule_expand.proofs.Degrees.{sums-left-step, sums-left-have, sums-left-break, products-left-init, products-left-step, products-left-have, products-left-break}
 use Rattle.rule_expand.proofs.degree.+degree.Goals as goal
 
 pub products_degree-loop-step-init : goal.products_degree-loop-step-init

@@ -1,5 +1,5 @@
-use Rattle.std.proofs.Common.{◌≡◌, ◌∙◌, ap, sym, map, subst, arith}
-use Rattle.std.specs.Option.{option_map_or}
+use Rattle.std.proofs.Common.{◌∙◌, ℕ, List, ap, sym, map, length, subst, arith}
+use Rattle.std.specs.Prelude.{Option}
 use Rattle.rule_syntax.specs.Tree as tree
 use Rattle.rule_syntax.specs.View.{expr_view, argument_view}
 use Rattle.rule_expand.specs.Plain.{PlainExprTree}
@@ -7,17 +7,35 @@ use Rattle.rule_expand.specs.Expansion.{arguments_meant, expansions_of}
 use Rattle.rule_expand.specs.Costs.{cost, costs, costs_of}
 use Rattle.rule_expand.specs.Limits.{GivesExpr}
 use Rattle.rule_expand.specs.ScopeView.{scope_view, prices}
+use Rattle.rule_expand.specs.Handed.{IsHandedIndex}
 use Rattle.rule_expand.proofs.Scopes.{prices-parameters}
+use Rattle.rule_expand.proofs.HandedOn.{argument-costs, call-handed}
 use Rattle.rule_expand.proofs.Steps.{sums-step, sums-lack, sums-end, sums-cost-at, products-step, products-lack, products-end, products-cost-at}
 use Rattle.rule_expand.proofs.expressions.+expand.Goals as goal
 
-pub expand_call-expand_expr-requires : goal.expand_call-expand_expr-requires
-expand_call-expand_expr-requires t c =
+pub expand_call-expand_expr-requires-in-None-handed_index : goal.expand_call-expand_expr-requires-in-None-handed_index
+expand_call-expand_expr-requires-in-None-handed_index t c =
     let p = c.args.problem.now in
     let a = prices-parameters p c.in-Some.called.params c.args.args c.args.scope c.args.in_sight in
     let b = c.in-Some.ensures.ends (costs (costs_of p c.args.in_sight) p (tree.arguments (map argument_view c.args.args.now)) (prices p c.args.scope.now)) in
     let h = ap (cost (costs_of p c.in-Some.called.index) p (expr_view c.in-Some.called.body.now)) a ∙ sym b in
     (omega (arith, h), c.requires)
+
+pub expand_call-expand_expr-requires : goal.expand_call-expand_expr-requires
+expand_call-expand_expr-requires t c =
+    let p = c.args.problem.now in
+    let h = c.in-Some-handed_index.ensures.counted in
+    let e = argument-costs (costs_of p c.args.in_sight) p (prices p c.args.scope.now) c.args.args.now c.in-Some-handed_index.i c.index-args-i.result h in
+    (omega (arith, e), c.requires)
+
+pub expand_call-returns-in-Some-handed_index : goal.expand_call-returns-in-Some-handed_index
+expand_call-returns-in-Some-handed_index t c =
+    let p = c.args.problem.now in
+    let P : PlainExprTree → Type 0 = λ e. GivesExpr e c.args.room.now c.args.deep c.expand_expr.new.room c.expand_expr.result in
+    let i : IsHandedIndex c.args.tables.now.handed.items c.in-Some.called.index (length c.args.args.now) c.in-Some-handed_index.i =
+    subst (λ (hs : List (Option ℕ)). IsHandedIndex hs c.in-Some.called.index (length c.args.args.now) c.in-Some-handed_index.i) c.as_slice.ensures.value c.in-Some-handed_index.ensures in
+    subst P (sym (call-handed p c.args.tables.now.handed.items (expansions_of p c.args.in_sight) c.args.in_sight c.in-Some.called.index c.in-Some-handed_index.i c.args.m.now.name (scope_view p c.args.scope.now) c.args.args.now c.index-args-i.result
+    c.requires.handed i c.in-Some.ensures.at c.in-Some.ensures.in_sight)) c.expand_expr.ensures
 
 pub expand_call-returns-in-None : goal.expand_call-returns-in-None
 expand_call-returns-in-None t c =

@@ -1,4 +1,4 @@
-use Rattle.std.proofs.Common.{◌≡◌, ◌+◌, ◌*◌, ◌≤◌, map, take, sum}
+use Rattle.std.proofs.Common.{◌+◌, ◌*◌, map, sum}
 use Rattle.std.specs.Option.{option_map_or}
 use Rattle.rule_syntax.specs.Tree as tree
 use Rattle.rule_syntax.specs.View.{expr_view, sum_view, product_view, argument_view}

@@ -1,4 +1,4 @@
-use Rattle.std.proofs.Common.{◌≡◌, ◌∙◌, ap, sym, map, subst, arith}
+use Rattle.std.proofs.Common.{◌∙◌, ap, sym, map, subst, arith}
 use Rattle.rule_syntax.specs.Tree as tree
 use Rattle.rule_syntax.specs.View.{formula_view, argument_view}
 use Rattle.rule_expand.specs.Expansion.{arguments_meant, expansions_of, formula_expanded}

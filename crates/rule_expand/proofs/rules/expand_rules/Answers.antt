@@ -1,9 +1,9 @@
-use Rattle.std.proofs.Common.{◌≡◌, ◌∙◌, ap, sym, arith, map}
-use Rattle.std.specs.Prelude.{Option, None, Some}
+use Rattle.std.proofs.Common.{◌∙◌, ap, sym, arith, map}
+use Rattle.std.specs.Prelude.{None, Some}
 use Rattle.std.specs.Option.{option_map_or}
 use Rattle.geo_tokens.specs.declared.fault.TextFault.TheVariants.{At}
 use Rattle.geo_tokens.specs.declared.fault.FaultWord.TheVariants.{Expand}
-use Rattle.rule_expand.specs.Rules.{plain_rule_data, rule_expanded, rules_expanded, first_place, is_large}
+use Rattle.rule_expand.specs.Rules.{rule_expanded, first_place, is_large}
 use Rattle.rule_expand.proofs.Wholes.{skip-item, take-item, none-left, made-step, made-all}
 use Rattle.rule_expand.proofs.rules.expand_rules.Goals as goal
 

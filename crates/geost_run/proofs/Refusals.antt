@@ -1,0 +1,41 @@
+-- A text is accepted or refused, and not both.
+use Rattle.std.proofs.Common.{◌≡◌, ℕ, List, sym, ◌∙◌, subst}
+use Rattle.std.specs.Prelude.{Option, None, Some, Err}
+use Rattle.geo_tokens.specs.declared.fault.FaultWord.{FaultWord}
+use Rattle.geo_tokens.specs.declared.fault.TextFault.{TextFault}
+use Rattle.geo_tokens.specs.declared.fault.TextFault.TheVariants as faults
+use Rattle.problem_text.specs.Problem.{ProblemData}
+use Rattle.problem_text.specs.FirstFault.{Accepts, AnswersProblem}
+use Rattle.problem_text.proofs.OneProblem.{accepted_once, accepted_not_refused}
+use Rattle.rule_names.specs.Answers.{AreNamesRight, HasFirstMistake, AnswersNames}
+use Rattle.rule_expand.specs.Rules.{expansion_fault, IsFaultOf}
+use Rattle.geost_run.specs.Accepted.{IsAccepted, IsRefused, unread, misnamed, unexpanded, AnswersAccepted}
+
+pub same_problem : (text : List ℕ) (p q : ProblemData) → IsAccepted text p → IsAccepted text q → p ≡ q
+same_problem text p q a b = accepted_once text p q a.spells b.spells
+
+right_or_wrong : (p : ProblemData) (place : ℕ) (word : FaultWord) → AreNamesRight p → HasFirstMistake p place word → ⊥
+right_or_wrong p place word right h = right h.mistake h.first.there
+
+within_or_large : (o : Option TextFault) (f : TextFault) → o ≡ None → o ≡ Some f → ⊥
+within_or_large o f e g = let none : None ≡ Some f = sym e ∙ g in absurd cc
+
+pub not_refused : (text : List ℕ) (p : ProblemData) (place : ℕ) (word : FaultWord) → IsAccepted text p → IsRefused text place word → ⊥
+not_refused text p place word a (unread f) = accepted_not_refused text p place word a.spells f
+not_refused text p place word a (misnamed q b h) = right_or_wrong p place word a.names (subst (λ (x : ProblemData). HasFirstMistake x place word) (accepted_once text q p b a.spells) h)
+not_refused text p place word a (unexpanded q b right e) =
+    within_or_large (expansion_fault p) (faults.At place word) a.expands (subst (λ (x : ProblemData). expansion_fault x ≡ Some (faults.At place word)) (accepted_once text q p b a.spells) e)
+
+-- ---- what the calls answered
+
+pub refused_unread : (text : List ℕ) (f : TextFault) → AnswersProblem (Err f) text → AnswersAccepted (Err f) text
+refused_unread text (faults.At place word) h = unread h
+refused_unread text faults.Memory h = tt
+
+pub refused_misnamed : (A : Type 0) (text : List ℕ) (p : ProblemData) (f : TextFault) → Accepts text p → AnswersNames {A = A} (Err f) p → AnswersAccepted (Err f) text
+refused_misnamed A text p (faults.At place word) a h = misnamed p a h
+refused_misnamed A text p faults.Memory a h = tt
+
+pub refused_unexpanded : (text : List ℕ) (p : ProblemData) (f : TextFault) → Accepts text p → AreNamesRight p → IsFaultOf (expansion_fault p) f → AnswersAccepted (Err f) text
+refused_unexpanded text p (faults.At place word) a right h = unexpanded p a right h
+refused_unexpanded text p faults.Memory a right h = tt

@@ -1,0 +1,6 @@
+pub mod Firsts
+pub mod Tables
+pub mod Attributes
+pub mod Sights
+pub mod Passed
+pub mod Listed
