@@ -124,3 +124,14 @@ names_at_least n children o =
     let row = row_of (AtLeast n children) in
     let same = items_hidden-the_row-Cond-0 children.items in
     any_named row.0 row.1 o ∙ ap (list_any (names o)) same
+
+disjunctions_back : (n : _) (row : Row_of-Cond n) (o : ℕ) → All (IsDisjunction o) (items-the_row-Cond n row) → AreDisjunctions o row
+disjunctions_back n end_of-Cond o h = tt
+disjunctions_back n (more_of-Cond c cs) o h = (All-head (IsDisjunction o) c _ h, disjunctions_back _ cs o (All-tail (IsDisjunction o) c _ h))
+
+-- a condition that asks for one of its parts, each a disjunction, is one
+pub disjunction_in : (n : ℤ) (children : Conds) (o : ℕ) → n ≡ pos 1 → All (IsDisjunction o) children.items.items → IsDisjunction o (AtLeast n children)
+disjunction_in n children o one h =
+    let row = row_of (AtLeast n children) in
+    let same = items_hidden-the_row-Cond-0 children.items in
+    (one, disjunctions_back row.0 row.1 o (subst (All (IsDisjunction o)) (sym same) h))

@@ -4,3 +4,7 @@ pub mod Widened
 pub mod SamePlaces
 pub mod Children
 pub mod Tried
+pub mod Overlapping
+pub mod ApartForm
+pub mod PutBoxes
+pub mod TwoLengths

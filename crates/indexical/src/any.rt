@@ -1,18 +1,29 @@
-ghost use Rattle.std.specs.Prelude.{◌≡◌, ◌==◌, ◌≤◌, not};
+ghost use Rattle.std.specs.Prelude.{◌≡◌, ◌==◌, ◌<◌, ◌≤◌, not, is_some, true, length, MatchOption};
 ghost use Rattle.std.specs.List.{list_any};
+ghost use Rattle.std.specs.Option.{ForSome};
+ghost use Rattle.geo_base.specs.Boxes.{Has};
+ghost use Rattle.geo_conditions.specs.Reach.{with_at, just};
+ghost use Rattle.geo_conditions.specs.Regions.{region_of};
 ghost use Rattle.geo_conditions.specs.Conditions.{possible, FitsIn};
+ghost use Rattle.indexical.specs.Apart.{SaysApart};
+ghost use Rattle.indexical.specs.Forbidden.{IsForbiddenBox};
 ghost use Rattle.indexical.specs.Names.{names};
 
+use super::apart::ApartIndexical;
 use super::indexical::Indexical;
 use super::tree::forbid_tree;
+use super::two_boxes::two_boxes;
 use geo_base::{KBox, MAX_DIMS, Point, Steps, Way};
 use geo_conditions::{Cond, Form, ObjId, State, refuted};
 use std::sync::ledger::Ledger;
 
-/// A condition of any kind.
+/// A condition of any kind. One that says that two boxes do not overlap is met by its boxes, each
+/// other one by its tree.
 #[derive(Drop)]
 pub struct AnyIndexical<const K: usize> {
     cond: Cond,
+    boxes: Option<ApartIndexical<K>>,
+    ghost says: { ForSome boxes (λ x. SaysApart x.first x.second x.short cond) },
 }
 
 impl<const K: usize> AnyIndexical<K> {
@@ -20,14 +31,25 @@ impl<const K: usize> AnyIndexical<K> {
     pub fn from_cond(c: Cond) -> AnyIndexical<K>
         ensures { result.cond ≡ c }
     {
-        AnyIndexical { cond: c }
+        let boxes = two_boxes(&c);
+        AnyIndexical { cond: c, boxes }
+    }
+
+    /// Whether the condition is met by two boxes.
+    pub fn has_boxes(&self) -> bool
+        ensures { result ≡ is_some self.now.boxes }
+    {
+        self.boxes.is_some()
     }
 
     /// Whether the condition names the object.
     pub fn names(&self, o: ObjId) -> bool
         ensures { result ≡ names o.0 self.now.cond }
     {
-        is_named(&self.cond, o)
+        match &self.boxes {
+            Some(boxes) => boxes.is_of(o),
+            None => is_named(&self.cond, o),
+        }
     }
 
     /// Whether the condition is refuted on the state, which has all objects and dimensions that it
@@ -70,6 +92,30 @@ fn is_named(c: &Cond, o: ObjId) -> bool
     }
 }
 
+/// The forbidden box of a condition of any kind.
+fn forbid_any<const K: usize>(
+    x: &AnyIndexical<K>,
+    s: &State<K>,
+    o: ObjId,
+    place: u8,
+    c: &Point<K>,
+    region: &KBox<K>,
+    way: &Way<K>,
+) -> Option<KBox<K>>
+    requires fits { FitsIn x.now.cond s.now }
+    requires object { o.0 < length s.now }
+    requires inside { Has K region.now.lo.coordinates region.now.hi.coordinates c.now.coordinates }
+    ensures { MatchOption result
+        (possible x.now.cond (with_at s.now o.0 place (just c.now.coordinates)) ≡ true)
+        (λ b. IsForbiddenBox K x.now.cond s.now o.0 place c.now.coordinates
+        (region_of region.now) (region_of b)) }
+{
+    match &x.boxes {
+        Some(boxes) => boxes.overlap(s, o, place, c, region),
+        None => forbid_tree(&x.cond, s, o, place, c, region, way),
+    }
+}
+
 impl<const K: usize> Indexical<K> for AnyIndexical<K> {
     ghost cond = { λ x. x.cond };
 
@@ -84,6 +130,6 @@ impl<const K: usize> Indexical<K> for AnyIndexical<K> {
         steps: &mut Steps<L>,
     ) -> Option<KBox<K>> {
         steps.tick();
-        forbid_tree(&self.cond, s, o, place, c, region, way)
+        forbid_any(self, s, o, place, c, region, way)
     }
 }

@@ -2,12 +2,21 @@
 #![tactic(auto)]
 
 mod any;
+mod apart;
+mod apart_forbid;
+mod counted;
 mod form;
 mod indexical;
+mod overlap;
+mod placed;
 #[cfg(test)]
 mod tests;
 mod tree;
+mod two_boxes;
 
 pub use any::AnyIndexical;
+pub use apart::ApartIndexical;
+pub use counted::Counted;
 pub use indexical::Indexical;
+pub use placed::PlacedBox;
 pub use tree::TreeIndexical;

@@ -2,6 +2,8 @@
 #![tactic(auto)]
 
 mod ask;
+#[cfg(test)]
+mod box_tests;
 mod first_point;
 mod marks;
 mod record;

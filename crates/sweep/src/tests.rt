@@ -194,17 +194,29 @@ fn where_there_is_no_point(rt: HostRuntime) -> Result<(), Fail> {
     Ok(())
 }
 
+/// What a sweep found, with a record and without one.
+type Both = (Option<Point<2>>, Option<Point<2>>);
+
 /// Sweeps a region by the conditions that are there: none.
 fn without_conditions(
     s: &State<2>,
     region: &KBox<2>,
     way: &Way<2>,
     rec: &mut Log,
-) -> Result<Option<Point<2>>, AllocError>
+) -> Result<Both, AllocError>
     requires object { 0 < length s.now }
     requires small { IsSmall 2 region.now.lo.coordinates × IsSmall 2 region.now.hi.coordinates }
 {
-    swept(s, region, &[], &[], way, rec)
+    let found = swept(s, region, &[], &[], way, rec)?;
+    let bare = swept_without(s, region, &[], &[], way, &mut NoRecord::new())?;
+    Ok((found, bare))
+}
+
+/// The coordinates of what both found.
+fn agreed(rt: &impl Abort, both: Both) -> Option<(i64, i64)> {
+    let found = both.0.map(|p| (p.get(0), p.get(1)));
+    assert_eq!(rt; both.1.map(|p| (p.get(0), p.get(1))), found);
+    found
 }
 
 #[test]
@@ -215,14 +227,14 @@ fn a_region_without_conditions(rt: HostRuntime) -> Result<(), Fail> {
     let mut log = Log::new(rt.alloc());
     log.add(Event::Dead(7))?;
     let none = without_conditions(&s, &crossed, &Way::new(0, true), &mut log)?;
-    assert!(rt; none.is_none());
+    assert_eq!(rt; agreed(&rt, none), None);
     assert_eq!(rt; log.events().len(), 2);
     assert!(rt; matches!(log.events().first(), Some(Event::Dead(7))));
     assert!(rt; matches!(log.events().last(), Some(Event::By(1))));
     let first = without_conditions(&s, &region, &Way::new(0, true), &mut log)?;
-    assert_eq!(rt; first.map(|p| (p.get(0), p.get(1))), Some((2, 3)));
+    assert_eq!(rt; agreed(&rt, first), Some((2, 3)));
     let last = without_conditions(&s, &region, &Way::new(0, false), &mut log)?;
-    assert_eq!(rt; last.map(|p| (p.get(0), p.get(1))), Some((5, 6)));
+    assert_eq!(rt; agreed(&rt, last), Some((5, 6)));
     assert_eq!(rt; log.events().len(), 4);
     Ok(())
 }
@@ -234,12 +246,15 @@ fn by_one(
     cond: TreeIndexical,
     way: &Way<2>,
     rec: &mut Log,
-) -> Result<Option<Point<2>>, AllocError>
+) -> Result<Both, AllocError>
     requires object { 0 < length s.now }
     requires fits { FitsIn cond.cond s.now }
     requires small { IsSmall 2 region.now.lo.coordinates × IsSmall 2 region.now.hi.coordinates }
 {
-    swept(s, region, &[cond], &[1], way, rec)
+    let list = [cond];
+    let found = swept(s, region, &list, &[1], way, rec)?;
+    let bare = swept_without(s, region, &list, &[1], way, &mut NoRecord::new())?;
+    Ok((found, bare))
 }
 
 #[test]
@@ -250,7 +265,7 @@ fn past_a_sum(rt: HostRuntime) -> Result<(), Fail> {
     assert!(rt; fits(&sum, &s));
     let way = Way::new(0, true);
     let mut log = Log::new(rt.alloc());
-    let p = by_one(&s, &region, TreeIndexical::new(sum), &way, &mut log)?;
-    assert_eq!(rt; p.map(|p| (p.get(0), p.get(1))), Some((5, 3)));
+    let both = by_one(&s, &region, TreeIndexical::new(sum), &way, &mut log)?;
+    assert_eq!(rt; agreed(&rt, both), Some((5, 3)));
     Ok(())
 }

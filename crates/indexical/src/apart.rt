@@ -1,0 +1,101 @@
+ghost use Rattle.std.specs.Prelude.{ℕ, ◌<◌, ◌≤◌, ◌^◌, length};
+ghost use Rattle.geo_base.specs.declared.TheConstants.{MAX_DIMS};
+ghost use Rattle.indexical.specs.Apart.{apart_parts};
+
+use super::overlap::{must_overlap, overlap_beside};
+use super::placed::PlacedBox;
+use geo_base::{KBox, MAX_DIMS, Point};
+use geo_conditions::{ObjId, State};
+
+/// The condition that two boxes do not overlap: an object has another shape than its box, where its
+/// box has a leaf, or in some dimension one box ends before the other begins. The object with the
+/// lesser number comes first.
+#[derive(Clone, Copy, Debug)]
+pub struct ApartIndexical<const K: usize> {
+    first: PlacedBox<K>,
+    second: PlacedBox<K>,
+    ghost in_order: { first.object.0 < second.object.0 },
+    ghost some: { 0 < K },
+    ghost few: { K ≤ MAX_DIMS },
+    ghost short: { length (apart_parts first second) < 2 ^ 63 },
+}
+
+impl<const K: usize> ApartIndexical<K> {
+    ghost use Rattle.std.specs.Prelude.{◌≡◌, ◌≢◌, ◌↔◌, ◌||◌, ◌==◌, IsTrue, nat_lt, if◌then◌else◌, MatchOption};
+    ghost use Rattle.geo_base.specs.Boxes.{Has};
+    ghost use Rattle.geo_conditions.specs.Reach.{with_at, just};
+    ghost use Rattle.geo_conditions.specs.Conditions.{FitsIn};
+    ghost use Rattle.geo_conditions.specs.Regions.{region_of};
+    ghost use Rattle.indexical.specs.Apart.{apart, MustOverlap, IsOverlapBox};
+    ghost use Rattle.indexical.specs.Disjunctions.{IsDisjunction};
+
+    /// The condition for two boxes of different objects. It takes no memory.
+    pub fn new(a: PlacedBox<K>, b: PlacedBox<K>) -> ApartIndexical<K>
+        requires objects { a.object.0 ≢ b.object.0 }
+        requires some { 0 < K }
+        requires few { K ≤ MAX_DIMS }
+        ensures first { result.first
+            ≡ (if nat_lt a.entry.object.0 b.entry.object.0 then a.entry else b.entry) }
+        ensures second { result.second
+            ≡ (if nat_lt a.entry.object.0 b.entry.object.0 then b.entry else a.entry) }
+        ensures disjunction { (o : ℕ) → IsDisjunction o (apart result.first result.second result.short) }
+    {
+        if a.object().0 < b.object().0 {
+            return ApartIndexical {
+                first: a,
+                second: b,
+            };
+        }
+        ApartIndexical {
+            first: b,
+            second: a,
+        }
+    }
+
+    /// Whether the condition fits the state: both objects are there.
+    pub fn fits(&self, s: &State<K>) -> bool
+        ensures { IsTrue result ↔ FitsIn (apart self.now.first self.now.second self.now.short) s.now }
+    {
+        let objects = s.objects();
+        let first = usize::from(self.first.object().0);
+        let second = usize::from(self.second.object().0);
+        first < objects && second < objects
+    }
+
+    /// Whether the condition names the object.
+    pub fn is_of(&self, o: ObjId) -> bool
+        ensures { result ≡ (self.now.first.object.0 == o.0) || (self.now.second.object.0 == o.0) }
+    {
+        self.first.object().0 == o.0 || self.second.object().0 == o.0
+    }
+
+    /// The part of the region in which the boxes must overlap, where they must at c.
+    pub fn overlap(
+        &self,
+        s: &State<K>,
+        o: ObjId,
+        place: u8,
+        c: &Point<K>,
+        region: &KBox<K>,
+    ) -> Option<KBox<K>>
+        requires first { self.now.first.object.0 < length s.now }
+        requires second { self.now.second.object.0 < length s.now }
+        requires inside { Has K region.now.lo.coordinates region.now.hi.coordinates
+            c.now.coordinates }
+        ensures { MatchOption result
+            (MustOverlap self.now.first self.now.second
+            (with_at s.now o.0 place (just c.now.coordinates)) → ⊥)
+            (λ r. IsOverlapBox self.now.first self.now.second s.now o.0 place c.now.coordinates
+            (region_of region.now) (region_of r)) }
+    {
+        if self.first.object().0 == o.0 {
+            overlap_beside(&self.first, &self.second, s, place, c, region)
+        } else if self.second.object().0 == o.0 {
+            overlap_beside(&self.second, &self.first, s, place, c, region)
+        } else if must_overlap(&self.first, &self.second, s) {
+            Some(*region)
+        } else {
+            None
+        }
+    }
+}

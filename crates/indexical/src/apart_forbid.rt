@@ -1,0 +1,54 @@
+ghost use Rattle.std.specs.Prelude.{◌≡◌, ℕ, ◌<◌, true, length, MatchOption};
+ghost use Rattle.geo_base.specs.Boxes.{Has};
+ghost use Rattle.geo_conditions.specs.Reach.{with_at, just};
+ghost use Rattle.geo_conditions.specs.Conditions.{possible, FitsIn};
+ghost use Rattle.geo_conditions.specs.Regions.{region_of};
+ghost use Rattle.indexical.specs.Apart.{apart};
+ghost use Rattle.indexical.specs.Forbidden.{IsForbiddenBox};
+
+use super::apart::ApartIndexical;
+use super::indexical::Indexical;
+use geo_base::{KBox, Point, Steps, Way};
+use geo_conditions::{ObjId, State};
+use std::sync::ledger::Ledger;
+
+/// The forbidden box of the condition of two boxes.
+fn forbid_apart<const K: usize>(
+    x: &ApartIndexical<K>,
+    s: &State<K>,
+    o: ObjId,
+    place: u8,
+    c: &Point<K>,
+    region: &KBox<K>,
+    _way: &Way<K>,
+) -> Option<KBox<K>>
+    requires fits { FitsIn (apart x.now.first x.now.second x.now.short) s.now }
+    requires object { o.0 < length s.now }
+    requires inside { Has K region.now.lo.coordinates region.now.hi.coordinates c.now.coordinates }
+    ensures { let cond = apart x.now.first x.now.second x.now.short in MatchOption result
+        (possible cond (with_at s.now o.0 place (just c.now.coordinates)) ≡ true)
+        (λ b. IsForbiddenBox K cond s.now o.0 place c.now.coordinates
+        (region_of region.now) (region_of b)) }
+{
+    x.overlap(s, o, place, c, region)
+}
+
+impl<const K: usize> Indexical<K> for ApartIndexical<K> {
+    ghost use Rattle.indexical.specs.Apart.{apart};
+
+    ghost cond = { λ x. apart x.first x.second x.short };
+
+    fn forbid<L: Ledger>(
+        &self,
+        s: &State<K>,
+        o: ObjId,
+        place: u8,
+        c: &Point<K>,
+        region: &KBox<K>,
+        way: &Way<K>,
+        steps: &mut Steps<L>,
+    ) -> Option<KBox<K>> {
+        steps.tick();
+        forbid_apart(self, s, o, place, c, region, way)
+    }
+}
