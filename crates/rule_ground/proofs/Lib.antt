@@ -1,0 +1,11 @@
+pub mod Accepted
+pub mod ApartTruth
+pub mod Cells
+pub mod CondViews
+pub mod Lists
+pub mod Meaning
+pub mod Numbers
+pub mod Placing
+pub mod Starts
+pub mod Truths
+pub mod WithinTruth

@@ -1,0 +1,64 @@
+-- Shapes of objects and their boxes on a tuple.
+use Rattle.std.proofs.Common.{◌≡◌, ◌<◌, ◌≤◌, ◌-◌, ◌==◌, eqb, ℕ, Bool, true, false, not, ◌||◌, List, [], ◌∷◌, length, get_or, refl, sym, subst, ap, arith}
+use Rattle.std.specs.Prelude.{slice_get, Option, None, Some, All, if◌then◌else◌}
+use Rattle.std.specs.List.{list_any}
+use Rattle.std.specs.Option.{option_map_or}
+use Rattle.std.proofs.Math.Logic.{⊎_elim}
+use Rattle.std.proofs.lemmas.Bool.{cases_lt, eq-eqb, ltb-false}
+use Rattle.std.proofs.lemmas.List.{get_or_past}
+use Rattle.std.proofs.lemmas.List.Elements.{All-nil}
+use Rattle.geo_base.specs.Tuple.{Tuple, spot}
+use Rattle.problem_text.specs.Problem.{BoxData, ShapeData, ProblemData}
+use Rattle.problem_text.specs.Tuple.{object_of, boxes_of_shape, boxes_in}
+use Rattle.problem_text.specs.Cells.{IsShaped}
+use Rattle.problem_text.specs.WellFormed.{IsBox, IsWellFormed}
+use Rattle.rule_ground.specs.CondTree.{shape_is_not, true_on}
+use Rattle.rule_ground.specs.Shapes.{IsPlace, boxes_at, has_several, other_shape, IsSmallBox, HasSmallShapes}
+
+-- the boxes of a shape that is not there are none
+shape-boxes : (P : BoxData → Type 0) (p : ProblemData) (n : ℕ) → All (λ s. All P s.boxes) p.shapes → All P (boxes_of_shape p n)
+shape-boxes P p n all = ⊎_elim
+    (λ h. all n (record { name = []; boxes = [] }) h)
+    (λ h. subst (λ (s : ShapeData). All P s.boxes) (sym (get_or_past p.shapes n (record { name = []; boxes = [] }) h)) (All-nil P))
+    (cases_lt n (length p.shapes))
+
+pub boxes-all : (P : BoxData → Type 0) (p : ProblemData) (o s : ℕ) → All (λ s. All P s.boxes) p.shapes → All P (boxes_at p o s)
+boxes-all P p o s all = by_option (if s == 0 then None else slice_get (object_of p o).shapes (s - 1))
+  where
+    by_option : (m : Option ℕ) → All P (option_map_or (boxes_of_shape p) m [])
+    by_option None = All-nil P
+    by_option (Some n) = shape-boxes P p n all
+
+pub boxes-good : (p : ProblemData) (o s : ℕ) → IsWellFormed p → All (IsBox p.dims) (boxes_at p o s)
+boxes-good p o s w = boxes-all (IsBox p.dims) p o s w.boxes
+
+pub boxes-small : (p : ProblemData) (o s : ℕ) → HasSmallShapes p → All IsSmallBox (boxes_at p o s)
+boxes-small p o s h = boxes-all IsSmallBox p o s h.boxes
+
+-- the object's boxes are those at its place
+pub boxes-placed : (p : ProblemData) (t : Tuple) (o s : ℕ) → (spot t o).place ≡ s → boxes_in p t o ≡ boxes_at p o s
+boxes-placed p t o s e = ap (boxes_at p o) e
+
+pub or_false : (b : Bool) → (b || false) ≡ b
+or_false true = refl
+or_false false = refl
+
+pub place-of : (p : ProblemData) (t : Tuple) (o : ℕ) → IsShaped p t → o < length p.objects → IsPlace p o (spot t o).place
+place-of p t o h l = let f = h.each o l in record { object = l; first = f.first; last = f.last }
+
+pub only-one : (n a s : ℕ) → 1 ≤ a → a ≤ n → 1 ≤ s → s ≤ n → n ≤ 1 → false ≡ not (eqb a s)
+only-one n a s h i j k l = let e : a ≡ s = omega arith in ap not (sym (eq-eqb a s e))
+
+-- an object has another shape than the one at a place where its shape is at another place
+pub other-true : (p : ProblemData) (t : Tuple) (o s : ℕ) → IsShaped p t → IsPlace p o s → list_any (true_on t) (other_shape p o s) ≡ not ((spot t o).place == s)
+other-true p t o s h i = by_test (has_several p o) refl
+  where
+    by_test : (b : Bool) → has_several p o ≡ b → list_any (true_on t) (if b then shape_is_not o s ∷ [] else []) ≡ not ((spot t o).place == s)
+    by_test true e = or_false (not ((spot t o).place == s))
+    by_test false e =
+        let f = h.each o i.object in
+        only-one (length (object_of p o).shapes) (spot t o).place s f.first f.last i.first i.last (ltb-false 1 (length (object_of p o).shapes) e)
+
+-- a box of a list of an object's boxes
+pub box-small-at : (p : ProblemData) (o s : ℕ) (xs : List BoxData) (i : ℕ) (x : BoxData) → HasSmallShapes p → xs ≡ boxes_at p o s → x ≡ get_or xs i x → i < length xs → IsSmallBox x
+box-small-at p o s xs i x h e is l = subst IsSmallBox (sym is) (subst (All IsSmallBox) (sym e) (boxes-small p o s h) i x l)

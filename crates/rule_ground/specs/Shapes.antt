@@ -1,0 +1,45 @@
+-- The shapes that an object may have, by their places from 1 in its list, and their boxes.
+use Rattle.std.specs.Prelude.{ℕ, ◌-◌, ◌==◌, ◌≤◌, ◌<◌, nat_lt, Bool, if◌then◌else◌, ℤ, List, [], ◌∷◌, length, slice_get, None, All}
+use Rattle.std.specs.List.{range_with_len}
+use Rattle.std.specs.Option.{option_map_or}
+use Rattle.geo_conditions.specs.declared.form.Term.{Term}
+use Rattle.problem_text.specs.Limits.{IsSmall, IsSize, most_boxes}
+use Rattle.problem_text.specs.Problem.{BoxData, ShapeData, ProblemData}
+use Rattle.problem_text.specs.Tuple.{object_of, boxes_of_shape}
+use Rattle.rule_ground.specs.CondTree.{CondTree, shape_is_not}
+
+-- the places of the shapes of the object o
+abbrev pub places : ProblemData → ℕ → List ℕ
+places p o = range_with_len 1 (length (object_of p o).shapes)
+
+-- s is the place of a shape of the object o
+pub record IsPlace (p : ProblemData) (o s : ℕ) : Type 0 where
+  pub object : o < length p.objects
+  pub first : 1 ≤ s
+  pub last : s ≤ length (object_of p o).shapes
+
+-- the boxes that the object o has with its shape at the place s
+abbrev pub boxes_at : ProblemData → ℕ → ℕ → List BoxData
+boxes_at p o s = option_map_or (boxes_of_shape p) (if s == 0 then None else slice_get (object_of p o).shapes (s - 1)) []
+
+-- the object has several shapes to choose from
+abbrev pub has_several : ProblemData → ℕ → Bool
+has_several p o = nat_lt 1 (length (object_of p o).shapes)
+
+-- the object o has another shape than the one at the place s; nothing, where it has no other one
+abbrev pub other_shape : ProblemData → ℕ → ℕ → List CondTree
+other_shape p o s = if has_several p o then shape_is_not o s ∷ [] else []
+
+-- the coordinate d of the object o with a factor
+abbrev pub term : ℕ → ℕ → ℤ → Term
+term o d factor = record { object = record { 0 = o }; dimension = d; factor = factor }
+
+-- offsets and sizes within the limits of a text
+pub record IsSmallBox (b : BoxData) : Type 0 where
+  pub offsets : All IsSmall b.offsets
+  pub sizes : All IsSize b.sizes
+
+-- each shape has at most 16 boxes, and they are small
+pub record HasSmallShapes (p : ProblemData) : Type 0 where
+  pub few : All (λ (s : ShapeData). length s.boxes ≤ most_boxes) p.shapes
+  pub boxes : All (λ (s : ShapeData). All IsSmallBox s.boxes) p.shapes

@@ -1,0 +1,63 @@
+//! Shapes of objects by their places, and their boxes.
+
+ghost use Rattle.std.specs.Prelude.{◌≡◌, ◌<◌, ◌++◌, All, OnOk, length, map};
+ghost use Rattle.problem_text.specs.Tuple.{object_of};
+ghost use Rattle.problem_text.specs.WellFormed.{IsBox, IsWellFormed};
+ghost use Rattle.rule_ground.specs.CondTree.{cond_view};
+ghost use Rattle.rule_ground.specs.Shapes.{IsPlace, boxes_at, has_several, other_shape};
+
+use geo_conditions::{Cond, Conds, ObjId};
+use problem_text::problem::{BoxDef, Problem};
+use std::alloc::AllocError;
+
+/// A shape of an object, by its place from 1 in the object's list.
+#[derive(Clone, Copy)]
+pub struct Placed {
+    pub object: ObjId,
+    pub place: u8,
+}
+
+// The boxes that the object has with that shape.
+pub fn boxes<'a>(problem: &'a Problem, at: Placed) -> &'a [BoxDef]
+    requires problem { IsWellFormed problem.now }
+    requires at { IsPlace problem.now at.object.0 at.place }
+    ensures same { result.now ≡ boxes_at problem.now at.object.0 at.place }
+    ensures boxes { All (IsBox problem.now.dims) result.now }
+{
+    let object = &problem.objects()[at.object.0 as usize];
+    let number = object.shapes()[at.place as usize - 1];
+    problem.shapes()[number as usize].boxes()
+}
+
+// Whether the object has several shapes to choose from.
+pub fn has_several(problem: &Problem, o: ObjId) -> bool
+    requires problem { IsWellFormed problem.now }
+    requires o { o.0 < length problem.now.objects }
+    ensures { result ≡ has_several problem.now o.0 }
+{
+    let object = &problem.objects()[o.0 as usize];
+    object.shapes().len() > 1
+}
+
+// How many shapes the object may have.
+pub fn places(problem: &Problem, o: ObjId) -> u8
+    requires problem { IsWellFormed problem.now }
+    requires o { o.0 < length problem.now.objects }
+    ensures { result ≡ length (object_of problem.now o.0).shapes }
+{
+    let object = &problem.objects()[o.0 as usize];
+    object.shapes().len() as u8
+}
+
+// Appends that the object has another shape, where it may have one.
+pub fn push_other_shape(problem: &Problem, at: Placed, parts: &mut Conds) -> Result<(), AllocError>
+    requires problem { IsWellFormed problem.now }
+    requires at { IsPlace problem.now at.object.0 at.place }
+    ensures { OnOk result (map cond_view parts.new.items.items
+        ≡ map cond_view parts.old.items.items ++ other_shape problem.now at.object.0 at.place) }
+{
+    if has_several(problem, at.object) {
+        parts.push(Cond::NotShape(at.object, at.place))?;
+    }
+    Ok(())
+}

@@ -1,0 +1,48 @@
+//! The state in which a search begins.
+
+ghost use Rattle.std.specs.Prelude.{◌≡◌, ◌↔◌, ◌≤◌, IfOk, length};
+ghost use Rattle.geo_base.specs.declared.TheConstants.{MAX_DIMS};
+ghost use Rattle.geo_base.specs.Tuple.{Tuple};
+ghost use Rattle.geo_conditions.specs.Reach.{TupleIn};
+ghost use Rattle.geo_conditions.specs.Regions.{region_of};
+ghost use Rattle.problem_text.specs.Cells.{IsTuple};
+ghost use Rattle.problem_text.specs.WellFormed.{IsWellFormed};
+ghost use Rattle.rule_ground.specs.Start.{HasSmallEnds, first_state, whole_region};
+
+use geo_base::{KBox, Point};
+use geo_conditions::State;
+use problem_text::problem::{ObjectDef, Problem};
+use std::alloc::{AllocError, Global};
+
+// The points that the ranges of an object allow.
+fn region<const K: usize>(object: &ObjectDef) -> KBox<K>
+    requires { length object.now.ranges ≡ K }
+    ensures { region_of result ≡ whole_region object.now }
+{
+    let ranges = object.ranges();
+    let mut lo = Point::filled(0);
+    let mut hi = Point::filled(0);
+    for d in 0..K {
+        let range = ranges[d];
+        lo.set(d, range.low);
+        hi.set(d, range.high);
+    }
+    KBox::new(lo, hi)
+}
+
+/// The state in which a search for a layout of the problem begins: each object has all its shapes, by their places from 1,
+/// and its ranges. Its tuples are those of the problem. K is the number of dimensions.
+pub fn start_state<const K: usize>(alloc: Global, problem: &Problem) -> Result<State<K>, AllocError>
+    requires problem { IsWellFormed problem.now }
+    requires dims { problem.now.dims ≡ K }
+    ensures value { IfOk result (λ s. s ≡ first_state problem.now) }
+    ensures tuples { IfOk result (λ s. (t : Tuple) → TupleIn t s ↔ IsTuple problem.now t) }
+    ensures ends { IfOk result HasSmallEnds }
+{
+    let mut state = State::new(alloc);
+    for object in problem.objects() {
+        let shapes = object.shapes().len() as u8;
+        state.add_object(shapes, region(object))?;
+    }
+    Ok(state)
+}
