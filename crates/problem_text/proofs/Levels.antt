@@ -25,36 +25,36 @@ use Rattle.problem_text.proofs.Right.{problem_good}
 kind_step : (k : Kind) → Step (Tok (class_of k ∷ [])) (Tok (class_of k ∷ []))
 kind_step k = tok_step (class_of k ∷ []) (of_kind k) (has_self k)
 
-word_step : (k : Keyword) → Step (Tok (word k)) (Tok (word k))
+pub word_step : (k : Keyword) → Step (Tok (word k)) (Tok (word k))
 word_step k = kind_step (kinds.Word k)
 
-symbol_step : (s : Sym) → Step (Tok (symbol s)) (Tok (symbol s))
+pub symbol_step : (s : Sym) → Step (Tok (symbol s)) (Tok (symbol s))
 symbol_step s = kind_step (kinds.Symbol s)
 
-number_step : Step (Tok numbers) (Tok numbers)
+pub number_step : Step (Tok numbers) (Tok numbers)
 number_step = kind_step (kinds.Number 0)
 
-named_step : (text : List ℕ) → Step (Named text) (Named text)
+pub named_step : (text : List ℕ) → Step (Named text) (Named text)
 named_step text = bind_step _ _ _ _ (kind_step kinds.Name) (λ t. pure_step _)
 
 -- ---- lists
 
 module _ {A : Type 0} (L M : Lang A) (s : Step L M) where
-  one_or_more_step : Step (OneOrMore L) (OneOrMore M)
+  pub one_or_more_step : Step (OneOrMore L) (OneOrMore M)
   one_or_more_step = bind_step L M _ _ s (λ a. bind_step _ _ _ _ (many_step L M s) (λ others. pure_step _))
 
-  listed_step : Step (Listed L) (Listed M)
+  pub listed_step : Step (Listed L) (Listed M)
   listed_step = bind_step L M _ _ s (λ a. bind_step _ _ _ _ (many_step _ _ (bind_step _ _ _ _ (symbol_step symbols.Comma) (λ mark. s))) (λ others. pure_step _))
 
 -- ---- statements that open no level
 
-int_step : Step IntWords IntWords
+pub int_step : Step IntWords IntWords
 unfolding IntWords
 int_step = either_step _ _ _ _
     (bind_step _ _ _ _ (symbol_step symbols.Minus) (λ m. bind_step _ _ _ _ number_step (λ n. pure_step _)))
     (bind_step _ _ _ _ number_step (λ n. pure_step _))
 
-range_step : Step RangeWords RangeWords
+pub range_step : Step RangeWords RangeWords
 unfolding RangeWords
 range_step = bind_step _ _ _ _ int_step (λ a. bind_step _ _ _ _ (symbol_step symbols.DotDot) (λ d. bind_step _ _ _ _ int_step (λ b. pure_step _)))
 

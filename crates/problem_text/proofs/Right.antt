@@ -20,7 +20,7 @@ use Rattle.problem_text.specs.Reading.{one_or_more_at, next_at, listed_at, plain
 
 -- ---- lists
 
-one_or_more_good : {A : Type 0} {L : Lang A} {r : List Token → Read A} {f e : Kinds} → disjoint e f ≡ true → disjoint e (f ++ []) ≡ true → disjoint (f ++ e) [] ≡ true → Good L r false f e → Good (OneOrMore L) (one_or_more_at f r) false (f ++ []) ((f ++ e) ++ e)
+pub one_or_more_good : {A : Type 0} {L : Lang A} {r : List Token → Read A} {f e : Kinds} → disjoint e f ≡ true → disjoint e (f ++ []) ≡ true → disjoint (f ++ e) [] ≡ true → Good L r false f e → Good (OneOrMore L) (one_or_more_at f r) false (f ++ []) ((f ++ e) ++ e)
 one_or_more_good d g i l = bind_good g l (λ a. bind_good i (many_good d l) (λ others. pure_good _))
 
 -- what stands behind a comma
@@ -42,7 +42,7 @@ pub int_good : Good IntWords int_at false int_firsts []
 unfolding IntWords int_at
 int_good = either_good refl negative_int_good plain_int_good
 
-ints_good : Good (OneOrMore IntWords) ints_at false int_firsts int_firsts
+pub ints_good : Good (OneOrMore IntWords) ints_at false int_firsts int_firsts
 unfolding ints_at
 ints_good = one_or_more_good refl refl refl int_good
 
