@@ -1,0 +1,5 @@
+pub mod Calm
+pub mod Elements
+pub mod Fields
+pub mod Shapes
+pub mod View
