@@ -1,1 +1,3 @@
 pub mod Corners
+pub mod Pairs
+pub mod Rules
