@@ -1,10 +1,10 @@
 -- The lines and the groups of a layout, part by part.
-use Rattle.std.proofs.Common.{◌≡◌, ◌<◌, ◌≤◌, ◌+◌, ℕ, List, [], ◌∷◌, ◌++◌, length, take, drop, get_or, ap, sym, ◌∙◌, arith, add_comm, zero-add, refl}
+use Rattle.std.proofs.Common.{◌≡◌, ◌<◌, ◌≤◌, ◌+◌, ℕ, [], ◌∷◌, ◌++◌, length, take, drop, get_or, ap, ◌∙◌, arith, add_comm, zero-add, refl}
 use Rattle.std.specs.Prelude.{flat_map}
 use Rattle.std.specs.List.{range_with_len}
 use Rattle.std.proofs.lemmas.List.FromFn.{get_or-range_with_len, length-range_with_len}
 use Rattle.std.proofs.lemmas.List.{get_or-drop}
-use Rattle.geo_base.specs.Tuple.{Spot, Tuple, spot, nothing_put}
+use Rattle.geo_base.specs.Tuple.{Tuple, spot, nothing_put}
 use Rattle.geo_chan.proofs.Pieces.{one_more, stopped_at, all_of_them}
 use Rattle.problem_text.specs.Problem.{ProblemData}
 use Rattle.layout_text.specs.Block.{line_of, lines_of, group_of, later_group, token_of}

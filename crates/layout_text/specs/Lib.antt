@@ -1,1 +1,7 @@
 pub mod Block
+pub mod Tree
+pub mod View
+pub mod Grammar
+pub mod Reading
+pub mod Faults
+pub mod FirstFault

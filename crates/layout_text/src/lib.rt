@@ -1,6 +1,22 @@
-//! The texts of layouts: the layout block and the token.
+//! The texts of layouts: the layout block and the token are written, and a layout text is read.
+//!
+//! A text is read in four steps: tokens, what they say (`syntax`), its first fault (`faults`), and the tuple that it gives
+//! (`build`).
 #![tactic(auto)]
 
 mod block;
+mod build;
+mod faults;
+mod groups;
+mod laws;
+mod lines;
+mod names;
+mod read;
+mod syntax;
+#[cfg(test)]
+mod tests;
+mod tree;
 
 pub use block::{print_layout, print_token};
+pub use laws::texts_are_read_back;
+pub use read::read_layout;

@@ -1,4 +1,4 @@
-use Rattle.std.proofs.Common.{◌≡◌, ◌<◌, length, drop, ◌+◌, ℕ, ℤ, pos, subst, sym, arith}
+use Rattle.std.proofs.Common.{drop, ◌+◌, pos, arith}
 use Rattle.std.specs.Prelude.{flat_map}
 use Rattle.std.proofs.lemmas.Result.{err_from_is_err_and}
 use Rattle.geo_base.specs.Tuple.{spot}

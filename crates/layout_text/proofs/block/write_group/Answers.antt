@@ -1,9 +1,9 @@
-use Rattle.std.proofs.Common.{◌≡◌, [], ◌++◌, refl, sym, ◌∙◌, append_assoc}
-use Rattle.std.specs.Prelude.{codes, flat_map, decimal}
+use Rattle.std.proofs.Common.{refl}
+use Rattle.std.specs.Prelude.{codes}
 use Rattle.std.proofs.lemmas.Result.{err_from_is_err_and}
 use Rattle.geo_base.specs.Tuple.{spot}
-use Rattle.geo_chan.proofs.Appending.{wrote_none, wrote_first, wrote_ok, wrote_err, wrote_then}
-use Rattle.layout_text.specs.Block.{coordinates, head_of, line_of, lines_of, group_of, later_group, token_of, token_line, block_of}
+use Rattle.geo_chan.proofs.Appending.{wrote_none, wrote_first, wrote_err, wrote_then}
+use Rattle.layout_text.specs.Block.{coordinates}
 use Rattle.layout_text.proofs.block.write_group.Goals as goal
 
 pub returns-in_err-write_place : goal.returns-in_err-write_place

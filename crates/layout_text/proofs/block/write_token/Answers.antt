@@ -1,6 +1,4 @@
-use Rattle.std.proofs.Common.{◌≡◌, ◌<◌, length, refl, arith}
-use Rattle.std.specs.Prelude.{flat_map}
-use Rattle.geo_base.specs.Tuple.{spot}
+use Rattle.std.proofs.Common.{arith}
 use Rattle.geo_chan.proofs.Appending.{wrote_first, wrote_then}
 use Rattle.layout_text.proofs.Parts.{token_parts}
 use Rattle.layout_text.proofs.block.write_token.Goals as goal

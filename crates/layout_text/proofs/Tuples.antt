@@ -1,0 +1,147 @@
+-- Lines without a fault are one for each object, and what they give is a tuple.
+use Rattle.std.proofs.Common.{◌≡◌, ℕ, zero, suc, ◌+◌, ◌<◌, ◌≤◌, ℤ, pos, List, [], ◌∷◌, ◌++◌, length, map, take, get_or, Option, Some, None, inl, inr, ⊎_elim, refl, sym, ap, ◌∙◌, subst, arith}
+use Rattle.std.specs.Prelude.{slice_get}
+use Rattle.std.proofs.lemmas.Bool.{cases_lt}
+use Rattle.std.proofs.lemmas.Option.{slice_get-get_or}
+use Rattle.std.proofs.lemmas.List.{length-map, length-take-le, get_or-map}
+use Rattle.geo_tokens.specs.declared.fault.FaultWord.TheVariants as words
+use Rattle.geo_base.specs.Tuple.{nothing_put}
+use Rattle.geo_base.specs.Boxes.{coordinate}
+use Rattle.rule_syntax.specs.declared.tree.PlacedName.{PlacedName}
+use Rattle.problem_text.specs.declared.tree.Int.{Int}
+use Rattle.problem_text.specs.Problem.{RangeData, ObjectData, ProblemData}
+use Rattle.problem_text.specs.Tuple.{Spot, Tuple, spot, object_of}
+use Rattle.problem_text.specs.Meaning.{number_of, position_of}
+use Rattle.problem_text.specs.Least.{fault}
+use Rattle.problem_text.specs.Faults.{int_place}
+use Rattle.problem_text.specs.Cells.{range_at, HasForm, IsSpotOf, IsTuple}
+use Rattle.problem_text.specs.WellFormed.{IsObject, IsWellFormed}
+use Rattle.problem_text.proofs.Signs.{at_most}
+use Rattle.problem_text.proofs.NoFault.{NoFault, none_among, counted}
+use Rattle.problem_text.proofs.Positions.{Made, made_or_not}
+use Rattle.layout_text.specs.Tree.{LineTree, LayoutTree}
+use Rattle.layout_text.specs.Faults.{shape_names, name_of_shape, spot_of, spots_of, tuple_of, IsInRange, OutsideFault, LineFault, behind_lines, IsFault}
+use Rattle.layout_text.specs.FirstFault.{Accepts}
+
+abbrev pub nothing : PlacedName
+nothing = record { place = 0; name = [] }
+
+-- no line, and no object
+abbrev pub no_line : LineTree
+no_line = record { name = nothing; shape = nothing; origin = [] }
+
+abbrev pub no_object : ObjectData
+no_object = record { name = []; shapes = []; ranges = []; attributes = [] }
+
+-- ---- the list of spots
+
+pub spots_length : (p : ProblemData) (os : List ObjectData) (ls : List LineTree) → length ls ≡ length os → length (spots_of p os ls) ≡ length os
+spots_length p [] [] e = refl
+spots_length p [] (l ∷ ls) e = refl
+spots_length p (o ∷ os) [] e = absurd (omega arith)
+spots_length p (o ∷ os) (l ∷ ls) e = let same : length ls ≡ length os = omega arith in ap suc (spots_length p os ls same)
+
+pub spot_at : (p : ProblemData) (os : List ObjectData) (ls : List LineTree) (i : ℕ) → i < length os → i < length ls → get_or (spots_of p os ls) i nothing_put ≡ spot_of p (get_or os i no_object) (get_or ls i no_line)
+spot_at p [] ls i h g = absurd (omega arith)
+spot_at p (o ∷ os) [] i h g = absurd (omega arith)
+spot_at p (o ∷ os) (l ∷ ls) zero h g = refl
+spot_at p (o ∷ os) (l ∷ ls) (suc i) h g = let less : i < length os = omega arith in let few : i < length ls = omega arith in spot_at p os ls i less few
+
+-- no line
+pub spots_none : (p : ProblemData) (os : List ObjectData) → spots_of p os [] ≡ []
+spots_none p [] = refl
+spots_none p (o ∷ os) = refl
+
+-- one more line
+pub spots_more : (p : ProblemData) (os : List ObjectData) (ls : List LineTree) (i : ℕ) (d : ObjectData) (e : LineTree) → i < length os → i < length ls
+    → spots_of p os (take (i + 1) ls) ≡ spots_of p os (take i ls) ++ spot_of p (get_or os i d) (get_or ls i e) ∷ []
+spots_more p [] ls i d e h g = absurd (omega arith)
+spots_more p (o ∷ os) [] i d e h g = absurd (omega arith)
+spots_more p (o ∷ os) (l ∷ ls) zero d e h g = ap (λ (t : Tuple). spot_of p o l ∷ t) (spots_none p os)
+spots_more p (o ∷ os) (l ∷ ls) (suc i) d e h g = let less : i < length os = omega arith in let few : i < length ls = omega arith in let n : suc i + 1 ≡ suc (i + 1) = omega arith in ap (λ (k : ℕ). spots_of p (o ∷ os) (take k (l ∷ ls))) n ∙ ap (λ (t : Tuple). spot_of p o l ∷ t) (spots_more p os ls i d e less few)
+
+-- ---- lines without a fault
+
+module _ (p : ProblemData) (end : ℕ) (t : LayoutTree) (right : NoFault (IsFault p end t)) where
+  line_right : (i : ℕ) → i < length t.lines → NoFault (LineFault p (slice_get p.objects i) (get_or t.lines i no_line))
+  line_right i lt =
+      let so_far : length (take i t.lines) ≡ i = length-take-le i t.lines (omega arith) in
+      subst (λ (n : ℕ). NoFault (LineFault p (slice_get p.objects n) (get_or t.lines i no_line))) so_far
+      (none_among (λ before. LineFault p (slice_get p.objects (length before))) t.lines (λ f h. right f (inl h)) i no_line lt)
+
+  get_past : {A : Type 0} (xs : List A) (i : ℕ) → length xs ≤ i → slice_get xs i ≡ None
+  get_past [] i h = refl
+  get_past (x ∷ xs) zero h = absurd (omega arith)
+  get_past (x ∷ xs) (suc i) h = let less : length xs ≤ i = omega arith in get_past xs i less
+
+  none_too_many : length p.objects < length t.lines → ⊥
+  none_too_many lt =
+      subst (λ (o : Option ObjectData). NoFault (LineFault p o (get_or t.lines (length p.objects) no_line))) (get_past p.objects (length p.objects) (omega arith)) (line_right (length p.objects) lt)
+      (fault (get_or t.lines (length p.objects) no_line).name.place words.Order) refl
+
+  none_missing : length t.lines < length p.objects → ⊥
+  none_missing lt = right (fault (behind_lines end t.token) words.Order) (inr (inl (lt, refl)))
+
+  -- one line for each object
+  pub as_many : length t.lines ≡ length p.objects
+  as_many =
+      ⊎_elim (λ l. absurd (none_missing l)) (λ l. ⊎_elim (λ k. absurd (none_too_many k)) (λ k. omega arith) (cases_lt (length p.objects) (length t.lines)))
+      (cases_lt (length t.lines) (length p.objects))
+
+  module _ (well : IsWellFormed p) (i : ℕ) (lt : i < length p.objects) where
+    o : ObjectData
+    o = get_or p.objects i no_object
+
+    l : LineTree
+    l = get_or t.lines i no_line
+
+    faultless : NoFault (LineFault p (Some o) l)
+    unfolding o l
+    faultless = subst (λ (x : Option ObjectData). NoFault (LineFault p x (get_or t.lines i no_line))) (slice_get-get_or p.objects i no_object lt) (line_right i (let e : length t.lines ≡ length p.objects = as_many in omega arith))
+
+    is_object : IsObject p o
+    unfolding o
+    is_object = well.objects i no_object lt
+
+    made : Made (shape_names p o) l.shape
+    made = elim (made_or_not (shape_names p o) l.shape) [ inl m ↦ m | inr none ↦ absurd (faultless (fault l.shape.place words.Unknown) (inr (inl (none, refl)))) ]
+
+    in_list : position_of (shape_names p o) l.shape < length o.shapes
+    in_list = subst (λ (n : ℕ). position_of (shape_names p o) l.shape < n) (length-map o.shapes (name_of_shape p)) made.inside
+
+    all_counted : length l.origin ≡ p.dims
+    all_counted = counted int_place p.dims l.origin (λ f h. faultless f (inr (inr (inl h))))
+
+    form : HasForm p o (spot_of p o l)
+    form = record {
+      first = omega arith;
+      last = (let less : position_of (shape_names p o) l.shape < length o.shapes = in_list in omega arith);
+      dimensions = length-map l.origin number_of ∙ all_counted;
+    }
+
+    no_int : Int
+    no_int = record { place = 0; value = pos 0 }
+
+    inside : (d : ℕ) → d < length o.ranges → IsInRange (range_at o.ranges d) (coordinate (map number_of l.origin) d)
+    inside d less =
+        let few : d < length l.origin = (let e : length l.origin ≡ p.dims = all_counted in let g : length o.ranges ≡ p.dims = is_object.dimensions in omega arith) in
+        let r : RangeData = range_at o.ranges d in
+        let x : Int = get_or l.origin d no_int in
+        let so_far : length (take d l.origin) ≡ d = length-take-le d l.origin (omega arith) in
+        let at : NoFault (OutsideFault (slice_get o.ranges d) x) = subst (λ (n : ℕ). NoFault (OutsideFault (slice_get o.ranges n) x)) so_far (none_among (λ before. OutsideFault (slice_get o.ranges (length before))) l.origin (λ f h. faultless f (inr (inr (inr h)))) d no_int few) in
+        let fits : NoFault (OutsideFault (Some r) x) = subst (λ (s : Option RangeData). NoFault (OutsideFault s x)) (slice_get-get_or o.ranges d _ less) at in
+        let value : coordinate (map number_of l.origin) d ≡ x.value = get_or-map number_of l.origin d no_int (pos 0) few in
+        subst (λ (v : ℤ). IsInRange r v) (sym value)
+        (at_most r.low x.value (λ n. fits (fault x.place words.Range) ((λ s. n s.0), refl)), at_most x.value r.high (λ n. fits (fault x.place words.Range) ((λ s. n s.1), refl)))
+
+    pub is_spot : IsSpotOf p (object_of p i) (spot (tuple_of p t.lines) i)
+    unfolding o l
+    is_spot = subst (λ (s : Spot). IsSpotOf p (get_or p.objects i no_object) s) (sym (spot_at p p.objects t.lines i lt (let e : length t.lines ≡ length p.objects = as_many in omega arith))) (record { form = form; ranges = inside })
+
+  -- the lines give a tuple
+  pub is_tuple : IsWellFormed p → IsTuple p (tuple_of p t.lines)
+  is_tuple well = record { objects = spots_length p p.objects t.lines as_many; each = λ i lt. is_spot well i lt }
+
+-- what a text is accepted with is a tuple
+pub accepted_tuple : (p : ProblemData) (text : List ℕ) (t : Tuple) → IsWellFormed p → Accepts p text t → IsTuple p t
+accepted_tuple p text t well a = subst (λ (u : Tuple). IsTuple p u) (sym a.means) (is_tuple p (length text) a.tree a.right well)

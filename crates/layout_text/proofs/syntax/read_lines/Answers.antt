@@ -1,0 +1,72 @@
+use Rattle.std.proofs.Common.{◌≡◌, ◌==◌, ◌≤◌, ℕ, List, [], ◌∷◌, length, false, Some, Ok, Err, Result, refl, sym, ◌∙◌, subst, arith}
+use Rattle.std.proofs.lemmas.Bool.Decides.{Decides-eqb}
+use Rattle.geo_tokens.specs.declared.token.Token.{Token}
+use Rattle.geo_tokens.specs.declared.stop.Stop.{Stop}
+use Rattle.geo_tokens.specs.declared.fault.TextFault.{TextFault}
+use Rattle.geo_tokens.specs.Reading.{Got}
+use Rattle.geo_tokens.specs.Gives.{Fails}
+use Rattle.rule_syntax.specs.Outcome.{place_of, IsInside, fault_of}
+use Rattle.rule_syntax.proofs.Outcomes.{value_in, stop_inside}
+use Rattle.layout_text.specs.declared.tree.LayoutText.{LayoutText}
+use Rattle.layout_text.specs.Grammar.{LayoutWords}
+use Rattle.layout_text.specs.Reading.{layout_at}
+use Rattle.layout_text.specs.View.{layout_view}
+use Rattle.problem_text.specs.WholeText.{IsWhole, IsWrong, AnswersText, IsOnlyAnswer}
+use Rattle.layout_text.proofs.Right.{layout_good}
+use Rattle.layout_text.proofs.Levels.{layout_reading}
+use Rattle.problem_text.proofs.WholeText.{only_answer, is_whole, is_left_over, is_stopped}
+use Rattle.layout_text.proofs.syntax.read_lines.Goals as goal
+
+not_empty : (xs : List Token) → length xs ≡ 0 → xs ≡ []
+not_empty [] e = refl
+not_empty (x ∷ xs) e = absurd (omega arith)
+
+not_none : (xs : List Token) → (length xs == 0) ≡ false → xs ≡ [] → ⊥
+not_none [] t e = cc
+not_none (x ∷ xs) t e = cc
+
+-- the lemmas on whole texts, of layout texts
+module _ (text : List ℕ) (list : List Token) where
+  whole : (p : LayoutText) (rest : List Token) → layout_at text 0 list ≡ Got (Some (layout_view p)) rest → rest ≡ [] → IsWhole (LayoutWords text) 0 list (layout_view p)
+  whole p rest h done = is_whole (LayoutWords text) 0 _ _ (layout_good text 0).facts (layout_at text 0) (layout_good text 0).reads (layout_reading text 0) (length text) list (layout_view p) rest h done
+
+  left_over : (p : LayoutText) (rest : List Token) → layout_at text 0 list ≡ Got (Some (layout_view p)) rest → (rest ≡ [] → ⊥) → IsWrong (LayoutWords text) 0 (length text) list (place_of (length text) rest)
+  left_over p rest h more = is_left_over (LayoutWords text) 0 _ _ (layout_good text 0).facts (layout_at text 0) (layout_good text 0).reads (layout_reading text 0) (length text) list (layout_view p) rest h more
+
+  stopped : (e : Stop) → Fails e (layout_at text 0 list) → AnswersText layout_view (Err (fault_of (length text) list e)) (LayoutWords text) 0 (length text) list
+  stopped e h = is_stopped (LayoutWords text) 0 _ _ (layout_good text 0).facts (layout_at text 0) (layout_good text 0).reads (layout_reading text 0) (length text) list layout_view e h
+
+  only : (res : Result LayoutText TextFault) → AnswersText layout_view res (LayoutWords text) 0 (length text) list → IsOnlyAnswer layout_view res (LayoutWords text) 0 (length text) list
+  only res h = only_answer (LayoutWords text) 0 _ _ (layout_good text 0).facts (length text) list layout_view res h
+
+  inside_value : (p : LayoutText) (rest : List Token) → layout_at text 0 list ≡ Got (Some (layout_view p)) rest → length rest ≤ length list
+  inside_value p rest h = value_in (LayoutWords text) 0 _ _ (layout_good text 0).facts (layout_at text 0) (layout_good text 0).reads (layout_reading text 0) list 0 (omega arith) list refl (layout_view p) rest h
+
+  inside_stop : (e : Stop) → Fails e (layout_at text 0 list) → IsInside list e
+  inside_stop e h = stop_inside (LayoutWords text) 0 _ _ (layout_good text 0).facts (layout_at text 0) (layout_good text 0).reads (layout_reading text 0) list 0 (omega arith) list refl e h
+
+pub fault_of-requires : goal.fault_of-requires
+fault_of-requires c = inside_value c.args.text.now c.args.list.now c.in-Ok.said c.in-Ok.rest.now c.in-Ok.ensures
+
+pub fault_of-requires-in-Err : goal.fault_of-requires-in-Err
+fault_of-requires-in-Err c = inside_stop c.args.text.now c.args.list.now c.in-Err.stop c.in-Err.ensures
+
+pub returns-then-is_empty : goal.returns-then-is_empty
+returns-then-is_empty c =
+    let done : c.in-Ok.rest.now ≡ [] = not_empty c.in-Ok.rest.now ((Decides-eqb (length c.in-Ok.rest.now) 0).0 (sym c.is_empty.ensures ∙ c.if-is_empty.true)) in
+    let answer : AnswersText layout_view (Ok c.in-Ok.said) (LayoutWords c.args.text.now) 0 (length c.args.text.now) c.args.list.now = whole c.args.text.now c.args.list.now c.in-Ok.said c.in-Ok.rest.now c.in-Ok.ensures done in
+    record { answer = answer; only = only c.args.text.now c.args.list.now (Ok c.in-Ok.said) answer }
+
+pub returns-else-is_empty : goal.returns-else-is_empty
+returns-else-is_empty c =
+    let wrong : IsWrong (LayoutWords c.args.text.now) 0 (length c.args.text.now) c.args.list.now (place_of (length c.args.text.now) c.in-Ok.rest.now) =
+    left_over c.args.text.now c.args.list.now c.in-Ok.said c.in-Ok.rest.now c.in-Ok.ensures (not_none c.in-Ok.rest.now (sym c.is_empty.ensures ∙ c.if-is_empty.false)) in
+    let answer : AnswersText layout_view (Err c.fault_of.result) (LayoutWords c.args.text.now) 0 (length c.args.text.now) c.args.list.now =
+    subst (λ (e : TextFault). AnswersText layout_view (Err e) (LayoutWords c.args.text.now) 0 (length c.args.text.now) c.args.list.now) (sym c.fault_of.ensures) wrong in
+    record { answer = answer; only = only c.args.text.now c.args.list.now (Err c.fault_of.result) answer }
+
+pub returns-in-Err : goal.returns-in-Err
+returns-in-Err c =
+    let answer : AnswersText layout_view (Err c.fault_of-in-Err.result) (LayoutWords c.args.text.now) 0 (length c.args.text.now) c.args.list.now =
+    subst (λ (e : TextFault). AnswersText layout_view (Err e) (LayoutWords c.args.text.now) 0 (length c.args.text.now) c.args.list.now) (sym c.fault_of-in-Err.ensures) (stopped c.args.text.now c.args.list.now c.in-Err.stop c.in-Err.ensures) in
+    record { answer = answer; only = only c.args.text.now c.args.list.now (Err c.fault_of-in-Err.result) answer }

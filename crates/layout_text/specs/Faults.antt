@@ -1,0 +1,92 @@
+-- The tuple that a layout text gives for a problem, and its faults. The object of a line is the one at the same place in file
+-- order.
+use Rattle.std.specs.Prelude.{◌≡◌, ◌≤ℤ◌, ℕ, ◌+◌, ◌<◌, ℤ, List, [], ◌∷◌, length, map, slice_get, slice_index_or, Option, Some, None, ◌⊎◌}
+use Rattle.std.specs.List.{Contains}
+use Rattle.geo_tokens.specs.declared.fault.FaultWord.TheVariants as words
+use Rattle.problem_text.specs.declared.faults.fault.Fault.{Fault}
+use Rattle.problem_text.specs.declared.tree.Int.{Int}
+use Rattle.problem_text.specs.Problem.{RangeData, ObjectData, ProblemData}
+use Rattle.problem_text.specs.Tuple.{Spot, Tuple}
+use Rattle.problem_text.specs.Meaning.{number_of, position_of}
+use Rattle.problem_text.specs.Least.{fault}
+use Rattle.problem_text.specs.Faults.{Among, Miscounted, int_place}
+use Rattle.layout_text.specs.Tree.{LineTree, GroupTree, TokenTree, LayoutTree}
+
+-- ---- what lines and groups give
+
+-- the name of a shape, by its position among all shapes
+abbrev pub name_of_shape : ProblemData → ℕ → List ℕ
+name_of_shape p s = (slice_index_or p.shapes s (record { name = []; boxes = [] })).name
+
+-- the names of the object's shapes, in the order of its list
+abbrev pub shape_names : ProblemData → ObjectData → List (List ℕ)
+shape_names p o = map (name_of_shape p) o.shapes
+
+-- the spot that a line gives its object: the place of the shape in the object's list, and the coordinates
+abbrev pub spot_of : ProblemData → ObjectData → LineTree → Spot
+spot_of p o l = record { place = position_of (shape_names p o) l.shape + 1; origin = map number_of l.origin }
+
+-- the spots that lines give these objects
+abbrev pub spots_of : ProblemData → List ObjectData → List LineTree → Tuple
+spots_of p (o ∷ os) (l ∷ ls) = spot_of p o l ∷ spots_of p os ls
+spots_of p _ _ = []
+
+abbrev pub tuple_of : ProblemData → List LineTree → Tuple
+tuple_of p ls = spots_of p p.objects ls
+
+-- the spot that a group gives
+abbrev pub spot_in : GroupTree → Spot
+spot_in g = record { place = g.shape; origin = map number_of g.origin }
+
+-- ---- faults of a line
+
+-- `order` at a name that is not the object's
+abbrev pub NameFault : ObjectData → LineTree → Fault → Type 0
+NameFault o l f = (l.name.name ≡ o.name → ⊥) × (f ≡ fault l.name.place words.Order)
+
+-- `unknown` at the name of a shape that is not in the object's list
+abbrev pub ShapeFault : ProblemData → ObjectData → LineTree → Fault → Type 0
+ShapeFault p o l f = (Contains (shape_names p o) l.shape.name → ⊥) × (f ≡ fault l.shape.place words.Unknown)
+
+-- `limit` at the first of coordinates that are not one for each dimension
+abbrev pub CountFault : ℕ → List Int → Fault → Type 0
+CountFault k = Miscounted int_place k
+
+abbrev pub IsInRange : RangeData → ℤ → Type 0
+IsInRange r v = (r.low ≤ℤ v) × (v ≤ℤ r.high)
+
+-- `range` at a coordinate outside its range, where there is one for it
+abbrev pub OutsideFault : Option RangeData → Int → Fault → Type 0
+OutsideFault None x f = ⊥
+OutsideFault (Some r) x f = (IsInRange r x.value → ⊥) × (f ≡ fault x.place words.Range)
+
+abbrev pub RangesFault : List RangeData → List Int → Fault → Type 0
+RangesFault rs = Among (λ before. OutsideFault (slice_get rs (length before)))
+
+-- of a line and its object; with no object for it, the line is one too many
+abbrev pub LineFault : ProblemData → Option ObjectData → LineTree → Fault → Type 0
+LineFault p None l f = f ≡ fault l.name.place words.Order
+LineFault p (Some o) l f = NameFault o l f ⊎ ShapeFault p o l f ⊎ CountFault p.dims l.origin f ⊎ RangesFault o.ranges l.origin f
+
+abbrev pub LinesFault : ProblemData → List LineTree → Fault → Type 0
+LinesFault p = Among (λ before. LineFault p (slice_get p.objects (length before)))
+
+-- ---- faults of the whole
+
+-- what stands behind the lines: the word of the token line, or the end of the text
+abbrev pub behind_lines : ℕ → Option TokenTree → ℕ
+behind_lines end None = end
+behind_lines end (Some t) = t.place
+
+-- `order` behind lines that are fewer than the objects
+abbrev pub MissingFault : ProblemData → ℕ → LayoutTree → Fault → Type 0
+MissingFault p end t f = (length t.lines < length p.objects) × (f ≡ fault (behind_lines end t.token) words.Order)
+
+-- `token` at the word of a token line whose groups do not give the lines' tuple
+abbrev pub TokenFault : ProblemData → List LineTree → Option TokenTree → Fault → Type 0
+TokenFault p ls None f = ⊥
+TokenFault p ls (Some t) f = (map spot_in t.groups ≡ tuple_of p ls → ⊥) × (f ≡ fault t.place words.Token)
+
+-- of a text that ends at `end`
+abbrev pub IsFault : ProblemData → ℕ → LayoutTree → Fault → Type 0
+IsFault p end t f = LinesFault p t.lines f ⊎ MissingFault p end t f ⊎ TokenFault p t.lines t.token f

@@ -1,0 +1,55 @@
+//! The tuple that lines give.
+
+ghost use Rattle.std.specs.Prelude.{◌≡◌, ◌≤◌, ◌++◌, ◌∷◌, [], length, map, IfOk, OnOk};
+ghost use Rattle.problem_text.specs.Meaning.{number_of};
+ghost use Rattle.problem_text.specs.WellFormed.{IsWellFormed, IsObject};
+ghost use Rattle.layout_text.specs.View.{line_view};
+ghost use Rattle.layout_text.specs.Faults.{spot_of, tuple_of};
+
+use crate::names::shape_position;
+use crate::tree::LineText;
+use geo_conditions::Layout;
+use problem_text::problem::{ObjectDef, Problem};
+use problem_text::tree::Int;
+use std::alloc::{AllocError, Global};
+
+// The values of whole numbers.
+fn values(alloc: Global, numbers: &[Int]) -> Result<Vec<i64>, AllocError>
+    ensures { IfOk result (λ v. v.items ≡ map number_of numbers.now) }
+{
+    let mut found = Vec::new(alloc);
+    for number in numbers {
+        found.push(number.value)?;
+    }
+    Ok(found)
+}
+
+// Puts the object where the line says.
+fn put(
+    alloc: Global,
+    problem: &Problem,
+    object: &ObjectDef,
+    line: &LineText,
+    layout: &mut Layout,
+) -> Result<(), AllocError>
+    requires { IsObject problem.now object.now }
+    ensures { OnOk result (layout.new ≡ layout.old ++ spot_of problem.now object.now (line_view line.now) ∷ []) }
+{
+    let place = shape_position(problem, object, &line.shape.name) + 1;
+    let origin = values(alloc, line.origin.as_slice())?;
+    layout.push(place as u8, origin.as_slice())
+}
+
+/// The tuple that lines give, of which there are no more than objects.
+pub fn build(alloc: Global, problem: &Problem, lines: &[LineText]) -> Result<Layout, AllocError>
+    requires problem { IsWellFormed problem.now }
+    requires lines { length lines.now ≤ length problem.now.objects }
+    ensures { IfOk result (λ t. t ≡ tuple_of problem.now (map line_view lines.now)) }
+{
+    let mut layout = Layout::new(alloc);
+    for (i, line) in lines.iter().enumerate() {
+        let object = &problem.objects()[i];
+        put(alloc, problem, object, line, &mut layout)?;
+    }
+    Ok(layout)
+}

@@ -1,0 +1,104 @@
+//! Faults of a line.
+
+ghost use Rattle.std.specs.Prelude.{◌≡◌, ℕ, List, length, map, slice_get};
+ghost use Rattle.geo_tokens.specs.declared.fault.FaultWord.TheVariants.{Limit};
+ghost use Rattle.problem_text.specs.declared.tree.Int.{Int};
+ghost use Rattle.problem_text.specs.Least.{IsLeast};
+ghost use Rattle.problem_text.specs.Faults.{first_place, int_place};
+ghost use Rattle.problem_text.specs.ProblemView.{range_data};
+ghost use Rattle.problem_text.specs.WellFormed.{IsWellFormed, IsObject};
+ghost use Rattle.layout_text.specs.View.{line_view};
+ghost use Rattle.layout_text.specs.Faults.{NameFault, ShapeFault, CountFault, OutsideFault, RangesFault, LineFault};
+
+use crate::names::shape_position;
+use crate::tree::LineText;
+use geo_tokens::fault::FaultWord;
+use problem_text::faults::fault::{Fault, earlier, fault_if};
+use problem_text::problem::{ObjectDef, Problem, RangeDef};
+use problem_text::tree::Int;
+
+fn name_fault(object: &ObjectDef, line: &LineText) -> Option<Fault>
+    ensures { IsLeast (NameFault object.now (line_view line.now)) result }
+{
+    let same = &line.name.name == object.name();
+    fault_if(!same, line.name.place, FaultWord::Order)
+}
+
+fn shape_fault(problem: &Problem, object: &ObjectDef, line: &LineText) -> Option<Fault>
+    requires { IsObject problem.now object.now }
+    ensures { IsLeast (ShapeFault problem.now object.now (line_view line.now)) result }
+{
+    let position = shape_position(problem, object, &line.shape.name);
+    let listed = position < object.shapes().len();
+    fault_if(!listed, line.shape.place, FaultWord::Unknown)
+}
+
+fn first_int(numbers: &[Int]) -> u64
+    ensures { result ≡ first_place int_place numbers.now }
+{
+    match numbers {
+        [first, ..] => first.place,
+        [] => 0,
+    }
+}
+
+fn count_fault(dims: usize, origin: &[Int]) -> Option<Fault>
+    ensures { IsLeast (CountFault dims origin.now) result }
+{
+    fault_if(origin.len() != dims, first_int(origin), FaultWord::Limit)
+}
+
+fn outside_fault(range: &RangeDef, number: Int) -> Option<Fault>
+    ensures { IsLeast (OutsideFault (Some (range_data range.now)) number) result }
+{
+    let inside = range.low <= number.value && number.value <= range.high;
+    fault_if(!inside, number.place, FaultWord::Range)
+}
+
+// The fault of a coordinate that has so many coordinates before it.
+fn coordinate_fault(ranges: &[RangeDef], index: usize, number: Int) -> Option<Fault>
+    ensures { IsLeast (OutsideFault (slice_get (map range_data ranges.now) index) number) result }
+{
+    if index >= ranges.len() {
+        return None;
+    }
+    outside_fault(&ranges[index], number)
+}
+
+fn ranges_fault(ranges: &[RangeDef], origin: &[Int]) -> Option<Fault>
+    ensures { IsLeast (RangesFault (map range_data ranges.now) origin.now) result }
+{
+    let mut found = None;
+    for (i, number) in origin.iter().enumerate() {
+        let here = coordinate_fault(ranges, i, *number);
+        found = earlier(found, here);
+    }
+    found
+}
+
+// The first fault of a line that has this object.
+fn object_line_fault(problem: &Problem, object: &ObjectDef, line: &LineText) -> Option<Fault>
+    requires { IsObject problem.now object.now }
+    ensures { IsLeast (LineFault problem.now (Some object.now) (line_view line.now)) result }
+{
+    let origin = line.origin.as_slice();
+    let name = name_fault(object, line);
+    let shape = shape_fault(problem, object, line);
+    let count = count_fault(problem.dims(), origin);
+    let ranges = ranges_fault(object.ranges(), origin);
+    let last = earlier(count, ranges);
+    let last = earlier(shape, last);
+    earlier(name, last)
+}
+
+/// The first fault of a line that has so many lines before it.
+pub fn line_fault(problem: &Problem, index: usize, line: &LineText) -> Option<Fault>
+    requires { IsWellFormed problem.now }
+    ensures { IsLeast (LineFault problem.now (slice_get problem.now.objects index) (line_view line.now)) result }
+{
+    let objects = problem.objects();
+    if index >= objects.len() {
+        return fault_if(true, line.name.place, FaultWord::Order);
+    }
+    object_line_fault(problem, &objects[index], line)
+}

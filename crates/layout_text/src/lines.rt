@@ -1,0 +1,56 @@
+//! Reading the lines of a layout text, by one function for each production of the grammar.
+
+ghost use Rattle.geo_tokens.specs.Words.{names};
+ghost use Rattle.geo_tokens.specs.Reading.{many_at};
+ghost use Rattle.geo_tokens.specs.Gives.{Gives};
+ghost use Rattle.layout_text.specs.Reading.{line_at};
+ghost use Rattle.layout_text.specs.View.{line_view, line_views};
+
+use crate::tree::LineText;
+use geo_tokens::stop::{Stop, next_is, token};
+use geo_tokens::token::{Keyword, Kind, Token};
+use problem_text::numbers::ints;
+use rule_syntax::words::placed_name;
+use std::alloc::Global;
+
+/// A line.
+#[tactic(auto, unfolding(crate::specs::Reading::line_at))]
+fn line<'a>(
+    alloc: Global,
+    text: &[u8],
+    tokens: &'a [Token],
+) -> Result<(LineText, &'a [Token]), Stop<'a>>
+    ensures { Gives line_view result (line_at text.now tokens.now) }
+{
+    let (name, rest) = placed_name(alloc, text, tokens)?;
+    let (_, rest) = token(rest, Kind::Word(Keyword::As))?;
+    let (shape, rest) = placed_name(alloc, text, rest)?;
+    let (_, rest) = token(rest, Kind::Word(Keyword::At))?;
+    let (origin, rest) = ints(alloc, rest)?;
+    Ok((
+        LineText {
+            name,
+            shape,
+            origin,
+        },
+        rest,
+    ))
+}
+
+/// Lines, as far as they go.
+pub fn lines<'a>(
+    alloc: Global,
+    text: &[u8],
+    tokens: &'a [Token],
+) -> Result<(Vec<LineText>, &'a [Token]), Stop<'a>>
+    ensures { Gives line_views result (many_at names (line_at text.now) tokens.now) }
+{
+    let mut read = Vec::new(alloc);
+    let mut rest = tokens;
+    'items: while next_is(rest, Kind::Name) {
+        let (one, after) = line(alloc, text, rest)?;
+        read.push(one)?;
+        rest = after;
+    }
+    Ok((read, rest))
+}
