@@ -1,0 +1,28 @@
+-- The condition of a comparison.
+use Rattle.std.specs.Prelude.{◌&&◌, List, map}
+use Rattle.std.specs.List.{list_all}
+use Rattle.rule_syntax.specs.declared.tree.Rel.{Rel}
+use Rattle.geo_tokens.specs.declared.fault.FaultWord.TheVariants.{Overflow}
+use Rattle.problem_text.specs.Problem.{ProblemData}
+use Rattle.rule_expand.specs.Plain.{PlainExprTree}
+use Rattle.rule_expand.specs.PlainTruth.{PlainEnv}
+use Rattle.linear_conditions.specs.CondTree.{CondTree}
+use Rattle.linear_conditions.specs.Fixings.{Fixing}
+use Rattle.linear_conditions.specs.Sums.{fits_sum}
+use Rattle.linear_conditions.specs.Forms.{sum_of_expr, fits_expr}
+use Rattle.linear_conditions.specs.Leaves.{difference, Leaves, leaves_of, leaf_fits}
+use Rattle.linear_conditions.specs.Folding.{fold_linear, joined}
+use Rattle.linear_conditions.specs.Counts.{Counts, Outcome, Done, and_then, allowed, within_limits, one_visit, count_sums}
+
+-- its visit and its leaves are counted, and then they are folded
+abbrev pub ground_leaves : Leaves → Counts → Outcome CondTree
+ground_leaves l k = and_then Counts CondTree (within_limits (count_sums l.forms (one_visit k))) (λ k' same. Done (joined l.all (map fold_linear l.forms)) k')
+
+-- first `overflow`, where a form is out of bounds, and then the counts
+abbrev pub ground_compare : ProblemData → PlainExprTree → Rel → PlainExprTree → PlainEnv → List Fixing → Counts → Outcome CondTree
+ground_compare p a rel b env fix k =
+    let f = difference (sum_of_expr p a env fix) (sum_of_expr p b env fix) in
+    allowed CondTree
+    (fits_expr p a env fix && (fits_expr p b env fix && (fits_sum f && list_all leaf_fits (leaves_of rel f).forms)))
+    Overflow
+    (ground_leaves (leaves_of rel f) k)

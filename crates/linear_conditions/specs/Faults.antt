@@ -1,0 +1,26 @@
+-- What the program's faults say of an outcome. Want of memory says nothing.
+use Rattle.std.specs.Prelude.{◌≡◌, Bool, true, false, Result, Ok, Err}
+use Rattle.geo_tokens.specs.declared.fault.FaultWord.TheVariants as words
+use Rattle.geo_conditions.specs.Form.{Sum}
+use Rattle.linear_conditions.specs.Sums.{fits_sum}
+use Rattle.linear_conditions.specs.declared.wide.WideSum.{WideSum}
+use Rattle.linear_conditions.specs.declared.fault.GroundFault.{GroundFault}
+use Rattle.linear_conditions.specs.declared.fault.GroundFault.TheVariants.{Overflow, TooMany, Memory}
+use Rattle.linear_conditions.specs.Counts.{Outcome, Fault}
+use Rattle.linear_conditions.specs.Views.{wide_view}
+
+abbrev pub IsFault : (A : Type 0) → Outcome A → GroundFault → Type 0
+IsFault A o Overflow = o ≡ Fault words.Overflow
+IsFault A o TooMany = o ≡ Fault words.Ground
+IsFault A o Memory = Unit {0}
+
+-- the fault of a form that does not fit
+abbrev pub IsMisfit : Bool → GroundFault → Type 0
+IsMisfit fits Overflow = fits ≡ false
+IsMisfit fits TooMany = ⊥
+IsMisfit fits Memory = Unit {0}
+
+-- a call's answer: the form, which is within the bounds, and so is all that it is made of; or that something of this is not
+abbrev pub Gives : Result WideSum GroundFault → Sum → Bool → Type 0
+Gives (Ok f) s fits = (wide_view f ≡ s) × (fits ≡ true) × (fits_sum (wide_view f) ≡ true)
+Gives (Err e) s fits = IsMisfit fits e

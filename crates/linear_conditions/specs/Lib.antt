@@ -1,0 +1,14 @@
+pub mod CondTree
+pub mod Fixings
+pub mod Sums
+pub mod Ordered
+pub mod Forms
+pub mod Settled
+pub mod Leaves
+pub mod Folding
+pub mod Counts
+pub mod Compare
+pub mod Room
+pub mod Views
+pub mod Faults
+pub mod Laws

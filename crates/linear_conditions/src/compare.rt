@@ -1,0 +1,107 @@
+//! From a comparison to its condition.
+
+ghost use Rattle.std.specs.Prelude.{◌≡◌, ◌&&◌, IfOk, MatchResult, true};
+ghost use Rattle.std.specs.List.{list_all};
+ghost use Rattle.geo_tokens.specs.declared.fault.FaultWord.TheVariants as words;
+ghost use Rattle.linear_conditions.specs.Compare.{ground_compare, ground_leaves};
+ghost use Rattle.linear_conditions.specs.CondTree.{CondTree, cond_view};
+ghost use Rattle.linear_conditions.specs.Counts.{Done, allowed};
+ghost use Rattle.linear_conditions.specs.Faults.{Gives, IsFault};
+ghost use Rattle.linear_conditions.specs.Forms.{fits_expr, sum_of_expr};
+ghost use Rattle.linear_conditions.specs.Leaves.{difference, leaf_fits, leaves_of};
+ghost use Rattle.linear_conditions.specs.Ordered.{IsOrdered};
+ghost use Rattle.linear_conditions.specs.Sums.{fits_sum};
+ghost use Rattle.linear_conditions.specs.Views.{fixings_view, wide_view};
+ghost use Rattle.rule_expand.specs.PlainView.{plain_expr_view};
+ghost use Rattle.rule_values.specs.View.{env_view};
+
+use crate::counter::Counter;
+use crate::fault::GroundFault;
+use crate::fixings::Fixings;
+use crate::forms::{add_to, checked, negated, sum_of};
+use crate::leaves::{fold_leaves, leaves_of};
+use crate::wide::WideSum;
+use geo_conditions::Cond;
+use problem_text::problem::Problem;
+use rule_expand::plain::PlainExpr;
+use rule_syntax::tree::Rel;
+use rule_values::env::Env;
+use std::alloc::Global;
+
+/// A form less another one.
+fn subtracted(alloc: Global, left: WideSum, right: &WideSum) -> Result<WideSum, GroundFault>
+    requires left { fits_sum (wide_view left) ≡ true }
+    requires right { fits_sum (wide_view right.now) ≡ true }
+    requires ordered { IsOrdered (wide_view right.now).terms }
+    ensures { let f = difference (wide_view left) (wide_view right.now) in Gives result f (fits_sum f) }
+{
+    let other = negated(alloc, right)?;
+    let mut total = left;
+    add_to(&mut total, &other)?;
+    checked(total)
+}
+
+/// The difference of the two sides of a comparison.
+fn difference(
+    alloc: Global,
+    problem: &Problem,
+    a: &PlainExpr,
+    b: &PlainExpr,
+    env: &Env,
+    fixings: &Fixings,
+) -> Result<WideSum, GroundFault>
+    ensures value { let f = difference
+        (sum_of_expr problem.now (plain_expr_view a.now) (env_view env.now) (fixings_view fixings.now))
+        (sum_of_expr problem.now (plain_expr_view b.now) (env_view env.now) (fixings_view fixings.now)) in
+        Gives result f (
+        fits_expr problem.now (plain_expr_view a.now) (env_view env.now) (fixings_view fixings.now)
+        && (fits_expr problem.now (plain_expr_view b.now) (env_view env.now) (fixings_view fixings.now) && fits_sum f)) }
+    ensures ordered { IfOk result (λ f. IsOrdered (wide_view f).terms) }
+{
+    let left = sum_of(alloc, problem, a, &*env, &*fixings)?;
+    let right = sum_of(alloc, problem, b, &*env, &*fixings)?;
+    subtracted(alloc, left, &right)
+}
+
+/// The condition that a difference stands in a relation to 0: first its leaves are made, then they are counted, and then folded.
+fn related_to_zero(
+    alloc: Global,
+    rel: Rel,
+    f: WideSum,
+    counter: &mut Counter,
+) -> Result<Cond, GroundFault>
+    requires fits { fits_sum (wide_view f) ≡ true }
+    requires ordered { IsOrdered (wide_view f).terms }
+    ensures { let l = leaves_of rel (wide_view f) in
+        let o = allowed CondTree (list_all leaf_fits l.forms) words.Overflow (ground_leaves l counter.old) in
+        MatchResult result (λ c. o ≡ Done (cond_view c) counter.new) (λ e. IsFault CondTree o e) }
+{
+    let leaves = leaves_of(alloc, rel, f)?;
+    if !leaves.fit() {
+        return Err(GroundFault::Overflow);
+    }
+    match counter.visit_leaves(&leaves) {
+        Ok(()) => Ok(fold_leaves(alloc, &leaves)?),
+        Err(e) => Err(e),
+    }
+}
+
+/// The condition of a comparison. A form out of bounds goes before a count past its limit.
+pub fn compare(
+    alloc: Global,
+    problem: &Problem,
+    a: &PlainExpr,
+    rel: Rel,
+    b: &PlainExpr,
+    env: &Env,
+    fixings: &Fixings,
+    counter: &mut Counter,
+) -> Result<Cond, GroundFault>
+    ensures { let o = ground_compare problem.now (plain_expr_view a.now) rel (plain_expr_view b.now) (env_view env.now) (fixings_view fixings.now) counter.old in
+        MatchResult result (λ c. o ≡ Done (cond_view c) counter.new) (λ e. IsFault CondTree o e) }
+{
+    match difference(alloc, problem, a, b, &*env, &*fixings) {
+        Ok(f) => related_to_zero(alloc, rel, f, counter),
+        Err(e) => Err(e),
+    }
+}
