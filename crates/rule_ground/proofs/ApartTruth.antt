@@ -14,7 +14,7 @@ use Rattle.problem_text.specs.Problem.{BoxData, ProblemData}
 use Rattle.problem_text.specs.Tuple.{object_of}
 use Rattle.problem_text.specs.Cells.{BoxHas, box_at, IsCellOf, NoCommonCell, IsApart, IsShaped}
 use Rattle.problem_text.specs.WellFormed.{IsBox, IsWellFormed}
-use Rattle.rule_ground.specs.CondTree.{CondTree, true_on}
+use Rattle.linear_conditions.specs.CondTree.{CondTree, true_on}
 use Rattle.rule_ground.specs.Shapes.{places, IsPlace, boxes_at, other_shape}
 use Rattle.rule_ground.specs.Apart.{parted_in, apart_condition, apart_from_box, apart_at_places, apart_at_place, apart_of, apart_behind, apart_conditions}
 use Rattle.rule_ground.proofs.Cells.{low_of, end_of, common-cell, parted}

@@ -1,6 +1,7 @@
 -- Lists of conditions that grow item by item.
-use Rattle.std.proofs.Common.{◌≡◌, ◌<◌, ◌+◌, ℕ, List, [], ◌∷◌, ◌++◌, length, map, take, get_or, refl, sym, ◌∙◌}
-use Rattle.std.specs.List.{flat_map, range_with_len}
+use Rattle.std.proofs.Common.{◌≡◌, ◌<◌, ◌+◌, ℕ, Bool, cond, List, [], ◌∷◌, ◌++◌, length, map, take, get_or, refl, sym, ap, ◌∙◌, arith}
+use Rattle.std.proofs.lemmas.List.Elements.{filter-append}
+use Rattle.std.specs.List.{filter, flat_map, range_with_len}
 use Rattle.std.proofs.lemmas.List.{flat_map_more, take_more, map-id, map-append, append_assoc}
 use Rattle.std.proofs.lemmas.List.FromFn.{map-range_with_len_more}
 
@@ -25,3 +26,10 @@ taken-more xs i x e h = take_more xs i x h ∙ (λ j. take i xs ++ sym e j ∷ [
 -- one number more, at its own name
 pub number-more : (a n k m : ℕ) → k ≡ n + 1 → a + n ≡ m → range_with_len a k ≡ range_with_len a n ++ m ∷ []
 number-more a n k m e f = (λ i. range_with_len a (e i)) ∙ range-more a n ∙ (λ i. range_with_len a n ++ f i ∷ [])
+
+-- one number more among those that pass
+pub filter-more : (test : ℕ → Bool) (n : ℕ) (b : Bool) → test n ≡ b → filter test (range_with_len 0 (n + 1)) ≡ filter test (range_with_len 0 n) ++ cond b (n ∷ []) []
+filter-more test n b e =
+    ap (filter test) (range-more 0 n ∙ ap (λ m. range_with_len 0 n ++ m ∷ []) (let z : 0 + n ≡ n = omega arith in z))
+    ∙ filter-append test (range_with_len 0 n) (n ∷ [])
+    ∙ ap (λ c. filter test (range_with_len 0 n) ++ cond c (n ∷ []) []) e

@@ -8,7 +8,7 @@ use Rattle.problem_text.specs.Problem.{BoxData, RangeData, ProblemData}
 use Rattle.rule_ground.specs.Shapes.{places, boxes_at}
 use Rattle.rule_ground.specs.Apart.{apart_condition, apart_from_box, apart_at_places, apart_at_place, apart_of, apart_behind}
 use Rattle.rule_ground.specs.Within.{within_in, within_of_box, within_at_place, within_of}
-use Rattle.rule_ground.specs.Ground.{total, box_count}
+use Rattle.rule_ground.specs.BoxCounts.{total, box_count}
 
 pub length-flat : {X A : Type 0} (f : X → List A) (xs : List X) → length (flat_map f xs) ≡ total (λ x. length (f x)) xs
 length-flat f [] = refl

@@ -12,7 +12,7 @@ use Rattle.problem_text.specs.Problem.{BoxData, ShapeData, ProblemData}
 use Rattle.problem_text.specs.Tuple.{object_of, boxes_of_shape, boxes_in}
 use Rattle.problem_text.specs.Cells.{IsShaped}
 use Rattle.problem_text.specs.WellFormed.{IsBox, IsWellFormed}
-use Rattle.rule_ground.specs.CondTree.{shape_is_not, true_on}
+use Rattle.linear_conditions.specs.CondTree.{shape_is_not, true_on}
 use Rattle.rule_ground.specs.Shapes.{IsPlace, boxes_at, has_several, other_shape, IsSmallBox, HasSmallShapes}
 
 -- the boxes of a shape that is not there are none

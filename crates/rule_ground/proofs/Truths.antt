@@ -10,7 +10,7 @@ use Rattle.std.proofs.Math.IntN.{*ℤ-one, *ℤ_comm, *ℤ-negsuc}
 use lib.Signed.{le_z}
 use Rattle.geo_base.specs.Tuple.{Tuple}
 use Rattle.geo_conditions.specs.Reach.{count}
-use Rattle.rule_ground.specs.CondTree.{CondTree, at_least, conds, true_on, true_count}
+use Rattle.linear_conditions.specs.CondTree.{CondTree, at_least, conds, true_on, true_count}
 
 -- ---- at least one of several
 
@@ -74,11 +74,11 @@ high-true x a l hi = high (((a +ℤ l) -ℤ pos 1) -ℤ hi) x (pos 1 *ℤ x) (on
 
 -- ---- each of the items of joined lists
 
-all-left : {B : Type 0} (P : B → Type 0) (xs ys : List B) → All P (xs ++ ys) → All P xs
+pub all-left : {B : Type 0} (P : B → Type 0) (xs ys : List B) → All P (xs ++ ys) → All P xs
 all-left P [] ys h = All-nil P
 all-left P (x ∷ xs) ys h = All-cons P x xs (All-head P x (xs ++ ys) h) (all-left P xs ys (All-tail P x (xs ++ ys) h))
 
-all-right : {B : Type 0} (P : B → Type 0) (xs ys : List B) → All P (xs ++ ys) → All P ys
+pub all-right : {B : Type 0} (P : B → Type 0) (xs ys : List B) → All P (xs ++ ys) → All P ys
 all-right P [] ys h = h
 all-right P (x ∷ xs) ys h = all-right P xs ys (All-tail P x (xs ++ ys) h)
 

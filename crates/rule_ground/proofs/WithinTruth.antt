@@ -14,7 +14,7 @@ use Rattle.problem_text.specs.Problem.{BoxData, RangeData, ProblemData}
 use Rattle.problem_text.specs.Tuple.{object_of}
 use Rattle.problem_text.specs.Cells.{BoxHas, box_at, range_at, IsInRanges, IsCellOf, IsWithin, IsShaped}
 use Rattle.problem_text.specs.WellFormed.{IsBox, IsWellFormed}
-use Rattle.rule_ground.specs.CondTree.{CondTree, shape_is_not, at_least, conds, true_on}
+use Rattle.linear_conditions.specs.CondTree.{CondTree, shape_is_not, at_least, conds, true_on}
 use Rattle.rule_ground.specs.Shapes.{places, IsPlace, boxes_at, has_several}
 use Rattle.rule_ground.specs.Within.{unless_other, from_low, to_high, within_in, within_of_box, within_at_place, within_of, within_conditions}
 use Rattle.rule_ground.proofs.ApartTruth.{IsTrueOn}

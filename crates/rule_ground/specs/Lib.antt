@@ -1,7 +1,12 @@
 pub mod Apart
-pub mod CondTree
+pub mod BoxCounts
 pub mod Ground
+pub mod Grounding
 pub mod Order
+pub mod Rules
 pub mod Shapes
 pub mod Start
 pub mod Within
+pub mod Answers
+pub mod Faults
+pub mod Phases

@@ -6,7 +6,7 @@ use Rattle.geo_conditions.specs.declared.form.Term.{Term}
 use Rattle.problem_text.specs.Limits.{IsSmall, IsSize, most_boxes}
 use Rattle.problem_text.specs.Problem.{BoxData, ShapeData, ProblemData}
 use Rattle.problem_text.specs.Tuple.{object_of, boxes_of_shape}
-use Rattle.rule_ground.specs.CondTree.{CondTree, shape_is_not}
+use Rattle.linear_conditions.specs.CondTree.{CondTree, shape_is_not}
 
 -- the places of the shapes of the object o
 abbrev pub places : ProblemData → ℕ → List ℕ

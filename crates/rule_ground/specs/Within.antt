@@ -4,7 +4,7 @@ use Rattle.std.specs.List.{range_with_len, flat_map}
 use Rattle.geo_base.specs.Boxes.{coordinate}
 use Rattle.problem_text.specs.Problem.{BoxData, RangeData, ProblemData}
 use Rattle.problem_text.specs.Cells.{range_at}
-use Rattle.rule_ground.specs.CondTree.{CondTree, linear, shape_is_not, at_least, conds}
+use Rattle.linear_conditions.specs.CondTree.{CondTree, linear, shape_is_not, at_least, conds}
 use Rattle.rule_ground.specs.Shapes.{places, boxes_at, has_several, term}
 
 -- the object o has another shape than the one at the place s, or the condition holds

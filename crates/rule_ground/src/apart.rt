@@ -6,7 +6,7 @@ ghost use Rattle.geo_conditions.specs.Form.{IsBounded};
 ghost use Rattle.problem_text.specs.Limits.{IsSize, IsSmall};
 ghost use Rattle.problem_text.specs.WellFormed.{IsBox, IsWellFormed};
 ghost use Rattle.rule_ground.specs.Apart.{apart_at_place, apart_at_places, apart_behind, apart_condition, apart_conditions, apart_from_box, apart_of, parted_in};
-ghost use Rattle.rule_ground.specs.CondTree.{cond_view};
+ghost use Rattle.linear_conditions.specs.CondTree.{cond_view};
 ghost use Rattle.rule_ground.specs.Shapes.{HasSmallShapes, IsPlace, IsSmallBox};
 
 use crate::literals::{at_least, at_most};

@@ -4,7 +4,7 @@ ghost use Rattle.std.specs.Prelude.{◌≡◌, ◌+◌, ◌-◌, ◌*◌, ◌<�
 ghost use Rattle.problem_text.specs.Problem.{RangeData};
 ghost use Rattle.problem_text.specs.WellFormed.{IsWellFormed};
 ghost use Rattle.rule_ground.specs.Apart.{apart_behind, apart_conditions};
-ghost use Rattle.rule_ground.specs.Ground.{box_count};
+ghost use Rattle.rule_ground.specs.BoxCounts.{box_count};
 ghost use Rattle.rule_ground.specs.Shapes.{HasSmallShapes, IsPlace, boxes_at};
 ghost use Rattle.rule_ground.specs.Within.{within_conditions};
 

@@ -1,136 +1,207 @@
 //! All conditions of a problem.
 
-ghost use Rattle.std.specs.Prelude.{◌≡◌, ◌↔◌, ◌≤◌, ◌*◌, ◌++◌, All, IfOk, IsTrue, List, MatchBool, MatchResult, None, OnOk, length, map};
+ghost use Rattle.std.specs.Prelude.{◌≡◌, ◌↔◌, All, IfOk, MatchResult, None, length, map};
 ghost use Rattle.geo_base.specs.Tuple.{Tuple};
-ghost use Rattle.geo_conditions.specs.Conditions.{AllHold};
+ghost use Rattle.geo_conditions.specs.Conditions.{AllFit, AllHold};
+ghost use Rattle.linear_conditions.specs.CondTree.{cond_view};
 ghost use Rattle.problem_text.specs.Cells.{IsTuple};
 ghost use Rattle.problem_text.specs.Layouts.{DemandHolds};
 ghost use Rattle.problem_text.specs.Problem.{RuleData};
-ghost use Rattle.problem_text.specs.ProblemView.{demand_data};
-ghost use Rattle.problem_text.specs.WellFormed.{IsDemand, IsWellFormed};
-ghost use Rattle.rule_ground.specs.CondTree.{cond_view};
-ghost use Rattle.rule_ground.specs.Ground.{HasNoFormula, IsFaultOf, IsNoFormula, conditions, demand_conditions, first_past, ground_fault};
+ghost use Rattle.problem_text.specs.ProblemView.{range_data};
+ghost use Rattle.problem_text.specs.WellFormed.{IsRange, IsWellFormed};
+ghost use Rattle.rule_expand.specs.PlainView.{plain_formula_view};
+ghost use Rattle.rule_expand.specs.Rules.{PlainRuleData, body_data, expansion_fault, plain, plain_rule_data, rules_expanded};
+ghost use Rattle.rule_ground.specs.Answers.{Appends};
+ghost use Rattle.rule_ground.specs.Apart.{apart_conditions};
+ghost use Rattle.rule_ground.specs.Faults.{AnswersRules, HasRanges, fault_at};
+ghost use Rattle.rule_ground.specs.Ground.{IsFaultOf, conditions, ground_fault};
+ghost use Rattle.rule_ground.specs.Phases.{AnswersGrounded};
+ghost use Rattle.rule_ground.specs.Rules.{as_leaves, ground_demand, ground_rules, no_counts};
 ghost use Rattle.rule_ground.specs.Shapes.{HasSmallShapes};
+ghost use Rattle.rule_ground.specs.Start.{first_state};
+ghost use Rattle.rule_ground.specs.Within.{within_conditions};
+ghost use Rattle.rule_values.specs.Calm.{AreCalm};
 
 use crate::apart::push_apart;
 use crate::counts::{count_apart, count_within};
+use crate::flat::push_conditions;
+use crate::named::{ground_named, named_objects};
 use crate::within::push_within;
 use geo_conditions::Cond;
 use geo_tokens::fault::{FaultWord, TextFault};
-use problem_text::problem::{Demand, Problem};
-use std::alloc::{AllocError, Global};
+use linear_conditions::counter::Counter;
+use linear_conditions::fault::GroundFault;
+use linear_conditions::fixings::Fixings;
+use problem_text::problem::{Problem, RangeDef};
+use rule_expand::plain::{PlainBody, PlainFormula, PlainRule};
+use rule_expand::rules::expand_all;
+use rule_names::check::check_names;
+use std::alloc::Global;
 
-/// How many leaves a problem may have: linear conditions and conditions on shapes of its formulas, and conditions of `apart`
-/// and `within`.
-pub const MOST_LEAVES: u64 = 1_000_000;
-
-/// Whether no rule is a formula.
-pub fn has_no_formula(problem: &Problem) -> bool
-    ensures { IsTrue result ↔ HasNoFormula problem.now }
+// The fault of a rule whose name stands at that place.
+fn fault_at(place: u64, fault: GroundFault) -> TextFault
+    ensures { result ≡ fault_at place fault }
 {
-    for rule in problem.rules() {
-        if is_formula(rule.demand()) {
-            return false;
-        }
-    }
-    true
-}
-
-// Whether the rule is a formula.
-fn is_formula(demand: &Demand) -> bool
-    ensures { MatchBool result (IsNoFormula (demand_data demand.now) → ⊥) (IsNoFormula (demand_data demand.now)) }
-{
-    match demand {
-        Demand::Apart => false,
-        Demand::Within(_) => false,
-        Demand::Plain(_) => true,
+    match fault {
+        GroundFault::Overflow => TextFault::At(place, FaultWord::Overflow),
+        GroundFault::TooMany => TextFault::At(place, FaultWord::Ground),
+        GroundFault::Memory => TextFault::Memory,
     }
 }
 
-// How many conditions a rule has.
-fn count_demand(problem: &Problem, demand: &Demand) -> u64
+// Appends the conditions of `apart`.
+fn ground_apart(
+    alloc: Global,
+    problem: &Problem,
+    counter: &mut Counter,
+    out: &mut Vec<Cond>,
+) -> Result<(), GroundFault>
     requires problem { IsWellFormed problem.now }
     requires shapes { HasSmallShapes problem.now }
-    ensures value { result ≡ length (demand_conditions problem.now (demand_data demand.now)) }
-    ensures few { result ≤ 200 * (200 * 65536) }
+    ensures { Appends (as_leaves (apart_conditions problem.now) counter.old) out.old.items out.new.items counter.new result }
 {
-    match demand {
-        Demand::Apart => count_apart(problem),
-        Demand::Within(_) => count_within(problem),
-        Demand::Plain(_) => 0,
+    if let Err(e) = counter.add_leaves(count_apart(problem) as u32) {
+        return Err(e);
+    }
+    match push_apart(alloc, problem, out) {
+        Ok(()) => Ok(()),
+        Err(_e) => Err(GroundFault::Memory),
     }
 }
 
-// The place of the first rule with which there are too many leaves.
-fn first_past(problem: &Problem) -> Option<u64>
+// Appends the conditions of `within`.
+fn ground_within(
+    alloc: Global,
+    problem: &Problem,
+    ranges: &[RangeDef],
+    counter: &mut Counter,
+    out: &mut Vec<Cond>,
+) -> Result<(), GroundFault>
     requires problem { IsWellFormed problem.now }
     requires shapes { HasSmallShapes problem.now }
-    ensures { result ≡ first_past problem.now 0 problem.now.rules }
+    requires ranges { All IsRange (map range_data ranges.now) }
+    requires dims { length ranges.now ≡ problem.now.dims }
+    ensures { Appends (as_leaves (within_conditions problem.now (map range_data ranges.now)) counter.old) out.old.items out.new.items counter.new result }
 {
-    let mut leaves = 0;
-    for rule in problem.rules() {
-        leaves += count_demand(problem, rule.demand());
-        if leaves > MOST_LEAVES {
-            return Some(rule.place());
-        }
+    if let Err(e) = counter.add_leaves(count_within(problem) as u32) {
+        return Err(e);
     }
-    None
+    match push_within(alloc, problem, ranges, out) {
+        Ok(()) => Ok(()),
+        Err(_e) => Err(GroundFault::Memory),
+    }
+}
+
+// Appends the conditions of a formula.
+fn ground_formula(
+    alloc: Global,
+    problem: &Problem,
+    f: &PlainFormula,
+    counter: &mut Counter,
+    out: &mut Vec<Cond>,
+) -> Result<(), GroundFault>
+    ensures { Appends (ground_demand problem.now (plain (plain_formula_view f.now)) counter.old) out.old.items out.new.items counter.new result }
+{
+    let names = match named_objects(alloc, problem, f) {
+        Ok(names) => names,
+        Err(_e) => return Err(GroundFault::Memory),
+    };
+    match ground_named(
+        alloc,
+        problem,
+        names.as_slice(),
+        f,
+        &Fixings::Nothing,
+        counter,
+    ) {
+        Ok(c) => match push_conditions(alloc, &c, out) {
+            Ok(()) => Ok(()),
+            Err(_e) => Err(GroundFault::Memory),
+        },
+        Err(e) => Err(e),
+    }
 }
 
 // Appends the conditions of a rule.
-fn push_demand(
+fn ground_body(
     alloc: Global,
     problem: &Problem,
-    demand: &Demand,
+    body: &PlainBody,
+    counter: &mut Counter,
     out: &mut Vec<Cond>,
-) -> Result<(), AllocError>
+) -> Result<(), GroundFault>
     requires problem { IsWellFormed problem.now }
     requires shapes { HasSmallShapes problem.now }
-    requires demand { IsDemand problem.now.dims (demand_data demand.now) }
-    ensures { OnOk result (map cond_view out.new.items ≡ map cond_view out.old.items
-        ++ demand_conditions problem.now (demand_data demand.now)) }
+    requires ranges { HasRanges problem.now (body_data body.now) }
+    ensures { Appends (ground_demand problem.now (body_data body.now) counter.old) out.old.items out.new.items counter.new result }
 {
-    match demand {
-        Demand::Apart => push_apart(alloc, problem, out),
-        Demand::Within(ranges) => push_within(alloc, problem, ranges, out),
-        Demand::Plain(_) => Ok(()),
+    match body {
+        PlainBody::Apart => ground_apart(alloc, problem, counter, out),
+        PlainBody::Within(ranges) => ground_within(alloc, problem, ranges, counter, out),
+        PlainBody::Plain(f) => ground_formula(alloc, problem, f, counter, out),
     }
 }
 
-// The conditions of all rules.
-fn make_conditions(alloc: Global, problem: &Problem) -> Result<Vec<Cond>, AllocError>
+// The conditions of some rules.
+fn ground_each(
+    alloc: Global,
+    problem: &Problem,
+    rules: &[PlainRule],
+) -> Result<Vec<Cond>, TextFault>
     requires problem { IsWellFormed problem.now }
     requires shapes { HasSmallShapes problem.now }
-    ensures { IfOk result (λ v. map cond_view v.items ≡ conditions problem.now) }
+    requires ranges { All (λ (r : PlainRuleData). HasRanges problem.now r.demand) (map plain_rule_data rules.now) }
+    ensures { AnswersRules (ground_rules problem.now (map plain_rule_data rules.now) no_counts) result }
 {
+    let mut counter = Counter::new();
     let mut out = Vec::new(alloc);
-    for rule in problem.rules() {
-        push_demand(alloc, problem, rule.demand(), &mut out)?;
+    for rule in rules {
+        if let Err(fault) = ground_body(alloc, problem, &rule.body, &mut counter, &mut out) {
+            return Err(fault_at(rule.place, fault));
+        }
     }
     Ok(out)
 }
 
-/// The conditions of a problem without formulas, in the order of its rules: those of `apart` for each two objects in file order,
-/// their shapes and their boxes; those of `within` for each object, its shapes, their boxes and the dimensions, the low end
-/// first.
+/// The conditions of the rules of a problem, in file order; `rules` are its rules without macros.
 ///
-/// A problem with more than 1,000,000 leaves is refused with `ground` at the name of the first rule that passes this number;
-/// they are counted before they are made. On each tuple of the problem all conditions are true exactly where every rule holds.
-pub fn ground(alloc: Global, problem: &Problem) -> Result<Vec<Cond>, TextFault>
-    requires problem { IsWellFormed problem.now }
-    requires shapes { HasSmallShapes problem.now }
-    requires formulas { HasNoFormula problem.now }
+/// `apart` gives its conditions for each two objects in file order, their shapes and their boxes; `within` for each object, its
+/// shapes, their boxes and the dimensions, the low end first. A formula gives those of the tree that it is grounded to. The
+/// first rule with which a form is out of bounds is refused with `overflow`, and the first with which there are more than
+/// 20,000,000 visits, 1,000,000 leaves or 8,000,000 terms, counted over all rules, with `ground`, whichever is met first; each
+/// at the place of its name. On each tuple of the problem all conditions are true exactly where every rule holds, and the
+/// evaluation of the rules meets only numbers that fit 128 bits.
+pub fn ground_rules(
+    alloc: Global,
+    problem: &Problem,
+    rules: &[PlainRule],
+) -> Result<Vec<Cond>, TextFault>
+    requires rules { map plain_rule_data rules.now ≡ rules_expanded problem.now }
+    requires expands { expansion_fault problem.now ≡ None }
     ensures conditions { MatchResult result
         (λ v. (map cond_view v.items ≡ conditions problem.now) × (ground_fault problem.now ≡ None))
         (λ e. IsFaultOf (ground_fault problem.now) e) }
     ensures meaning { IfOk result (λ v. (t : Tuple) → IsTuple problem.now t
         → AllHold v.items t ↔ All (λ (r : RuleData). DemandHolds problem.now t r.demand) problem.now.rules) }
+    ensures fit { IfOk result (λ v. AllFit v.items (first_state problem.now)) }
+    ensures calm { IfOk result (λ v. (t : Tuple) → IsTuple problem.now t → AreCalm problem.now t (map plain_rule_data rules.now)) }
 {
-    if let Some(place) = first_past(problem) {
-        return Err(TextFault::At(place, FaultWord::Ground));
+    problem.is_said();
+    ground_each(alloc, problem, rules)
+}
+
+/// All conditions of a problem, or the first fault of its rules: names and kinds come first, then rules without macros that are
+/// too large or multiply coordinates, and then the conditions.
+pub fn ground(alloc: Global, problem: &Problem) -> Result<Vec<Cond>, TextFault>
+    ensures answers { AnswersGrounded result problem.now }
+    ensures meaning { IfOk result (λ v. (t : Tuple) → IsTuple problem.now t
+        → AllHold v.items t ↔ All (λ (r : RuleData). DemandHolds problem.now t r.demand) problem.now.rules) }
+{
+    if let Err(fault) = check_names(alloc, problem) {
+        return Err(fault);
     }
-    match make_conditions(alloc, problem) {
-        Ok(made) => Ok(made),
-        Err(_e) => Err(TextFault::Memory),
+    match expand_all(alloc, problem) {
+        Ok(rules) => ground_rules(alloc, problem, rules.as_slice()),
+        Err(fault) => Err(fault),
     }
 }

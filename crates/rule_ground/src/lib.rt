@@ -3,9 +3,17 @@
 
 mod apart;
 mod counts;
+mod elements;
+mod flat;
+mod formulas;
 pub mod ground;
 mod literals;
+mod named;
+mod needs;
 pub mod order;
+pub mod quantifiers;
 mod shapes;
 pub mod start;
+#[cfg(test)]
+mod tests;
 mod within;

@@ -3,7 +3,7 @@
 ghost use Rattle.std.specs.Prelude.{◌≡◌, ◌<◌, ◌+ℤ◌, ◌-ℤ◌, IfOk, [], ◌∷◌, pos, negsuc};
 ghost use Rattle.geo_base.specs.Boxes.{coordinate};
 ghost use Rattle.geo_conditions.specs.Form.{IsBounded};
-ghost use Rattle.rule_ground.specs.CondTree.{cond_view, linear};
+ghost use Rattle.linear_conditions.specs.CondTree.{cond_view, linear};
 ghost use Rattle.rule_ground.specs.Shapes.{term};
 
 use geo_conditions::{Cond, Form, ObjId};

@@ -21,9 +21,8 @@ fn is_downwards(side: Side) -> bool
     }
 }
 
-/// The search order of a problem: its objects one after another, and for each dimension whether its values are tried from
-/// the high end down. It names each object once.
-pub fn search_order(alloc: Global, problem: &Problem) -> Result<SearchOrder, AllocError>
+// The objects one after another, and the ends from which values are tried.
+fn made_order(alloc: Global, problem: &Problem) -> Result<SearchOrder, AllocError>
     requires problem { IsWellFormed problem.now }
     ensures value { IfOk result (λ order. order ≡ order_of problem.now) }
     ensures names { IfOk result (λ order. NamesEach problem.now.dims (first_state problem.now) order) }
@@ -37,4 +36,14 @@ pub fn search_order(alloc: Global, problem: &Problem) -> Result<SearchOrder, All
         down.push(is_downwards(*side))?;
     }
     SearchOrder::new(alloc, objects.as_slice(), down.as_slice())
+}
+
+/// The search order of a problem: its objects one after another, and for each dimension whether its values are tried from
+/// the high end down. It names each object once.
+pub fn search_order(alloc: Global, problem: &Problem) -> Result<SearchOrder, AllocError>
+    ensures value { IfOk result (λ order. order ≡ order_of problem.now) }
+    ensures names { IfOk result (λ order. NamesEach problem.now.dims (first_state problem.now) order) }
+{
+    problem.is_said();
+    made_order(alloc, problem)
 }

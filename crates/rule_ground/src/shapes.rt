@@ -3,7 +3,7 @@
 ghost use Rattle.std.specs.Prelude.{◌≡◌, ◌<◌, ◌++◌, All, OnOk, length, map};
 ghost use Rattle.problem_text.specs.Tuple.{object_of};
 ghost use Rattle.problem_text.specs.WellFormed.{IsBox, IsWellFormed};
-ghost use Rattle.rule_ground.specs.CondTree.{cond_view};
+ghost use Rattle.linear_conditions.specs.CondTree.{cond_view};
 ghost use Rattle.rule_ground.specs.Shapes.{IsPlace, boxes_at, has_several, other_shape};
 
 use geo_conditions::{Cond, Conds, ObjId};

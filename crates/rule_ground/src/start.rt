@@ -30,9 +30,8 @@ fn region<const K: usize>(object: &ObjectDef) -> KBox<K>
     KBox::new(lo, hi)
 }
 
-/// The state in which a search for a layout of the problem begins: each object has all its shapes, by their places from 1,
-/// and its ranges. Its tuples are those of the problem. K is the number of dimensions.
-pub fn start_state<const K: usize>(alloc: Global, problem: &Problem) -> Result<State<K>, AllocError>
+// All that is open to each object.
+fn first_state<const K: usize>(alloc: Global, problem: &Problem) -> Result<State<K>, AllocError>
     requires problem { IsWellFormed problem.now }
     requires dims { problem.now.dims ≡ K }
     ensures value { IfOk result (λ s. s ≡ first_state problem.now) }
@@ -45,4 +44,16 @@ pub fn start_state<const K: usize>(alloc: Global, problem: &Problem) -> Result<S
         state.add_object(shapes, region(object))?;
     }
     Ok(state)
+}
+
+/// The state in which a search for a layout of the problem begins: each object has all its shapes, by their places from 1,
+/// and its ranges. Its tuples are those of the problem. K is the number of dimensions.
+pub fn start_state<const K: usize>(alloc: Global, problem: &Problem) -> Result<State<K>, AllocError>
+    requires dims { problem.now.dims ≡ K }
+    ensures value { IfOk result (λ s. s ≡ first_state problem.now) }
+    ensures tuples { IfOk result (λ s. (t : Tuple) → TupleIn t s ↔ IsTuple problem.now t) }
+    ensures ends { IfOk result HasSmallEnds }
+{
+    problem.is_said();
+    first_state(alloc, problem)
 }

@@ -7,7 +7,7 @@ ghost use Rattle.problem_text.specs.Cells.{range_at};
 ghost use Rattle.problem_text.specs.Limits.{IsSize, IsSmall};
 ghost use Rattle.problem_text.specs.ProblemView.{range_data};
 ghost use Rattle.problem_text.specs.WellFormed.{IsBox, IsRange, IsWellFormed};
-ghost use Rattle.rule_ground.specs.CondTree.{at_least, cond_view, conds, shape_is_not};
+ghost use Rattle.linear_conditions.specs.CondTree.{at_least, cond_view, conds, shape_is_not};
 ghost use Rattle.rule_ground.specs.Shapes.{HasSmallShapes, IsPlace, IsSmallBox};
 ghost use Rattle.rule_ground.specs.Within.{from_low, to_high, unless_other, within_at_place, within_conditions, within_in, within_of, within_of_box};
 

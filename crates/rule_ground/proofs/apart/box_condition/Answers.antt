@@ -1,10 +1,10 @@
 use Rattle.std.proofs.Common.{◌≡◌, ◌+◌, ℕ, List, ◌++◌, pos, ap, ◌∙◌, arith, refl}
 use Rattle.std.specs.List.{flat_map, range_with_len}
-use Rattle.rule_ground.specs.CondTree.{CondTree, at_least, conds}
+use Rattle.linear_conditions.specs.CondTree.{CondTree, at_least, conds}
 use Rattle.rule_ground.proofs.Lists.{flat-more, number-more}
 use Rattle.rule_ground.specs.Apart.{parted_in}
 use Rattle.rule_ground.specs.Shapes.{other_shape}
-use Rattle.rule_ground.proofs.CondViews.{view-at_least}
+use Rattle.linear_conditions.proofs.CondViews.{view-at_least}
 use Rattle.rule_ground.proofs.apart.box_condition.Goals as goal
 
 pub loop-d-preserved : goal.loop-d-preserved

@@ -1,6 +1,6 @@
 use Rattle.std.proofs.Common.{◌≡◌, ◌++◌, map}
 use Rattle.std.specs.List.{flat_map, range_with_len}
-use Rattle.rule_ground.specs.CondTree.{cond_view}
+use Rattle.linear_conditions.specs.CondTree.{cond_view}
 use Rattle.rule_ground.specs.Apart.{parted_in}
 use Rattle.rule_ground.specs.Shapes.{other_shape}
 use Rattle.rule_ground.proofs.apart.box_condition.Given as goal

@@ -1,6 +1,6 @@
 use Rattle.std.proofs.Common.{◌≡◌, ◌++◌, ◌+◌, ◌-◌, map}
 use Rattle.std.specs.List.{flat_map, range_with_len}
-use Rattle.rule_ground.specs.CondTree.{cond_view}
+use Rattle.linear_conditions.specs.CondTree.{cond_view}
 use Rattle.rule_ground.specs.Apart.{apart_of}
 use Rattle.rule_ground.proofs.apart.push_behind.Given as goal
 

@@ -1,5 +1,5 @@
 use Rattle.std.proofs.Common.{◌≡◌, ◌++◌, map, take}
-use Rattle.rule_ground.specs.CondTree.{cond_view}
+use Rattle.linear_conditions.specs.CondTree.{cond_view}
 use Rattle.rule_ground.specs.Apart.{apart_condition}
 use Rattle.rule_ground.proofs.apart.push_box.Given as goal
 

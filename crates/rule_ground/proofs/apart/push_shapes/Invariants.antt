@@ -1,6 +1,6 @@
 use Rattle.std.proofs.Common.{◌≡◌, ◌++◌, map, take}
 use Rattle.std.specs.List.{flat_map}
-use Rattle.rule_ground.specs.CondTree.{cond_view}
+use Rattle.linear_conditions.specs.CondTree.{cond_view}
 use Rattle.rule_ground.specs.Apart.{apart_from_box}
 use Rattle.rule_ground.proofs.apart.push_shapes.Given as goal
 

@@ -1,6 +1,6 @@
 use Rattle.std.proofs.Common.{◌≡◌, ◌*◌, ◌≤◌, length}
 use Rattle.std.specs.List.{range_with_len}
-use Rattle.rule_ground.specs.Ground.{total}
+use Rattle.rule_ground.specs.BoxCounts.{total}
 use Rattle.rule_ground.specs.Shapes.{boxes_at}
 use Rattle.rule_ground.proofs.counts.box_count.Given as goal
 

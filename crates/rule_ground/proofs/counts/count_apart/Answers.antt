@@ -1,6 +1,6 @@
 use Rattle.std.proofs.Common.{◌≡◌, ◌+◌, ℕ, length, ap, sym, ◌∙◌, refl, arith}
 use Rattle.std.specs.List.{range_with_len}
-use Rattle.rule_ground.specs.Ground.{total}
+use Rattle.rule_ground.specs.BoxCounts.{total}
 use Rattle.rule_ground.specs.Apart.{apart_behind}
 use Rattle.rule_ground.proofs.Lists.{number-more}
 use Rattle.rule_ground.proofs.Numbers.{total-more, all-apart}

@@ -1,6 +1,6 @@
 use Rattle.std.proofs.Common.{◌≡◌, ◌+◌, ◌-◌, ◌*◌, ℕ, length, ap, sym, ◌∙◌, arith}
 use Rattle.std.specs.List.{range_with_len}
-use Rattle.rule_ground.specs.Ground.{total, box_count}
+use Rattle.rule_ground.specs.BoxCounts.{total, box_count}
 use Rattle.rule_ground.proofs.Lists.{number-more}
 use Rattle.rule_ground.proofs.Numbers.{total-more, objects-behind}
 use Rattle.rule_ground.proofs.counts.count_behind.Goals as goal

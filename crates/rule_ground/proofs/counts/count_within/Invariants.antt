@@ -1,6 +1,6 @@
 use Rattle.std.proofs.Common.{◌≡◌, ◌*◌, ◌≤◌}
 use Rattle.std.specs.List.{range_with_len}
-use Rattle.rule_ground.specs.Ground.{total, box_count}
+use Rattle.rule_ground.specs.BoxCounts.{total, box_count}
 use Rattle.rule_ground.proofs.counts.count_within.Given as goal
 
 abbrev pub invariant-loop-o : goal.invariant-loop-o

@@ -1,7 +1,7 @@
 use Rattle.std.proofs.Common.{◌∙◌, ap, List, pos}
 use Rattle.geo_conditions.specs.declared.cond.Cond.{NotShape}
-use Rattle.rule_ground.specs.CondTree.{CondTree, at_least, conds}
-use Rattle.rule_ground.proofs.CondViews.{view-at_least, two-made}
+use Rattle.linear_conditions.specs.CondTree.{CondTree, at_least, conds}
+use Rattle.linear_conditions.proofs.CondViews.{view-at_least, two-made}
 use Rattle.rule_ground.proofs.within.other_or.Goals as goal
 
 pub returns : goal.returns

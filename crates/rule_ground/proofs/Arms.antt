@@ -1,0 +1,132 @@
+-- What the arms of grounding give.
+use Rattle.std.proofs.Common.{◌≡◌, ℕ, zero, suc, ◌+◌, ◌<◌, ◌≤◌, get_or, drop, Bool, List, [], ◌∷◌, ◌++◌, length, map, pos, sym, ap, ◌∙◌, refl, arith, subst}
+use Rattle.std.specs.Prelude.{Result, MatchResult, slice_index_or, ⊤}
+use Rattle.std.proofs.lemmas.List.{drop_more, length-map}
+use Rattle.std.proofs.lemmas.List.FromFn.{length-range_with_len, get_or-range_with_len}
+use Rattle.std.proofs.Math.ListN.{drop_of_length-le}
+use Rattle.geo_conditions.specs.declared.cond.Cond.{Cond}
+use Rattle.rule_syntax.specs.declared.tree.QuantKind.{QuantKind}
+use Rattle.problem_text.specs.Problem.{ProblemData}
+use Rattle.problem_text.specs.Tuple.{object_of}
+use Rattle.problem_text.specs.Value.{Thing, Number}
+use Rattle.rule_expand.specs.declared.plain.Subject.TheVariants as subjects
+use Rattle.rule_expand.specs.Plain.{PlainCollTree, PlainFormulaTree, quantified}
+use Rattle.rule_expand.specs.PlainTruth.{PlainEnv, set_variable}
+use Rattle.rule_expand.specs.PlainView.{plain_formula_view, plain_formulas_view}
+use Rattle.rule_expand.specs.Counts.{nodes, nodes_in}
+use Rattle.rule_expand.specs.declared.plain.PlainFormula.{PlainFormula}
+use Rattle.linear_conditions.specs.CondTree.{CondTree, cond_view}
+use Rattle.linear_conditions.specs.Fixings.{Fixing}
+use Rattle.linear_conditions.specs.Counts.{Counts, Outcome, Fault, Done, and_then, visit}
+use Rattle.linear_conditions.specs.Faults.{IsFault}
+use Rattle.linear_conditions.specs.declared.fault.GroundFault.{GroundFault}
+use Rattle.linear_conditions.specs.declared.fault.GroundFault.TheVariants.{Memory}
+use Rattle.rule_ground.specs.declared.quantifiers.Manner.{Manner}
+use Rattle.rule_ground.specs.declared.quantifiers.Manner.TheVariants as ways
+use Rattle.rule_ground.specs.Shapes.{places}
+use Rattle.rule_ground.specs.Answers.{Gives, Appends}
+use Rattle.rule_ground.specs.Grounding.{Element, alone, ground, needs, manner, body_sign, quantifier_node, grouped, things_of, element_of, elements_of, ground_elements}
+use Rattle.rule_ground.proofs.Behind.{then-done, then-made, then-fault, free, both_ways, appended}
+
+-- a result that is made of another one
+pub gives-made : (A : Type 0) (o : Outcome A) (f : A → CondTree) (a : A) (j : Counts) (r : Result Cond GroundFault) → o ≡ Done a j → MatchResult r (λ c. cond_view c ≡ f a) (λ e. e ≡ Memory) →
+    Gives (and_then A CondTree o (λ x i. Done (f x) i)) j r
+gives-made A o f a j r h m = both_ways Cond GroundFault r _ _ _ _ m (λ c v. then-made A CondTree o f a j (cond_view c) h v) (λ e v. free CondTree (and_then A CondTree o (λ x i. Done (f x) i)) e v)
+
+-- behind a step that was counted
+pub step-gives : (o : Outcome Counts) (go : Counts → Counts → Outcome CondTree) (k j : Counts) (r : Result Cond GroundFault) → o ≡ Done k k → Gives (go k k) j r → Gives (and_then Counts CondTree o go) j r
+step-gives o go k j r e h = subst (λ u. Gives u j r) (sym (then-done Counts CondTree o go k k e)) h
+
+pub step-fault : (o : Outcome Counts) (go : Counts → Counts → Outcome CondTree) (k : Counts) (e : GroundFault) → o ≡ Done k k → IsFault CondTree (go k k) e → IsFault CondTree (and_then Counts CondTree o go) e
+step-fault o go k e d h = subst (λ u. IsFault CondTree u e) (sym (then-done Counts CondTree o go k k d)) h
+
+-- one condition appended
+pub appends-one : (old new : List Cond) (o : Outcome CondTree) (c : Cond) (j : Counts) (r : Result ⊤ GroundFault) → o ≡ Done (cond_view c) j → MatchResult r (λ u. new ≡ old ++ c ∷ []) (λ e. e ≡ Memory) → Appends (alone o) old new j r
+appends-one old new o c j r h m = both_ways ⊤ GroundFault r _ _ _ _ m (λ u v. appended old new o c j h v) (λ e v. free (List CondTree) (alone o) e v)
+
+operand-nodes : (items : List PlainFormula) (i : ℕ) (d : PlainFormula) → i < length items → nodes (plain_formula_view (get_or items i d)) ≤ nodes_in (plain_formulas_view items)
+operand-nodes [] i d h = absurd (omega arith)
+operand-nodes (x ∷ xs) zero d h = omega arith
+operand-nodes (x ∷ xs) (suc i) d h = omega (arith, operand-nodes xs i d (omega arith))
+
+-- an operand is no larger than all
+pub operand-size : (items : List PlainFormula) (i : ℕ) (x : PlainFormula) → i < length items → x ≡ get_or items i x → nodes (plain_formula_view x) ≤ nodes_in (plain_formulas_view items)
+operand-size items i x h e = subst (λ y. nodes (plain_formula_view y) ≤ nodes_in (plain_formulas_view items)) (sym e) (operand-nodes items i x h)
+
+module _ (p : ProblemData) (kind : QuantKind) (v : ℕ) (coll : PlainCollTree) (f : PlainFormulaTree) (sign : Bool) (env : PlainEnv) (fix : List Fixing) (k k1 : Counts) (s asked : Bool) (m : Manner) (ts : List Thing)
+    (counted : visit k ≡ Done k1 k1) (es : s ≡ body_sign kind sign) (em : m ≡ manner kind sign) (ea : asked ≡ needs (subjects.Variable v) f) (et : ts ≡ things_of p coll env fix) where
+  same-elements : ground_elements p (λ x more j. ground p f (body_sign kind sign) (set_variable v x env) more j) (manner kind sign) fix (elements_of p (needs (subjects.Variable v) f) coll env fix) k1
+      ≡ ground_elements p (λ x more j. ground p f s (set_variable v x env) more j) m fix (map (element_of p asked fix) ts) k1
+  same-elements i = ground_elements p (λ x more j. ground p f (sym es i) (set_variable v x env) more j) (sym em i) fix (map (element_of p (sym ea i) fix) (sym et i)) k1
+
+  -- a quantifier from the children of its elements
+  pub quantified-made : (j : Counts) (n : ℕ) (cs : List CondTree) (r : Result Cond GroundFault) → n ≡ length ts →
+      ground_elements p (λ x more i. ground p f s (set_variable v x env) more i) m fix (map (element_of p asked fix) ts) k1 ≡ Done cs j →
+      MatchResult r (λ c. cond_view c ≡ quantifier_node kind sign n cs) (λ e. e ≡ Memory) → Gives (ground p (quantified kind v coll f) sign env fix k) j r
+  quantified-made j n cs r en h q =
+      let xs = elements_of p (needs (subjects.Variable v) f) coll env fix in
+      let l : n ≡ length xs = en ∙ ap length et ∙ sym (length-map (things_of p coll env fix) (element_of p (needs (subjects.Variable v) f) fix)) in
+      step-gives (visit k) _ k1 j r counted
+      (gives-made (List CondTree) _ (quantifier_node kind sign (length xs)) cs j r (same-elements ∙ h) (subst (λ w. MatchResult r (λ c. cond_view c ≡ quantifier_node kind sign w cs) (λ e. e ≡ Memory)) l q))
+
+  pub quantified-fault : (e : GroundFault) → IsFault (List CondTree) (ground_elements p (λ x more i. ground p f s (set_variable v x env) more i) m fix (map (element_of p asked fix) ts) k1) e →
+      IsFault CondTree (ground p (quantified kind v coll f) sign env fix k) e
+  quantified-fault e h =
+      step-fault (visit k) _ k1 e counted (then-fault (List CondTree) CondTree _ _ e (subst (λ o. IsFault (List CondTree) o e) (sym same-elements) h))
+
+-- the element at a place
+pub elements-at : (f : Thing → Element) (ts : List Thing) (i : ℕ) (x : Thing) (y : Element) → i < length ts → x ≡ slice_index_or ts i (Number (pos 0)) → y ≡ f x → map f (drop i ts) ≡ y ∷ map f (drop (i + 1) ts)
+elements-at f ts i x y h e g = ap (map f) (drop_more ts i (Number (pos 0)) h) ∙ (λ j. (ap f (sym e) ∙ sym g) j ∷ map f (drop (i + 1) ts))
+
+pub elements-over : (f : Thing → Element) (ts : List Thing) (i : ℕ) → length ts ≤ i → map f (drop i ts) ≡ []
+elements-over f ts i h = ap (map f) (drop_of_length-le ts h)
+
+-- the place behind the first i
+pub place-at : (p : ProblemData) (o i n : ℕ) → n ≡ length (object_of p o).shapes → i < n → drop i (places p o) ≡ (i + 1) ∷ drop (i + 1) (places p o)
+place-at p o i n e h =
+    let m = length (object_of p o).shapes in
+    let l : i < m = omega arith in
+    drop_more (places p o) i 0 (let s = length-range_with_len 1 m in omega (arith, s, l))
+    ∙ (λ j. (get_or-range_with_len 1 m i 0 l ∙ (let q : 1 + i ≡ i + 1 = omega arith in q)) j ∷ drop (i + 1) (places p o))
+
+pub places-over : (p : ProblemData) (o i n : ℕ) → n ≡ length (object_of p o).shapes → n ≤ i → drop i (places p o) ≡ []
+places-over p o i n e h = drop_of_length-le (places p o) (let s = length-range_with_len 1 (length (object_of p o).shapes) in omega (arith, s, e, h))
+
+-- a single child behind a step that was counted
+pub alone-then : (o : Outcome Counts) (go : Counts → Counts → Outcome CondTree) → alone (and_then Counts CondTree o go) ≡ and_then Counts (List CondTree) o (λ k same. alone (go k same))
+unfolding and_then
+alone-then (Fault w) go = refl
+alone-then (Done k j) go = refl
+
+-- the group of a split as the child of a count
+pub alone-grouped : (o : Outcome (List CondTree)) (f : List CondTree → CondTree) → alone (and_then (List CondTree) CondTree o (λ cs k. Done (f cs) k)) ≡ and_then (List CondTree) (List CondTree) o (λ cs k. Done (f cs ∷ []) k)
+unfolding and_then
+alone-grouped (Fault w) f = refl
+alone-grouped (Done cs k) f = refl
+
+same-children : (o : Outcome (List CondTree)) → o ≡ and_then (List CondTree) (List CondTree) o (λ cs k. Done cs k)
+unfolding and_then
+same-children (Fault w) = refl
+same-children (Done cs k) = refl
+
+-- the children of a split that is not counted
+pub ungrouped : (m : Manner) (o : Outcome (List CondTree)) → (m ≡ ways.Counted → ⊥) → o ≡ and_then (List CondTree) (List CondTree) o (λ cs k. Done (grouped m cs) k)
+ungrouped ways.All o h = same-children o
+ungrouped ways.One o h = same-children o
+ungrouped ways.Counted o h = absurd (h refl)
+
+joined-one : (o : Outcome CondTree) (f : List CondTree → CondTree) → and_then (List CondTree) CondTree (alone o) (λ cs j. Done (f cs) j) ≡ and_then CondTree CondTree o (λ c j. Done (f (c ∷ [])) j)
+unfolding and_then
+joined-one (Fault w) f = refl
+joined-one (Done c j) f = refl
+
+-- the only child of a node
+pub joined-alone : (o : Outcome Counts) (go : Counts → Outcome CondTree) (f : List CondTree → CondTree) →
+    and_then (List CondTree) CondTree (and_then Counts (List CondTree) o (λ k same. alone (go k))) (λ cs j. Done (f cs) j) ≡ and_then Counts CondTree o (λ k same. and_then CondTree CondTree (go k) (λ c j. Done (f (c ∷ [])) j))
+unfolding and_then
+joined-alone (Fault w) go f = refl
+joined-alone (Done k j) go f = joined-one (go k) f
+
+pub joined-same : (o : Outcome (List CondTree)) (f : List CondTree → CondTree) →
+    and_then (List CondTree) CondTree (and_then (List CondTree) (List CondTree) o (λ cs j. Done cs j)) (λ cs j. Done (f cs) j) ≡ and_then (List CondTree) CondTree o (λ cs j. Done (f cs) j)
+joined-same o f = ap (λ u. and_then (List CondTree) CondTree u (λ cs j. Done (f cs) j)) (sym (same-children o))

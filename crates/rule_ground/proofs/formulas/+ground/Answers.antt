@@ -1,0 +1,299 @@
+use Rattle.std.proofs.Common.{◌≡◌, ℕ, ◌+◌, List, [], ◌∷◌, drop, map, not, true, false, sym, ap, ◌∙◌, arith, subst}
+use Rattle.linear_conditions.specs.CondTree.{cond_view, CondTree}
+use Rattle.linear_conditions.specs.Counts.{Counts, Outcome, Done, and_then, one_leaf, one_visit, visit, within_limits}
+use Rattle.linear_conditions.specs.Faults.{IsFault}
+use Rattle.linear_conditions.specs.Folding.{joined}
+use Rattle.linear_conditions.specs.Views.{fixings_view}
+use Rattle.problem_text.specs.Value.{Object}
+use Rattle.rule_expand.specs.Plain.{implication}
+use Rattle.rule_expand.specs.PlainView.{plain_coll_view, plain_formula_view, plain_formulas_view}
+use Rattle.rule_values.specs.Elements.{elements_view}
+use Rattle.rule_values.specs.View.{env_view, thing_view}
+use Rattle.rule_ground.specs.declared.quantifiers.Manner.TheVariants as ways
+use Rattle.rule_ground.specs.Answers.{behind, Appends, Gives, body_at, element_view}
+use Rattle.rule_ground.specs.Grounding.{Element, element_of, ground as grounded, alone, in_turn, ground_element, ground_elements, ground_operands, ground_place, ground_places, shape_child}
+use Rattle.rule_ground.specs.Shapes.{places}
+use Rattle.rule_ground.proofs.Behind.{then-fault, behind-init, fault-behind, alone-fault, appended, turn-stop, turn-done, turn-fault, turn-late, walk-init, walk-stop, walk-step, walk-fault, walk-end, gather-walk, gather-failed, gather-over, both_ways, free}
+use Rattle.rule_ground.proofs.Arms.{gives-made, step-gives, step-fault, appends-one, operand-size, quantified-made, quantified-fault, elements-at, elements-over, place-at, places-over, alone-then, alone-grouped, ungrouped}
+use Rattle.rule_ground.proofs.Chains.{env-more, fixings-more, view-implies}
+use Rattle.linear_conditions.specs.declared.fixings.Fixings.TheVariants as chain
+use Rattle.rule_values.specs.declared.env.Env.TheVariants as envs
+use Rattle.rule_values.specs.declared.env.Thing.TheVariants as things
+use Rattle.rule_ground.proofs.formulas.+ground.Goals as goal
+
+pub ground-returns-in-Implies : goal.ground-returns-in-Implies
+ground-returns-in-Implies t c =
+    subst (λ f. Gives (grounded c.args.problem.now f c.args.sign (env_view c.args.env.now) (fixings_view c.args.fixings.now) c.args.counter.now) c.ground_pair.new.counter c.ground_pair.result)
+    (sym (ap plain_formula_view c.in-Implies.is ∙ view-implies c.in-Implies.f c.in-Implies.g
+    ∙ (λ i. implication (plain_formula_view (sym c.deref-in-Implies.ensures i)) (plain_formula_view (sym c.deref-in-Implies-2.ensures i)))))
+    c.ground_pair.ensures
+
+pub ground_all_of-returns-in-Ok : goal.ground_all_of-returns-in-Ok
+ground_all_of-returns-in-Ok t c =
+    gives-made (List CondTree) (ground_operands c.args.problem.now (plain_formulas_view c.args.fs.now) c.args.sign c.args.sign (env_view c.args.env.now) (fixings_view c.args.fixings.now) c.args.counter.now)
+    (joined c.args.sign) (map cond_view c.in-Ok.parts.items) c.ground_operands.new.counter c.join.result c.in-Ok.ensures c.join.ensures
+
+pub ground_all_of-returns-in-Err : goal.ground_all_of-returns-in-Err
+ground_all_of-returns-in-Err t c =
+    then-fault (List CondTree) CondTree (ground_operands c.args.problem.now (plain_formulas_view c.args.fs.now) c.args.sign c.args.sign (env_view c.args.env.now) (fixings_view c.args.fixings.now) c.args.counter.now)
+    _ c.in-Err.e c.in-Err.ensures
+
+pub ground_any_of-returns-in-Ok : goal.ground_any_of-returns-in-Ok
+ground_any_of-returns-in-Ok t c =
+    gives-made (List CondTree) (ground_operands c.args.problem.now (plain_formulas_view c.args.fs.now) (not c.args.sign) c.args.sign (env_view c.args.env.now) (fixings_view c.args.fixings.now) c.args.counter.now)
+    (joined (not c.args.sign)) (map cond_view c.in-Ok.parts.items) c.ground_operands.new.counter c.join.result c.in-Ok.ensures c.join.ensures
+
+pub ground_any_of-returns-in-Err : goal.ground_any_of-returns-in-Err
+ground_any_of-returns-in-Err t c =
+    then-fault (List CondTree) CondTree (ground_operands c.args.problem.now (plain_formulas_view c.args.fs.now) (not c.args.sign) c.args.sign (env_view c.args.env.now) (fixings_view c.args.fixings.now) c.args.counter.now)
+    _ c.in-Err.e c.in-Err.ensures
+
+pub ground_element-returns-in-Ok : goal.ground_element-returns-in-Ok
+ground_element-returns-in-Ok t c =
+    let body = body_at c.args.problem.now c.args.site.now in
+    let fix = fixings_view c.args.fixings.now in
+    let o = and_then Counts CondTree (visit c.args.counter.now) (λ k same. body (thing_view c.in-Whole.thing) fix k) in
+    let e : ground_element c.args.problem.now body c.args.manner fix (element_view c.args.element) c.args.counter.now ≡ alone o =
+    ap (λ x. ground_element c.args.problem.now body c.args.manner fix (element_view x) c.args.counter.now) c.in-Whole.is ∙ sym (alone-then (visit c.args.counter.now) (λ k same. body (thing_view c.in-Whole.thing) fix k)) in
+    subst (λ u. Appends u c.args.children.now.items c.add_cond.new.parts.items c.ground_whole.new.counter c.add_cond.result) (sym e)
+    (appends-one c.args.children.now.items c.add_cond.new.parts.items o c.in-Ok.child c.ground_whole.new.counter c.add_cond.result c.in-Ok.ensures c.add_cond.ensures)
+
+pub ground_element-returns-in-Err : goal.ground_element-returns-in-Err
+ground_element-returns-in-Err t c =
+    let body = body_at c.args.problem.now c.args.site.now in
+    let fix = fixings_view c.args.fixings.now in
+    let o = and_then Counts CondTree (visit c.args.counter.now) (λ k same. body (thing_view c.in-Whole.thing) fix k) in
+    let e : ground_element c.args.problem.now body c.args.manner fix (element_view c.args.element) c.args.counter.now ≡ alone o =
+    ap (λ x. ground_element c.args.problem.now body c.args.manner fix (element_view x) c.args.counter.now) c.in-Whole.is ∙ sym (alone-then (visit c.args.counter.now) (λ k same. body (thing_view c.in-Whole.thing) fix k)) in
+    subst (λ u. IsFault (List CondTree) u c.in-Err.e) (sym e) (alone-fault o c.in-Err.e c.in-Err.ensures)
+
+pub ground_element-returns-in-Ok-ground_group : goal.ground_element-returns-in-Ok-ground_group
+ground_element-returns-in-Ok-ground_group t c =
+    let body = body_at c.args.problem.now c.args.site.now in
+    let fix = fixings_view c.args.fixings.now in
+    let places = ground_places c.args.problem.now body ways.Counted fix c.in-Split.object.0 c.args.counter.now in
+    let o = and_then (List CondTree) CondTree places (λ cs k. Done (joined false cs) k) in
+    let e : ground_element c.args.problem.now body c.args.manner fix (element_view c.args.element) c.args.counter.now ≡ alone o =
+    (λ i. ground_element c.args.problem.now body (c.in-Counted.is i) fix (element_view (c.in-Split.is i)) c.args.counter.now) ∙ sym (alone-grouped places (joined false)) in
+    subst (λ u. Appends u c.args.children.now.items c.add_cond-in-Ok-ground_group.new.parts.items c.ground_group.new.counter c.add_cond-in-Ok-ground_group.result) (sym e)
+    (appends-one c.args.children.now.items c.add_cond-in-Ok-ground_group.new.parts.items o c.in-Ok-ground_group.child c.ground_group.new.counter c.add_cond-in-Ok-ground_group.result c.in-Ok-ground_group.ensures c.add_cond-in-Ok-ground_group.ensures)
+
+pub ground_element-returns-in-Err-ground_group : goal.ground_element-returns-in-Err-ground_group
+ground_element-returns-in-Err-ground_group t c =
+    let body = body_at c.args.problem.now c.args.site.now in
+    let fix = fixings_view c.args.fixings.now in
+    let places = ground_places c.args.problem.now body ways.Counted fix c.in-Split.object.0 c.args.counter.now in
+    let o = and_then (List CondTree) CondTree places (λ cs k. Done (joined false cs) k) in
+    let e : ground_element c.args.problem.now body c.args.manner fix (element_view c.args.element) c.args.counter.now ≡ alone o =
+    (λ i. ground_element c.args.problem.now body (c.in-Counted.is i) fix (element_view (c.in-Split.is i)) c.args.counter.now) ∙ sym (alone-grouped places (joined false)) in
+    subst (λ u. IsFault (List CondTree) u c.in-Err-ground_group.e) (sym e) (alone-fault o c.in-Err-ground_group.e c.in-Err-ground_group.ensures)
+
+pub ground_element-returns-in_default : goal.ground_element-returns-in_default
+ground_element-returns-in_default t c =
+    let body = body_at c.args.problem.now c.args.site.now in
+    let fix = fixings_view c.args.fixings.now in
+    let places = ground_places c.args.problem.now body c.args.manner fix c.in-Split.object.0 c.args.counter.now in
+    let e : ground_element c.args.problem.now body c.args.manner fix (element_view c.args.element) c.args.counter.now ≡ places =
+    ap (λ x. ground_element c.args.problem.now body c.args.manner fix (element_view x) c.args.counter.now) c.in-Split.is ∙ sym (ungrouped c.args.manner places c.in_default.not-Counted) in
+    subst (λ u. Appends u c.args.children.now.items c.ground_places.new.children.items c.ground_places.new.counter c.ground_places.result) (sym e) c.ground_places.ensures
+
+pub ground_elements-loop-i-init : goal.ground_elements-loop-i-init
+ground_elements-loop-i-init t c = walk-init c.args.problem.now true true [] [] _ c.new-children.result.items c.new-children.ensures.items
+
+pub ground_elements-returns-in-Err : goal.ground_elements-returns-in-Err
+ground_elements-returns-in-Err t c =
+    gather-failed Element (ground_element c.args.problem.now (body_at c.args.problem.now c.args.site.now) c.args.manner (fixings_view c.args.fixings.now))
+    (ground_elements c.args.problem.now (body_at c.args.problem.now c.args.site.now) c.args.manner (fixings_view c.args.fixings.now) (map (element_of c.args.problem.now c.args.asked (fixings_view c.args.fixings.now)) (elements_view c.args.things.now)) c.args.counter.now)
+    _ _ (element_view c.element_of-element.result) c.loop-i.counter c.loop-i.children.items c.in-Err.e c.loop-i.invariant
+    (elements-at (element_of c.args.problem.now c.args.asked (fixings_view c.args.fixings.now)) (elements_view c.args.things.now) c.loop-i.i (thing_view c.at.result) (element_view c.element_of-element.result) (omega (arith, c.loop-i-test.true, c.len-i-end.ensures)) c.at.ensures c.element_of-element.ensures)
+    c.in-Err.ensures
+
+pub ground_elements-loop-i-preserved : goal.ground_elements-loop-i-preserved
+ground_elements-loop-i-preserved t c =
+    gather-walk Element (ground_element c.args.problem.now (body_at c.args.problem.now c.args.site.now) c.args.manner (fixings_view c.args.fixings.now))
+    (ground_elements c.args.problem.now (body_at c.args.problem.now c.args.site.now) c.args.manner (fixings_view c.args.fixings.now) (map (element_of c.args.problem.now c.args.asked (fixings_view c.args.fixings.now)) (elements_view c.args.things.now)) c.args.counter.now)
+    _ _ (element_view c.element_of-element.result) c.loop-i.counter c.ground_element.new.counter c.loop-i.children.items c.ground_element.new.children.items c.loop-i.invariant
+    (elements-at (element_of c.args.problem.now c.args.asked (fixings_view c.args.fixings.now)) (elements_view c.args.things.now) c.loop-i.i (thing_view c.at.result) (element_view c.element_of-element.result) (omega (arith, c.loop-i-test.true, c.len-i-end.ensures)) c.at.ensures c.element_of-element.ensures)
+    c.in_default.ensures
+
+pub ground_elements-returns : goal.ground_elements-returns
+ground_elements-returns t c =
+    gather-over Element (ground_element c.args.problem.now (body_at c.args.problem.now c.args.site.now) c.args.manner (fixings_view c.args.fixings.now))
+    (ground_elements c.args.problem.now (body_at c.args.problem.now c.args.site.now) c.args.manner (fixings_view c.args.fixings.now) (map (element_of c.args.problem.now c.args.asked (fixings_view c.args.fixings.now)) (elements_view c.args.things.now)) c.args.counter.now)
+    _ c.loop-i.counter c.loop-i.children.items c.loop-i.invariant
+    (elements-over (element_of c.args.problem.now c.args.asked (fixings_view c.args.fixings.now)) (elements_view c.args.things.now) c.loop-i.i (omega (arith, c.loop-i-test.false, c.len-i-end.ensures)))
+
+pub ground_equivalence-returns-in-Err : goal.ground_equivalence-returns-in-Err
+ground_equivalence-returns-in-Err t c =
+    let first : Counts → Outcome CondTree = λ j. in_turn true (λ i. grounded c.args.problem.now (plain_formula_view c.args.f.now) true (env_view c.args.env.now) (fixings_view c.args.fixings.now) i) (λ i. grounded c.args.problem.now (plain_formula_view c.args.g.now) c.args.sign (env_view c.args.env.now) (fixings_view c.args.fixings.now) i) j in
+    let second : Counts → Outcome CondTree = λ j. in_turn true (λ i. grounded c.args.problem.now (plain_formula_view c.args.f.now) false (env_view c.args.env.now) (fixings_view c.args.fixings.now) i) (λ i. grounded c.args.problem.now (plain_formula_view c.args.g.now) (not c.args.sign) (env_view c.args.env.now) (fixings_view c.args.fixings.now) i) j in
+    turn-fault false first second c.args.counter.now c.in-Err.e c.in-Err.ensures
+
+pub ground_equivalence-returns-then-decides : goal.ground_equivalence-returns-then-decides
+ground_equivalence-returns-then-decides t c =
+    let first : Counts → Outcome CondTree = λ j. in_turn true (λ i. grounded c.args.problem.now (plain_formula_view c.args.f.now) true (env_view c.args.env.now) (fixings_view c.args.fixings.now) i) (λ i. grounded c.args.problem.now (plain_formula_view c.args.g.now) c.args.sign (env_view c.args.env.now) (fixings_view c.args.fixings.now) i) j in
+    let second : Counts → Outcome CondTree = λ j. in_turn true (λ i. grounded c.args.problem.now (plain_formula_view c.args.f.now) false (env_view c.args.env.now) (fixings_view c.args.fixings.now) i) (λ i. grounded c.args.problem.now (plain_formula_view c.args.g.now) (not c.args.sign) (env_view c.args.env.now) (fixings_view c.args.fixings.now) i) j in
+    both_ways _ _ _ _ _ _ _ c.joined_one.ensures
+    (λ x v. turn-stop false first second c.args.counter.now c.ground_pair.new.counter (cond_view c.in-Ok.first) (cond_view x) c.in-Ok.ensures (sym c.decides.ensures ∙ c.if-decides.true) v)
+    (λ e v. free CondTree (in_turn false first second c.args.counter.now) e v)
+
+pub ground_equivalence-returns-in-Ok-ground_pair : goal.ground_equivalence-returns-in-Ok-ground_pair
+ground_equivalence-returns-in-Ok-ground_pair t c =
+    let first : Counts → Outcome CondTree = λ j. in_turn true (λ i. grounded c.args.problem.now (plain_formula_view c.args.f.now) true (env_view c.args.env.now) (fixings_view c.args.fixings.now) i) (λ i. grounded c.args.problem.now (plain_formula_view c.args.g.now) c.args.sign (env_view c.args.env.now) (fixings_view c.args.fixings.now) i) j in
+    let second : Counts → Outcome CondTree = λ j. in_turn true (λ i. grounded c.args.problem.now (plain_formula_view c.args.f.now) false (env_view c.args.env.now) (fixings_view c.args.fixings.now) i) (λ i. grounded c.args.problem.now (plain_formula_view c.args.g.now) (not c.args.sign) (env_view c.args.env.now) (fixings_view c.args.fixings.now) i) j in
+    both_ways _ _ _ _ _ _ _ c.joined_two.ensures
+    (λ x v. turn-done false first second c.args.counter.now c.ground_pair.new.counter c.ground_pair-2.new.counter (cond_view c.in-Ok.first) (cond_view c.in-Ok-ground_pair.second) (cond_view x) c.in-Ok.ensures (sym c.decides.ensures ∙ c.if-decides.false) c.in-Ok-ground_pair.ensures v)
+    (λ e v. free CondTree (in_turn false first second c.args.counter.now) e v)
+
+pub ground_equivalence-returns-in-Err-ground_pair : goal.ground_equivalence-returns-in-Err-ground_pair
+ground_equivalence-returns-in-Err-ground_pair t c =
+    let first : Counts → Outcome CondTree = λ j. in_turn true (λ i. grounded c.args.problem.now (plain_formula_view c.args.f.now) true (env_view c.args.env.now) (fixings_view c.args.fixings.now) i) (λ i. grounded c.args.problem.now (plain_formula_view c.args.g.now) c.args.sign (env_view c.args.env.now) (fixings_view c.args.fixings.now) i) j in
+    let second : Counts → Outcome CondTree = λ j. in_turn true (λ i. grounded c.args.problem.now (plain_formula_view c.args.f.now) false (env_view c.args.env.now) (fixings_view c.args.fixings.now) i) (λ i. grounded c.args.problem.now (plain_formula_view c.args.g.now) (not c.args.sign) (env_view c.args.env.now) (fixings_view c.args.fixings.now) i) j in
+    turn-late false first second c.args.counter.now c.ground_pair.new.counter (cond_view c.in-Ok.first) c.in-Err-ground_pair.e c.in-Ok.ensures (sym c.decides.ensures ∙ c.if-decides.false) c.in-Err-ground_pair.ensures
+
+pub ground_group-returns-in-Ok : goal.ground_group-returns-in-Ok
+ground_group-returns-in-Ok t c =
+    let o = ground_places c.args.problem.now (body_at c.args.problem.now c.args.site.now) ways.Counted (fixings_view c.args.fixings.now) c.args.object.0 c.args.counter.now in
+    gives-made (List CondTree) o (joined false) (map cond_view c.ground_places.new.children.items) c.ground_places.new.counter c.join.result
+    (behind-init o ∙ ap (λ l. behind (map cond_view l) o) (sym c.new-children.ensures.items) ∙ c.in-Ok.ensures) c.join.ensures
+
+pub ground_group-returns-in-Err : goal.ground_group-returns-in-Err
+ground_group-returns-in-Err t c =
+    then-fault (List CondTree) CondTree (ground_places c.args.problem.now (body_at c.args.problem.now c.args.site.now) ways.Counted (fixings_view c.args.fixings.now) c.args.object.0 c.args.counter.now) _ c.in-Err.e c.in-Err.ensures
+
+pub ground_operands-loop-f-init : goal.ground_operands-loop-f-init
+ground_operands-loop-f-init t c = walk-init c.args.problem.now c.args.all c.args.sign (env_view c.args.env.now) (fixings_view c.args.fixings.now) _ c.new-parts.result.items c.new-parts.ensures.items
+
+pub ground_operands-ground-requires : goal.ground_operands-ground-requires
+ground_operands-ground-requires t c =
+    let h = operand-size c.args.fs.now c.loop-f.f-index c.f-item.result c.loop-f-test.true c.f-item.is in
+    omega (arith, h)
+
+pub ground_operands-returns-then-stop : goal.ground_operands-returns-then-stop
+ground_operands-returns-then-stop t c =
+    walk-stop c.args.problem.now c.args.all c.args.sign (env_view c.args.env.now) (fixings_view c.args.fixings.now)
+    (ground_operands c.args.problem.now (plain_formulas_view c.args.fs.now) c.args.all c.args.sign (env_view c.args.env.now) (fixings_view c.args.fixings.now) c.args.counter.now)
+    c.args.fs.now c.loop-f.f-index c.f-item.result c.loop-f.counter c.ground.new.counter c.loop-f.parts.items c.add_cond.new.parts.items c.in-Ok.part c.loop-f.invariant (omega arith) c.f-item.is c.in-Ok.ensures
+    (sym c.decides-stop.ensures ∙ c.if-stop.true) c.in_default.ensures
+
+pub ground_operands-returns-in-Err : goal.ground_operands-returns-in-Err
+ground_operands-returns-in-Err t c =
+    walk-fault c.args.problem.now c.args.all c.args.sign (env_view c.args.env.now) (fixings_view c.args.fixings.now)
+    (ground_operands c.args.problem.now (plain_formulas_view c.args.fs.now) c.args.all c.args.sign (env_view c.args.env.now) (fixings_view c.args.fixings.now) c.args.counter.now)
+    c.args.fs.now c.loop-f.f-index c.f-item.result c.loop-f.counter c.loop-f.parts.items c.in-Err.e c.loop-f.invariant (omega arith) c.f-item.is c.in-Err.ensures
+
+pub ground_operands-loop-f-preserved : goal.ground_operands-loop-f-preserved
+ground_operands-loop-f-preserved t c =
+    walk-step c.args.problem.now c.args.all c.args.sign (env_view c.args.env.now) (fixings_view c.args.fixings.now)
+    (ground_operands c.args.problem.now (plain_formulas_view c.args.fs.now) c.args.all c.args.sign (env_view c.args.env.now) (fixings_view c.args.fixings.now) c.args.counter.now)
+    c.args.fs.now c.loop-f.f-index c.f-item.result c.loop-f.counter c.ground.new.counter c.loop-f.parts.items c.add_cond.new.parts.items c.in-Ok.part c.loop-f.invariant (omega arith) c.f-item.is c.in-Ok.ensures
+    (sym c.decides-stop.ensures ∙ c.if-stop.false) c.in_default.ensures
+
+pub ground_operands-returns : goal.ground_operands-returns
+ground_operands-returns t c =
+    walk-end c.args.problem.now c.args.all c.args.sign (env_view c.args.env.now) (fixings_view c.args.fixings.now)
+    (ground_operands c.args.problem.now (plain_formulas_view c.args.fs.now) c.args.all c.args.sign (env_view c.args.env.now) (fixings_view c.args.fixings.now) c.args.counter.now)
+    c.args.fs.now c.loop-f.f-index c.loop-f.counter c.loop-f.parts.items c.loop-f.invariant (omega arith)
+
+pub ground_pair-returns-in-Err : goal.ground_pair-returns-in-Err
+ground_pair-returns-in-Err t c =
+    let first : Counts → Outcome CondTree = λ j. grounded c.args.problem.now (plain_formula_view c.args.f.now) c.args.f_sign (env_view c.args.env.now) (fixings_view c.args.fixings.now) j in
+    let second : Counts → Outcome CondTree = λ j. grounded c.args.problem.now (plain_formula_view c.args.g.now) c.args.g_sign (env_view c.args.env.now) (fixings_view c.args.fixings.now) j in
+    turn-fault c.args.all first second c.args.counter.now c.in-Err.e c.in-Err.ensures
+
+pub ground_pair-returns-then-decides : goal.ground_pair-returns-then-decides
+ground_pair-returns-then-decides t c =
+    let first : Counts → Outcome CondTree = λ j. grounded c.args.problem.now (plain_formula_view c.args.f.now) c.args.f_sign (env_view c.args.env.now) (fixings_view c.args.fixings.now) j in
+    let second : Counts → Outcome CondTree = λ j. grounded c.args.problem.now (plain_formula_view c.args.g.now) c.args.g_sign (env_view c.args.env.now) (fixings_view c.args.fixings.now) j in
+    both_ways _ _ _ _ _ _ _ c.joined_one.ensures
+    (λ x v. turn-stop c.args.all first second c.args.counter.now c.ground.new.counter (cond_view c.in-Ok.first) (cond_view x) c.in-Ok.ensures (sym c.decides.ensures ∙ c.if-decides.true) v)
+    (λ e v. free CondTree (in_turn c.args.all first second c.args.counter.now) e v)
+
+pub ground_pair-returns-in-Ok-ground : goal.ground_pair-returns-in-Ok-ground
+ground_pair-returns-in-Ok-ground t c =
+    let first : Counts → Outcome CondTree = λ j. grounded c.args.problem.now (plain_formula_view c.args.f.now) c.args.f_sign (env_view c.args.env.now) (fixings_view c.args.fixings.now) j in
+    let second : Counts → Outcome CondTree = λ j. grounded c.args.problem.now (plain_formula_view c.args.g.now) c.args.g_sign (env_view c.args.env.now) (fixings_view c.args.fixings.now) j in
+    both_ways _ _ _ _ _ _ _ c.joined_two.ensures
+    (λ x v. turn-done c.args.all first second c.args.counter.now c.ground.new.counter c.ground-2.new.counter (cond_view c.in-Ok.first) (cond_view c.in-Ok-ground.second) (cond_view x) c.in-Ok.ensures (sym c.decides.ensures ∙ c.if-decides.false) c.in-Ok-ground.ensures v)
+    (λ e v. free CondTree (in_turn c.args.all first second c.args.counter.now) e v)
+
+pub ground_pair-returns-in-Err-ground : goal.ground_pair-returns-in-Err-ground
+ground_pair-returns-in-Err-ground t c =
+    let first : Counts → Outcome CondTree = λ j. grounded c.args.problem.now (plain_formula_view c.args.f.now) c.args.f_sign (env_view c.args.env.now) (fixings_view c.args.fixings.now) j in
+    let second : Counts → Outcome CondTree = λ j. grounded c.args.problem.now (plain_formula_view c.args.g.now) c.args.g_sign (env_view c.args.env.now) (fixings_view c.args.fixings.now) j in
+    turn-late c.args.all first second c.args.counter.now c.ground.new.counter (cond_view c.in-Ok.first) c.in-Err-ground.e c.in-Ok.ensures (sym c.decides.ensures ∙ c.if-decides.false) c.in-Err-ground.ensures
+
+pub ground_place-returns-in-Err : goal.ground_place-returns-in-Err
+ground_place-returns-in-Err t c = then-fault Counts CondTree (within_limits (one_leaf (one_visit c.args.counter.now))) _ c.in-Err.e c.in-Err.ensures
+
+pub ground_place-returns-in-Ok : goal.ground_place-returns-in-Ok
+ground_place-returns-in-Ok t c =
+    let body = body_at c.args.problem.now c.args.site.now in
+    let f = plain_formula_view c.args.site.now.formula.now in
+    let o = body (Object c.args.object.0) (record { object = c.args.object.0; place = c.args.place } ∷ fixings_view c.args.fixings.now) c.visit_split.new.self in
+    let e : o ≡ grounded c.args.problem.now f c.args.site.now.sign (env_view (envs.More c.args.site.now.env c.args.site.now.variable (things.Object c.args.object.0))) (fixings_view (chain.More c.args.fixings c.args.object.0 c.args.place)) c.visit_split.new.self =
+    (λ i. grounded c.args.problem.now f c.args.site.now.sign (sym (env-more c.args.site.now.env c.args.site.now.variable (things.Object c.args.object.0)) i) (sym (fixings-more c.args.fixings c.args.object.0 c.args.place) i) c.visit_split.new.self) in
+    step-gives (within_limits (one_leaf (one_visit c.args.counter.now))) _ c.visit_split.new.self c.ground.new.counter c.shape_child.result c.in_default.ensures
+    (gives-made CondTree o (shape_child c.args.manner c.args.object.0 c.args.place) (cond_view c.in-Ok.body) c.ground.new.counter c.shape_child.result (e ∙ c.in-Ok.ensures) c.shape_child.ensures)
+
+pub ground_place-returns-in-Err-ground : goal.ground_place-returns-in-Err-ground
+ground_place-returns-in-Err-ground t c =
+    let body = body_at c.args.problem.now c.args.site.now in
+    let f = plain_formula_view c.args.site.now.formula.now in
+    let o = body (Object c.args.object.0) (record { object = c.args.object.0; place = c.args.place } ∷ fixings_view c.args.fixings.now) c.visit_split.new.self in
+    let e : o ≡ grounded c.args.problem.now f c.args.site.now.sign (env_view (envs.More c.args.site.now.env c.args.site.now.variable (things.Object c.args.object.0))) (fixings_view (chain.More c.args.fixings c.args.object.0 c.args.place)) c.visit_split.new.self =
+    (λ i. grounded c.args.problem.now f c.args.site.now.sign (sym (env-more c.args.site.now.env c.args.site.now.variable (things.Object c.args.object.0)) i) (sym (fixings-more c.args.fixings c.args.object.0 c.args.place) i) c.visit_split.new.self) in
+    step-fault (within_limits (one_leaf (one_visit c.args.counter.now))) _ c.visit_split.new.self c.in-Err-ground.e c.in_default.ensures
+    (then-fault CondTree CondTree o _ c.in-Err-ground.e (subst (λ u. IsFault CondTree u c.in-Err-ground.e) (sym e) c.in-Err-ground.ensures))
+
+pub ground_places-returns-in-Err : goal.ground_places-returns-in-Err
+ground_places-returns-in-Err t c =
+    let body = body_at c.args.problem.now c.args.site.now in
+    let fix = fixings_view c.args.fixings.now in
+    let go : ℕ → Counts → Outcome (List CondTree) = λ s j. alone (ground_place body c.args.manner fix c.args.object.0 s j) in
+    let whole = ground_places c.args.problem.now body c.args.manner fix c.args.object.0 c.args.counter.now in
+    fault-behind (map cond_view c.args.children.now.items) whole c.in-Err.e
+    (gather-failed ℕ go (behind (map cond_view c.args.children.now.items) whole) (drop c.loop-before.before (places c.args.problem.now c.args.object.0)) (drop (c.loop-before.before + 1) (places c.args.problem.now c.args.object.0)) (c.loop-before.before + 1) c.loop-before.counter c.loop-before.children.items c.in-Err.e c.loop-before.invariant
+    (place-at c.args.problem.now c.args.object.0 c.loop-before.before c.place_count-before-end.result c.place_count-before-end.ensures c.loop-before-test.true)
+    (alone-fault (ground_place body c.args.manner fix c.args.object.0 (c.loop-before.before + 1) c.loop-before.counter) c.in-Err.e c.in-Err.ensures))
+
+pub ground_places-loop-before-preserved : goal.ground_places-loop-before-preserved
+ground_places-loop-before-preserved t c =
+    let body = body_at c.args.problem.now c.args.site.now in
+    let fix = fixings_view c.args.fixings.now in
+    let go : ℕ → Counts → Outcome (List CondTree) = λ s j. alone (ground_place body c.args.manner fix c.args.object.0 s j) in
+    let whole = ground_places c.args.problem.now body c.args.manner fix c.args.object.0 c.args.counter.now in
+    gather-walk ℕ go (behind (map cond_view c.args.children.now.items) whole) (drop c.loop-before.before (places c.args.problem.now c.args.object.0)) (drop (c.loop-before.before + 1) (places c.args.problem.now c.args.object.0)) (c.loop-before.before + 1) c.loop-before.counter c.ground_place.new.counter c.loop-before.children.items c.add_cond.new.parts.items c.loop-before.invariant
+    (place-at c.args.problem.now c.args.object.0 c.loop-before.before c.place_count-before-end.result c.place_count-before-end.ensures c.loop-before-test.true)
+    (appended c.loop-before.children.items c.add_cond.new.parts.items (ground_place body c.args.manner fix c.args.object.0 (c.loop-before.before + 1) c.loop-before.counter) c.in-Ok.child c.ground_place.new.counter c.in-Ok.ensures c.in_default.ensures)
+
+pub ground_places-returns : goal.ground_places-returns
+ground_places-returns t c =
+    let body = body_at c.args.problem.now c.args.site.now in
+    let fix = fixings_view c.args.fixings.now in
+    let go : ℕ → Counts → Outcome (List CondTree) = λ s j. alone (ground_place body c.args.manner fix c.args.object.0 s j) in
+    let whole = ground_places c.args.problem.now body c.args.manner fix c.args.object.0 c.args.counter.now in
+    gather-over ℕ go (behind (map cond_view c.args.children.now.items) whole) (drop c.loop-before.before (places c.args.problem.now c.args.object.0)) c.loop-before.counter c.loop-before.children.items c.loop-before.invariant
+    (places-over c.args.problem.now c.args.object.0 c.loop-before.before c.place_count-before-end.result c.place_count-before-end.ensures (omega (arith, c.loop-before-test.false)))
+
+pub ground_quantified-returns-in-Err : goal.ground_quantified-returns-in-Err
+ground_quantified-returns-in-Err t c = then-fault Counts CondTree (visit c.args.counter.now) _ c.in-Err.e c.in-Err.ensures
+
+pub ground_quantified-returns-in-Ok : goal.ground_quantified-returns-in-Ok
+ground_quantified-returns-in-Ok t c =
+    quantified-made c.args.problem.now c.args.kind c.args.v (plain_coll_view c.args.coll.now) (plain_formula_view c.args.f.now) c.args.sign (env_view c.args.env.now) (fixings_view c.args.fixings.now) c.args.counter.now c.visit.new.self
+    c.body_sign.result c.needs-asked.result c.manner_of.result (elements_view c.things_of-things.result) c.in_default.ensures c.body_sign.ensures c.manner_of.ensures c.needs-asked.ensures c.things_of-things.ensures c.ground_elements.new.counter c.len.result (map cond_view c.in-Ok.children.items) c.quantifier_node.result c.len.ensures c.in-Ok.ensures c.quantifier_node.ensures
+
+pub ground_quantified-returns-in-Err-ground_elements : goal.ground_quantified-returns-in-Err-ground_elements
+ground_quantified-returns-in-Err-ground_elements t c =
+    quantified-fault c.args.problem.now c.args.kind c.args.v (plain_coll_view c.args.coll.now) (plain_formula_view c.args.f.now) c.args.sign (env_view c.args.env.now) (fixings_view c.args.fixings.now) c.args.counter.now c.visit.new.self
+    c.body_sign.result c.needs-asked.result c.manner_of.result (elements_view c.things_of-things.result) c.in_default.ensures c.body_sign.ensures c.manner_of.ensures c.needs-asked.ensures c.things_of-things.ensures c.in-Err-ground_elements.e c.in-Err-ground_elements.ensures
+
+pub ground_whole-returns-in-Err : goal.ground_whole-returns-in-Err
+ground_whole-returns-in-Err t c = then-fault Counts CondTree (visit c.args.counter.now) _ c.in-Err.e c.in-Err.ensures
+
+pub ground_whole-returns : goal.ground_whole-returns
+ground_whole-returns t c =
+    let f = plain_formula_view c.args.site.now.formula.now in
+    step-gives (visit c.args.counter.now) _ c.visit.new.self c.ground.new.counter c.ground.result c.in_default.ensures
+    (subst (λ e. Gives (grounded c.args.problem.now f c.args.site.now.sign e (fixings_view c.args.fixings.now) c.visit.new.self) c.ground.new.counter c.ground.result) (env-more c.args.site.now.env c.args.site.now.variable c.args.thing) c.ground.ensures)

@@ -1,0 +1,12 @@
+use Rattle.std.proofs.Common.{map}
+use Rattle.linear_conditions.specs.CondTree.{cond_view}
+use Rattle.rule_ground.specs.Apart.{apart_conditions}
+use Rattle.rule_ground.proofs.RuleSteps.{leaves-given, leaves-fault}
+use Rattle.rule_ground.proofs.ground.ground_apart.Goals as goal
+
+pub returns-in-Err : goal.returns-in-Err
+returns-in-Err c = leaves-fault (apart_conditions c.args.problem.now) c.args.counter.now c.count_apart.result c.in-Err.e c.count_apart.ensures.value c.in-Err.ensures
+
+pub returns-in-Ok : goal.returns-in-Ok
+returns-in-Ok c =
+    leaves-given (apart_conditions c.args.problem.now) c.args.counter.now c.add_leaves.new.self c.count_apart.result (map cond_view c.args.out.now.items) (map cond_view c.push_apart.new.out.items) c.count_apart.ensures.value c.in_default.ensures c.in-Ok.ensures

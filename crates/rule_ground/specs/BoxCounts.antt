@@ -1,0 +1,13 @@
+-- How many boxes objects have.
+use Rattle.std.specs.Prelude.{ℕ, ◌+◌, List, [], ◌∷◌, length}
+use Rattle.problem_text.specs.Problem.{ProblemData}
+use Rattle.rule_ground.specs.Shapes.{places, boxes_at}
+
+-- the sum over a list
+abbrev pub total : {X : Type 0} → (X → ℕ) → List X → ℕ
+total f [] = 0
+total f (x ∷ xs) = f x + total f xs
+
+-- how many boxes the object has with all its shapes
+abbrev pub box_count : ProblemData → ℕ → ℕ
+box_count p o = total (λ s. length (boxes_at p o s)) (places p o)

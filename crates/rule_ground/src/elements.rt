@@ -1,0 +1,99 @@
+//! The elements of quantifiers, and which of them split.
+
+ghost use Rattle.std.specs.Option.{option_map_or};
+ghost use Rattle.std.specs.Prelude.{◌≡◌, None, Some, if◌then◌else◌, length};
+ghost use Rattle.linear_conditions.specs.Fixings.{place_of};
+ghost use Rattle.linear_conditions.specs.Views.{fixings_view};
+ghost use Rattle.problem_text.specs.Tuple.{object_of};
+ghost use Rattle.rule_expand.specs.PlainView.{plain_coll_view};
+ghost use Rattle.rule_ground.specs.Answers.{element_view};
+ghost use Rattle.rule_ground.specs.Grounding.{element_of, is_open, things_of};
+ghost use Rattle.rule_values.specs.Elements.{elements_view};
+ghost use Rattle.rule_values.specs.View.{env_view, thing_view};
+
+use geo_conditions::ObjId;
+use linear_conditions::fixings::{Fixings, fixed_place, place_of};
+use problem_text::problem::Problem;
+use rule_expand::plain::PlainColl;
+use rule_values::elements::{Elements, elements_of, owner};
+use rule_values::env::{Env, Thing};
+
+/// An element of a quantifier.
+#[derive(Clone, Copy, Drop)]
+pub enum Element<'a> {
+    /// A thing as it is.
+    Whole(Thing<'a>),
+    /// An object that is looked at with each of its shapes.
+    Split(ObjId),
+}
+
+// How many shapes an object may have; none, where it is not there.
+fn shape_count(problem: &Problem, o: usize) -> usize
+    ensures { result ≡ length (object_of problem.now o).shapes }
+{
+    match problem.objects().get(o) {
+        Some(object) => object.shapes().len(),
+        None => 0,
+    }
+}
+
+/// How many shapes an object may have; none, where it is not there.
+pub fn place_count(problem: &Problem, object: ObjId) -> u8
+    ensures { result ≡ length (object_of problem.now object.0).shapes }
+{
+    problem.is_said();
+    shape_count(problem, object.0 as usize) as u8
+}
+
+// The object, where its shape is still open.
+fn open_object(problem: &Problem, fixings: &Fixings, o: usize) -> Option<ObjId>
+    ensures { result ≡ (if is_open problem.now (fixings_view fixings.now) o then Some (record { 0 = o }) else None) }
+{
+    problem.is_said();
+    if shape_count(problem, o) > 1 && fixed_place(fixings, o) == 0 {
+        Some(ObjId(o as u16))
+    } else {
+        None
+    }
+}
+
+/// A thing as an element, where the shape of an object is asked for or not.
+pub fn element_of<'a>(
+    problem: &Problem,
+    asked: bool,
+    fixings: &Fixings,
+    thing: Thing<'a>,
+) -> Element<'a>
+    ensures { element_view result ≡ element_of problem.now asked (fixings_view fixings.now) (thing_view thing.entry) }
+{
+    match thing {
+        Thing::Object(o) if asked => match open_object(problem, fixings, o) {
+            Some(object) => Element::Split(object),
+            None => Element::Whole(thing),
+        },
+        _ => Element::Whole(thing),
+    }
+}
+
+// The place that is taken for an object, where there is one.
+fn owner_place(fixings: &Fixings, owner: Option<usize>) -> u8
+    ensures { result ≡ option_map_or (place_of (fixings_view fixings.now)) owner 1 }
+{
+    match owner {
+        Some(o) => place_of(fixings, o),
+        None => 1,
+    }
+}
+
+/// The things that a variable ranges over.
+pub fn things_of<'a>(
+    problem: &'a Problem,
+    coll: &'a PlainColl,
+    env: &'a Env<'a>,
+    fixings: &Fixings,
+) -> Elements<'a>
+    ensures { elements_view result ≡ things_of problem.now (plain_coll_view coll.now) (env_view env.now) (fixings_view fixings.now) }
+{
+    let place = owner_place(fixings, owner(coll, env));
+    elements_of(problem, coll, env, place)
+}

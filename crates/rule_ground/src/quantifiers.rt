@@ -1,0 +1,115 @@
+//! How the children of a quantifier come together.
+
+ghost use Rattle.std.specs.Prelude.{◌≡◌, ◌∷◌, ◌^◌, ◌-ℤ◌, ◌≤ℤ◌, [], IfOk, MatchResult, map, pos};
+ghost use Rattle.linear_conditions.specs.CondTree.{cond_view};
+ghost use Rattle.linear_conditions.specs.Folding.{fold_count};
+ghost use Rattle.linear_conditions.specs.declared.fault.GroundFault.TheVariants.{Memory};
+ghost use Rattle.rule_ground.specs.Grounding.{body_sign, manner, quantifier_node, shape_child};
+
+use geo_conditions::{Cond, ObjId};
+use linear_conditions::fault::GroundFault;
+use linear_conditions::fold::{fold_count, joined};
+use rule_syntax::tree::QuantKind;
+use std::alloc::{AllocError, Global};
+
+/// How the children of a quantifier come together.
+#[derive(Clone, Copy, Debug, PartialEq, Eq)]
+pub enum Manner {
+    /// All must hold.
+    All,
+    /// One must hold.
+    One,
+    /// So many must hold.
+    Counted,
+}
+
+/// How they come together under plus (true) or minus.
+pub fn manner_of(kind: QuantKind, sign: bool) -> Manner
+    ensures { result ≡ manner kind sign }
+{
+    match kind {
+        QuantKind::ForAll => { if sign { Manner::All } else { Manner::One } }
+        QuantKind::Exists => { if sign { Manner::One } else { Manner::All } }
+        QuantKind::AtLeast(_n) => Manner::Counted,
+        QuantKind::AtMost(_n) => Manner::Counted,
+    }
+}
+
+/// The sign of the body: that at most so many hold is said of those that do not.
+pub fn body_sign(kind: QuantKind, sign: bool) -> bool
+    ensures { result ≡ body_sign kind sign }
+{
+    match kind {
+        QuantKind::ForAll => sign,
+        QuantKind::Exists => sign,
+        QuantKind::AtLeast(_n) => sign,
+        QuantKind::AtMost(_n) => !sign,
+    }
+}
+
+// How many elements there are behind the first n.
+fn behind(elements: usize, n: u32) -> Result<i64, AllocError>
+    ensures { IfOk result (λ z. (z ≡ pos elements -ℤ pos n) × (z ≤ℤ pos (2 ^ 62))) }
+{
+    if elements >= 1 << 62 {
+        return Err(AllocError);
+    }
+    Ok(elements as i64 - i64::from(n))
+}
+
+/// The condition of so many elements, from their children.
+pub fn quantifier_node(
+    alloc: Global,
+    kind: QuantKind,
+    sign: bool,
+    elements: usize,
+    children: Vec<Cond>,
+) -> Result<Cond, GroundFault>
+    ensures { MatchResult result (λ c. cond_view c ≡ quantifier_node kind sign elements (map cond_view children.items)) (λ e. e ≡ Memory) }
+{
+    match kind {
+        QuantKind::ForAll => Ok(joined(alloc, sign, children)?),
+        QuantKind::Exists => Ok(joined(alloc, !sign, children)?),
+        QuantKind::AtLeast(n) => {
+            if sign {
+                Ok(fold_count(alloc, i64::from(n), children)?)
+            } else {
+                Ok(fold_count(alloc, behind(elements, n)? + 1, children)?)
+            }
+        }
+        QuantKind::AtMost(n) => {
+            if sign {
+                Ok(fold_count(alloc, behind(elements, n)?, children)?)
+            } else {
+                Ok(fold_count(alloc, i64::from(n) + 1, children)?)
+            }
+        }
+    }
+}
+
+// At least so many of two.
+fn of_two(alloc: Global, n: i64, first: Cond, second: Cond) -> Result<Cond, GroundFault>
+    ensures { MatchResult result (λ c. cond_view c ≡ fold_count n (cond_view first ∷ (cond_view second ∷ []))) (λ e. e ≡ Memory) }
+{
+    let mut parts = Vec::new(alloc);
+    parts.push(first)?;
+    parts.push(second)?;
+    Ok(fold_count(alloc, n, parts)?)
+}
+
+/// The child of an object with its shape at that place.
+pub fn shape_child(
+    alloc: Global,
+    manner: Manner,
+    object: ObjId,
+    place: u8,
+    body: Cond,
+) -> Result<Cond, GroundFault>
+    ensures { MatchResult result (λ c. cond_view c ≡ shape_child manner object.0 place (cond_view body)) (λ e. e ≡ Memory) }
+{
+    match manner {
+        Manner::All => of_two(alloc, 1, Cond::NotShape(object, place), body),
+        Manner::One => of_two(alloc, 2, Cond::Shape(object, place), body),
+        Manner::Counted => of_two(alloc, 2, Cond::Shape(object, place), body),
+    }
+}
