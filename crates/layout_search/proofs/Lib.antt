@@ -1,0 +1,5 @@
+mod Walked
+pub mod Alike
+pub mod States
+mod Outcomes
+mod Spots

@@ -1,0 +1,111 @@
+use Rattle.std.proofs.Common.{◌≡◌, ◌≤◌, ℕ, None, sym, ap, length, map, ◌∙◌, subst, refl, arith, All}
+use Rattle.std.proofs.lemmas.Int.{ints}
+use Rattle.std.proofs.lemmas.List.{length-map}
+use Rattle.geo_conditions.specs.Walk.{Tree, Order, NamesEach, variables_in}
+use Rattle.geo_conditions.specs.Conditions.{FitsIn, AllFit}
+use Rattle.geo_conditions.specs.Reach.{State, Reach}
+use Rattle.geo_conditions.specs.declared.cond.Cond.{Cond}
+use Rattle.rule_ground.specs.Start.{whole_reach, first_state}
+use Rattle.layout_search.specs.FirstLayout.{walk_of}
+use Rattle.layout_search.proofs.States.{state-is}
+use Rattle.layout_search.proofs.Outcomes.{fresh-search, first-answer, found-in, found-lists, found-finds, ended-lists, ended-finds, budget-lists}
+use Rattle.layout_search.proofs.first.search_in.Goals as goal
+
+pub start-requires-2 : goal.start-requires-2
+start-requires-2 g c =
+    let p = c.args.problem.now in
+    let s : c.in_ok-first.first ≡ first_state p = c.in_ok-first.ensures.value in
+    let cs = c.in_ok-propagator.ensures.conditions in (
+      omega arith,
+      (
+        omega arith,
+        (
+          c.requires.k,
+          (
+            λ o d. let e = c.in_ok-first.ensures.ends o d in ((omega (arith, ints, e), omega (arith, ints, e)), (omega (arith, ints, e), omega (arith, ints, e))),
+            (
+              subst (λ (S : State). NamesEach g.row.K S c.in_ok-order.order) (sym s) (subst (λ (k : ℕ). NamesEach k (first_state p) c.in_ok-order.order) c.requires.dims c.in_ok-order.ensures.names),
+              (
+                tt,
+                (
+                  ap length s ∙ length-map p.objects whole_reach ∙ sym (ap length c.objects.ensures) ∙ sym c.in_ok-propagator.ensures.objects,
+                  subst (λ (l : _). AllFit l c.in_ok-first.first) (sym cs) (subst (AllFit c.args.conditions.items) (sym s) c.requires.conditions.fit),
+                ),
+              ),
+            ),
+          ),
+        ),
+      ),
+    )
+
+pub found_layout-requires : goal.found_layout-requires
+found_layout-requires g c =
+    let p = c.args.problem.now in
+    let cs = c.args.conditions.items in
+    let a = c.in_ok-search.search in
+    let b = c.next.new.self in
+    let well = c.requires.problem in
+    let f = fresh-search p cs c.in_ok-propagator.propagator.list.items c.in_ok-first.first c.in_ok-order.order c.args.budget a c.in_ok-propagator.ensures.conditions c.in_ok-first.ensures.value c.in_ok-order.ensures.value
+    c.in_ok-search.ensures.walk c.in_ok-search.ensures.budget c.in_ok-search.ensures.walked in
+    let h = first-answer a b _ c.in_ok-search.ensures.over c.in-Found.ensures.steps in
+    (omega arith, (omega arith, (c.requires.k, (well, (c.requires.dims, (ap (λ (W : Tree). W.first) (h.0 ∙ f.walk), found-in p cs well (state-is p well) c.requires.conditions c.args.budget a b f h.0 h.1))))))
+
+pub returns-in-Found-clause-walk : goal.returns-in-Found-clause-walk
+returns-in-Found-clause-walk g c =
+    let p = c.args.problem.now in
+    let cs = c.args.conditions.items in
+    let a = c.in_ok-search.search in
+    let b = c.next.new.self in
+    let well = c.requires.problem in
+    let f = fresh-search p cs c.in_ok-propagator.propagator.list.items c.in_ok-first.first c.in_ok-order.order c.args.budget a c.in_ok-propagator.ensures.conditions c.in_ok-first.ensures.value c.in_ok-order.ensures.value
+    c.in_ok-search.ensures.walk c.in_ok-search.ensures.budget c.in_ok-search.ensures.walked in
+    let h = first-answer a b _ c.in_ok-search.ensures.over c.in-Found.ensures.steps in
+    found-lists p cs well (state-is p well) c.requires.conditions c.args.budget a b f h.0 c.in_ok-found_layout-in-Found.field-0 h.1 c.in_ok-found_layout-in-Found.ensures.1 c.in_ok-found_layout-in-Found.ensures.0
+
+pub returns-in-Found-clause-layout : goal.returns-in-Found-clause-layout
+returns-in-Found-clause-layout g c =
+    let p = c.args.problem.now in
+    let cs = c.args.conditions.items in
+    let a = c.in_ok-search.search in
+    let b = c.next.new.self in
+    let well = c.requires.problem in
+    let f = fresh-search p cs c.in_ok-propagator.propagator.list.items c.in_ok-first.first c.in_ok-order.order c.args.budget a c.in_ok-propagator.ensures.conditions c.in_ok-first.ensures.value c.in_ok-order.ensures.value
+    c.in_ok-search.ensures.walk c.in_ok-search.ensures.budget c.in_ok-search.ensures.walked in
+    let h = first-answer a b _ c.in_ok-search.ensures.over c.in-Found.ensures.steps in
+    found-finds p cs well (state-is p well) c.requires.conditions c.args.budget a b f h.0 c.in_ok-found_layout-in-Found.field-0 h.1 c.in_ok-found_layout-in-Found.ensures.1 c.in_ok-found_layout-in-Found.ensures.0
+
+pub returns-in-Ended-clause-walk : goal.returns-in-Ended-clause-walk
+returns-in-Ended-clause-walk g c =
+    let p = c.args.problem.now in
+    let cs = c.args.conditions.items in
+    let a = c.in_ok-search.search in
+    let b = c.next.new.self in
+    let well = c.requires.problem in
+    let f = fresh-search p cs c.in_ok-propagator.propagator.list.items c.in_ok-first.first c.in_ok-order.order c.args.budget a c.in_ok-propagator.ensures.conditions c.in_ok-first.ensures.value c.in_ok-order.ensures.value
+    c.in_ok-search.ensures.walk c.in_ok-search.ensures.budget c.in_ok-search.ensures.walked in
+    let h = first-answer a b _ c.in_ok-search.ensures.over c.in-Ended.ensures.steps in
+    ended-lists p cs well (state-is p well) c.requires.conditions c.args.budget a b f h.0 h.1
+
+pub returns-in-Ended-clause-layout : goal.returns-in-Ended-clause-layout
+returns-in-Ended-clause-layout g c =
+    let p = c.args.problem.now in
+    let cs = c.args.conditions.items in
+    let a = c.in_ok-search.search in
+    let b = c.next.new.self in
+    let well = c.requires.problem in
+    let f = fresh-search p cs c.in_ok-propagator.propagator.list.items c.in_ok-first.first c.in_ok-order.order c.args.budget a c.in_ok-propagator.ensures.conditions c.in_ok-first.ensures.value c.in_ok-order.ensures.value
+    c.in_ok-search.ensures.walk c.in_ok-search.ensures.budget c.in_ok-search.ensures.walked in
+    let h = first-answer a b _ c.in_ok-search.ensures.over c.in-Ended.ensures.steps in
+    ended-finds p cs well (state-is p well) c.requires.conditions c.args.budget a b f h.0 h.1
+
+pub returns-in-Budget-clause-walk : goal.returns-in-Budget-clause-walk
+returns-in-Budget-clause-walk g c =
+    let p = c.args.problem.now in
+    let cs = c.args.conditions.items in
+    let a = c.in_ok-search.search in
+    let b = c.next.new.self in
+    let well = c.requires.problem in
+    let f = fresh-search p cs c.in_ok-propagator.propagator.list.items c.in_ok-first.first c.in_ok-order.order c.args.budget a c.in_ok-propagator.ensures.conditions c.in_ok-first.ensures.value c.in_ok-order.ensures.value
+    c.in_ok-search.ensures.walk c.in_ok-search.ensures.budget c.in_ok-search.ensures.walked in
+    let h = first-answer a b _ c.in_ok-search.ensures.over c.in-Budget.ensures.steps in
+    budget-lists p cs well (state-is p well) c.requires.conditions c.args.budget a b f h.0 h.1

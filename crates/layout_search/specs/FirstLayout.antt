@@ -1,0 +1,44 @@
+-- The first layout of a problem, and the listing of its walk.
+use Rattle.std.specs.Prelude.{◌≡◌, ◌⊎◌, ◌↔◌, ℕ, List, [], ◌∷◌, None, All}
+use Rattle.geo_base.specs.Tuple.{Tuple}
+use Rattle.geo_conditions.specs.declared.cond.Cond.{Cond}
+use Rattle.geo_conditions.specs.Conditions.{AllFit, AllHold}
+use Rattle.geo_conditions.specs.Walk.{Tree, values, IsListing, More, End}
+use Rattle.geo_conditions.specs.Walk as walk
+use Rattle.problem_text.specs.Problem.{RuleData, ProblemData}
+use Rattle.problem_text.specs.Cells.{IsTuple}
+use Rattle.problem_text.specs.Layouts.{DemandHolds, IsLayout}
+use Rattle.rule_ground.specs.Order.{variables_for, ComesBefore}
+use Rattle.rule_ground.specs.Start.{first_state}
+use Rattle.layout_search.specs.declared.first.Outcome.{Outcome}
+use Rattle.layout_search.specs.declared.first.Outcome.TheVariants.{Found, Nothing, OutOfBudget}
+
+-- each condition names objects and dimensions of the problem, and on each tuple of the problem all are true exactly where
+-- every rule holds
+pub record AreConditionsOf (p : ProblemData) (cs : List Cond) : Type 0 where
+  pub fit : AllFit cs (first_state p)
+  pub meaning : (t : Tuple) → IsTuple p t → AllHold cs t ↔ All (λ (r : RuleData). DemandHolds p t r.demand) p.rules
+
+-- the walk of a problem under its conditions
+abbrev pub walk_of : ProblemData → List Cond → Tree
+walk_of p cs = record { conditions = cs; first = first_state p; variables = variables_for p; after = None }
+
+-- a layout that comes before every other one
+pub record IsFirstLayout (p : ProblemData) (t : Tuple) : Type 0 where
+  pub layout : IsLayout p t
+  pub first : (u : Tuple) → IsLayout p u → (u ≡ t) ⊎ ComesBefore p t u
+
+abbrev pub HasNoLayout : ProblemData → Type 0
+HasNoLayout p = (t : Tuple) → IsLayout p t → ⊥
+
+-- the listing of one layout among the first n members of the walk: its full member, and the word that ends it
+abbrev pub Lists : ProblemData → List Cond → ℕ → Outcome → Type 0
+Lists p cs n (Found t) = IsListing (walk_of p cs) 1 n (values (variables_for p) t ∷ []) More
+Lists p cs n Nothing = IsListing (walk_of p cs) 1 n [] End
+Lists p cs n OutOfBudget = IsListing (walk_of p cs) 1 n [] walk.OutOfBudget
+
+-- the layout that is found is the first one; where nothing is found, there is none
+abbrev pub Finds : ProblemData → Outcome → Type 0
+Finds p (Found t) = IsFirstLayout p t
+Finds p Nothing = HasNoLayout p
+Finds p OutOfBudget = Unit {0}

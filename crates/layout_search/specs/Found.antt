@@ -1,0 +1,9 @@
+-- What a search has found.
+use Rattle.geo_base.specs.Tuple.{Tuple}
+use Rattle.problem_text.specs.Problem.{ProblemData}
+use Rattle.problem_text.specs.Cells.{IsTuple}
+use Rattle.trail_search.specs.Next.{Quest, HasFound}
+
+-- it has found a tuple of the problem
+abbrev pub HasFoundIn : ProblemData → Quest → Type 0
+HasFoundIn p s = (t : Tuple) × IsTuple p t × HasFound s t

@@ -1,0 +1,2 @@
+pub mod FirstLayout
+pub mod Found
