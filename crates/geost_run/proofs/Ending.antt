@@ -4,19 +4,22 @@ use Rattle.std.specs.Prelude.{Option, None, Some, codes}
 use Rattle.std.specs.Io.KnownBytes.{Appends}
 use Rattle.std.proofs.lemmas.Grind.{common_steps}
 use Rattle.geo_chan.specs.Written.{AppendsFront}
+use Rattle.geo_base.specs.Tuple.{Tuple}
+use Rattle.problem_text.specs.Cells.{IsTuple, IsShaped}
 use Rattle.problem_text.specs.Problem.{ProblemData}
 use Rattle.geo_tokens.specs.declared.fault.FaultWord.{FaultWord}
 use Rattle.problem_text.specs.FirstFault.{most_bytes, Accepts, HasFirstFault, long, no_token, no_statements, in_statements}
 use Rattle.geost_run.specs.declared.command.Command.{Command}
 use Rattle.geost_run.specs.declared.command.Status.{Status}
 use Rattle.geost_run.specs.declared.command.Status.TheVariants.{Answered, No, Refused, Budget, BadWords, BadToken, ReadFault, WriteFault, Memory}
-use Rattle.geost_run.specs.Accepted.{IsAccepted, IsRefused, unread, misnamed, unexpanded}
+use Rattle.geost_run.specs.Accepted.{IsAccepted, IsRefused, unread, misnamed, unexpanded, ungrounded}
 use Rattle.geost_run.specs.Words.{HasForm, HasNoForm}
 use Rattle.geost_run.specs.declared.decision.Decision.{Decision}
 use Rattle.geost_run.specs.declared.decision.Decision.TheVariants.{Refuse, Nothing, Layout, Shown}
+use Rattle.geost_run.specs.declared.decision.Decision.TheVariants as decisions
 use Rattle.geost_run.specs.Decision.{decision_text, decision_status}
 use Rattle.geost_run.specs.Answer.{RefusedAnswer, FirstAnswer, ShowAnswer, FrontOf, AnswerTo, BeginsOf, BadWordsAnswer, Answer, Begins}
-use Rattle.geost_run.specs.Reading.{Tells, IsFirstText, IsReadFrom}
+use Rattle.geost_run.specs.Reading.{Tells, IsFirstText}
 use Rattle.geost_run.specs.Ends.{Gave, WroteFront, Ends, EndsUnread, Finishes}
 
 -- the answer to the text that was read is the answer to the input
@@ -36,33 +39,37 @@ fault_of_input input text place word h (no_statements s list tokens f) = subst (
 fault_of_input input text place word h (in_statements t says f) = subst (λ (u : List ℕ). HasFirstFault u place word) (whole_text input text h says.short) (in_statements t says f)
 
 accepted_input : (input text : List ℕ) (p : ProblemData) → IsFirstText input text → IsAccepted text p → IsAccepted input p
-accepted_input input text p h a = record { spells = accepts_input input text p h a.spells; names = a.names; expands = a.expands }
+accepted_input input text p h a = record { spells = accepts_input input text p h a.spells; names = a.names; expands = a.expands; grounds = a.grounds }
 
 refused_of_input : (input text : List ℕ) (place : ℕ) (word : FaultWord) → IsFirstText input text → IsRefused text place word → IsRefused input place word
 refused_of_input input text place word h (unread f) = unread (fault_of_input input text place word h f)
 refused_of_input input text place word h (misnamed p a m) = misnamed p (accepts_input input text p h a) m
 refused_of_input input text place word h (unexpanded p a right e) = unexpanded p (accepts_input input text p h a) right e
+refused_of_input input text place word h (ungrounded p a right x e) = ungrounded p (accepts_input input text p h a) right x e
 
 refused_input : (input text out : List ℕ) → IsFirstText input text → RefusedAnswer text out → RefusedAnswer input out
 refused_input input text out h (place, word, f, e) = (place, word, refused_of_input input text place word h f, e)
 
 -- an answer to the text that was read is an answer to the input
-abbrev pub Lifts : (List ℕ → List ℕ → Status → Type 0) → Type 0
-Lifts answer = (input text out : List ℕ) (status : Status) → IsFirstText input text → answer text out status → answer input out status
+abbrev pub Lifts : (List ℕ → List ℕ → Type 0) → (List ℕ → List ℕ → Status → Type 0) → Type 0
+Lifts R answer = (input text out : List ℕ) (status : Status) → R input text → answer text out status → answer input out status
 
-pub lifts_first : Lifts FirstAnswer
-lifts_first input text out Answered h (p, t, a, f, l, e) = (p, t, accepted_input input text p h a, f, l, e)
-lifts_first input text out No h (p, a, f, l, e) = (p, accepted_input input text p h a, f, l, e)
-lifts_first input text out Refused h (inl r) = inl (refused_input input text out h r)
-lifts_first input text out Refused h (inr (p, place, a, f, e)) = inr (p, place, accepted_input input text p h a, f, e)
-lifts_first input text out Budget h a = a
-lifts_first input text out BadWords h a = a
-lifts_first input text out BadToken h a = a
-lifts_first input text out ReadFault h a = a
-lifts_first input text out WriteFault h a = a
-lifts_first input text out Memory h a = a
+-- the text was read from a source that had this left, and it stands so to the input
+abbrev pub WasRead : (List ℕ → List ℕ → Type 0) → Option (List ℕ) → List ℕ → Type 0
+WasRead R left text = (input : List ℕ) × Tells left input × R input text
 
-pub lifts_show : Lifts ShowAnswer
+pub lifts_first : (n : ℕ) → Lifts IsFirstText (FirstAnswer n)
+lifts_first n input text out Answered h (p, t, cs, a, are, l, f, e) = (p, t, cs, accepted_input input text p h a, are, l, f, e)
+lifts_first n input text out No h (p, cs, a, are, l, f, e) = (p, cs, accepted_input input text p h a, are, l, f, e)
+lifts_first n input text out Budget h (p, cs, a, are, l, e) = (p, cs, accepted_input input text p h a, are, l, e)
+lifts_first n input text out Refused h r = refused_input input text out h r
+lifts_first n input text out BadWords h a = a
+lifts_first n input text out BadToken h a = a
+lifts_first n input text out ReadFault h a = a
+lifts_first n input text out WriteFault h a = a
+lifts_first n input text out Memory h a = a
+
+pub lifts_show : Lifts IsFirstText ShowAnswer
 lifts_show input text out Answered h (p, a, e) = (p, accepted_input input text p h a, e)
 lifts_show input text out Refused h r = refused_input input text out h r
 lifts_show input text out No h a = a
@@ -73,8 +80,8 @@ lifts_show input text out ReadFault h a = a
 lifts_show input text out WriteFault h a = a
 lifts_show input text out Memory h a = a
 
-began : (answer : List ℕ → List ℕ → Status → Type 0) (left w0 w1 : Option (List ℕ)) (text out : List ℕ) (status : Status) → Lifts answer → IsReadFrom left text → answer text out status → AppendsFront w0 w1 out → WroteFront (FrontOf answer) left w0 w1
-began answer left w0 w1 text out status lifts (input, told, h) a (front, back, is, bytes) =
+began : (R : List ℕ → List ℕ → Type 0) (answer : List ℕ → List ℕ → Status → Type 0) (left w0 w1 : Option (List ℕ)) (text out : List ℕ) (status : Status) → Lifts R answer → WasRead R left text → answer text out status → AppendsFront w0 w1 out → WroteFront (FrontOf answer) left w0 w1
+began R answer left w0 w1 text out status lifts (input, told, h) a (front, back, is, bytes) =
     inr (record { input = input; front = front; told = told; starts = (out, status, back, lifts input text out status h a, is); bytes = bytes })
 
 -- a status that only an answer has
@@ -155,27 +162,34 @@ ends_unread words left r w0 w1 f0 f1 ReadFault none h = absurd h
 is_answered : (d : Decision) → IsAnswered (decision_status d)
 is_answered (Refuse place word) = tt
 is_answered Nothing = tt
+is_answered (decisions.Budget n) = tt
 is_answered (Layout p layout) = tt
 is_answered (Shown p) = tt
+is_answered decisions.Good = tt
+is_answered (decisions.Broken p i) = tt
 
-gave_text : (answer : List ℕ → List ℕ → Status → Type 0) (left w0 w1 : Option (List ℕ)) (text out : List ℕ) (status : Status) → Lifts answer → IsReadFrom left text → answer text out status → Appends w0 w1 out → Gave answer left w0 w1 status
-gave_text answer left w0 w1 text out status lifts (input, told, h) a bytes = record { input = input; text = out; told = told; answers = lifts input text out status h a; bytes = bytes }
+gave_text : (R : List ℕ → List ℕ → Type 0) (answer : List ℕ → List ℕ → Status → Type 0) (left w0 w1 : Option (List ℕ)) (text out : List ℕ) (status : Status) → Lifts R answer → WasRead R left text → answer text out status → Appends w0 w1 out → Gave answer left w0 w1 status
+gave_text R answer left w0 w1 text out status lifts (input, told, h) a bytes = record { input = input; text = out; told = told; answers = lifts input text out status h a; bytes = bytes }
 
-given : (answer : List ℕ → List ℕ → Status → Type 0) (left : Option (List ℕ)) (r0 r1 : ℕ) (w0 w1 : Option (List ℕ)) (f0 f1 : ℕ) (text : List ℕ) (d : Decision) (result : Status) → Lifts answer → IsReadFrom left text
+given : (R : List ℕ → List ℕ → Type 0) (answer : List ℕ → List ℕ → Status → Type 0) (left : Option (List ℕ)) (r0 r1 : ℕ) (w0 w1 : Option (List ℕ)) (f0 f1 : ℕ) (text : List ℕ) (d : Decision) (result : Status) → Lifts R answer → WasRead R left text
     → answer text (decision_text d) (decision_status d) → (result ≡ decision_status d) × Appends w0 w1 (decision_text d) → Ends answer (FrontOf answer) left r0 r1 w0 w1 f0 f1 result
-given answer left r0 r1 w0 w1 f0 f1 text d result lifts h a (same, bytes) =
+given R answer left r0 r1 w0 w1 f0 f1 text d result lifts h a (same, bytes) =
     subst (λ (x : Status). Ends answer (FrontOf answer) left r0 r1 w0 w1 f0 f1 x) (sym same)
-    (ends_given answer (FrontOf answer) left r0 r1 w0 w1 f0 f1 (decision_status d) (is_answered d) (gave_text answer left w0 w1 text (decision_text d) (decision_status d) lifts h a bytes))
+    (ends_given answer (FrontOf answer) left r0 r1 w0 w1 f0 f1 (decision_status d) (is_answered d) (gave_text R answer left w0 w1 text (decision_text d) (decision_status d) lifts h a bytes))
 
 -- a command that has decided, and wrote what it decided
-pub ends_text : (answer : List ℕ → List ℕ → Status → Type 0) (left : Option (List ℕ)) (r0 r1 : ℕ) (w0 w1 : Option (List ℕ)) (f0 f1 : ℕ) (text seen : List ℕ) (d : Decision) (result : Status) → Lifts answer → IsReadFrom left text → seen ≡ text
+pub ends_text : (R : List ℕ → List ℕ → Type 0) (answer : List ℕ → List ℕ → Status → Type 0) (left : Option (List ℕ)) (r0 r1 : ℕ) (w0 w1 : Option (List ℕ)) (f0 f1 : ℕ) (text seen : List ℕ) (d : Decision) (result : Status) → Lifts R answer → WasRead R left text → seen ≡ text
     → answer seen (decision_text d) (decision_status d) → Finishes (decision_text d) (decision_status d) w0 w1 f0 f1 result → Ends answer (FrontOf answer) left r0 r1 w0 w1 f0 f1 result
-ends_text answer left r0 r1 w0 w1 f0 f1 text seen d WriteFault lifts h e a f = (f.0, began answer left w0 w1 text (decision_text d) (decision_status d) lifts h (subst (λ (t : List ℕ). answer t (decision_text d) (decision_status d)) e a) f.1)
-ends_text answer left r0 r1 w0 w1 f0 f1 text seen d Memory lifts h e a f = began answer left w0 w1 text (decision_text d) (decision_status d) lifts h (subst (λ (t : List ℕ). answer t (decision_text d) (decision_status d)) e a) f
-ends_text answer left r0 r1 w0 w1 f0 f1 text seen d Answered lifts h e a f = given answer left r0 r1 w0 w1 f0 f1 text d Answered lifts h (subst (λ (t : List ℕ). answer t (decision_text d) (decision_status d)) e a) f
-ends_text answer left r0 r1 w0 w1 f0 f1 text seen d No lifts h e a f = given answer left r0 r1 w0 w1 f0 f1 text d No lifts h (subst (λ (t : List ℕ). answer t (decision_text d) (decision_status d)) e a) f
-ends_text answer left r0 r1 w0 w1 f0 f1 text seen d Refused lifts h e a f = given answer left r0 r1 w0 w1 f0 f1 text d Refused lifts h (subst (λ (t : List ℕ). answer t (decision_text d) (decision_status d)) e a) f
-ends_text answer left r0 r1 w0 w1 f0 f1 text seen d Budget lifts h e a f = given answer left r0 r1 w0 w1 f0 f1 text d Budget lifts h (subst (λ (t : List ℕ). answer t (decision_text d) (decision_status d)) e a) f
-ends_text answer left r0 r1 w0 w1 f0 f1 text seen d BadWords lifts h e a f = given answer left r0 r1 w0 w1 f0 f1 text d BadWords lifts h (subst (λ (t : List ℕ). answer t (decision_text d) (decision_status d)) e a) f
-ends_text answer left r0 r1 w0 w1 f0 f1 text seen d BadToken lifts h e a f = given answer left r0 r1 w0 w1 f0 f1 text d BadToken lifts h (subst (λ (t : List ℕ). answer t (decision_text d) (decision_status d)) e a) f
-ends_text answer left r0 r1 w0 w1 f0 f1 text seen d ReadFault lifts h e a f = given answer left r0 r1 w0 w1 f0 f1 text d ReadFault lifts h (subst (λ (t : List ℕ). answer t (decision_text d) (decision_status d)) e a) f
+ends_text R answer left r0 r1 w0 w1 f0 f1 text seen d WriteFault lifts h e a f = (f.0, began R answer left w0 w1 text (decision_text d) (decision_status d) lifts h (subst (λ (t : List ℕ). answer t (decision_text d) (decision_status d)) e a) f.1)
+ends_text R answer left r0 r1 w0 w1 f0 f1 text seen d Memory lifts h e a f = began R answer left w0 w1 text (decision_text d) (decision_status d) lifts h (subst (λ (t : List ℕ). answer t (decision_text d) (decision_status d)) e a) f
+ends_text R answer left r0 r1 w0 w1 f0 f1 text seen d Answered lifts h e a f = given R answer left r0 r1 w0 w1 f0 f1 text d Answered lifts h (subst (λ (t : List ℕ). answer t (decision_text d) (decision_status d)) e a) f
+ends_text R answer left r0 r1 w0 w1 f0 f1 text seen d No lifts h e a f = given R answer left r0 r1 w0 w1 f0 f1 text d No lifts h (subst (λ (t : List ℕ). answer t (decision_text d) (decision_status d)) e a) f
+ends_text R answer left r0 r1 w0 w1 f0 f1 text seen d Refused lifts h e a f = given R answer left r0 r1 w0 w1 f0 f1 text d Refused lifts h (subst (λ (t : List ℕ). answer t (decision_text d) (decision_status d)) e a) f
+ends_text R answer left r0 r1 w0 w1 f0 f1 text seen d Budget lifts h e a f = given R answer left r0 r1 w0 w1 f0 f1 text d Budget lifts h (subst (λ (t : List ℕ). answer t (decision_text d) (decision_status d)) e a) f
+ends_text R answer left r0 r1 w0 w1 f0 f1 text seen d BadWords lifts h e a f = given R answer left r0 r1 w0 w1 f0 f1 text d BadWords lifts h (subst (λ (t : List ℕ). answer t (decision_text d) (decision_status d)) e a) f
+ends_text R answer left r0 r1 w0 w1 f0 f1 text seen d BadToken lifts h e a f = given R answer left r0 r1 w0 w1 f0 f1 text d BadToken lifts h (subst (λ (t : List ℕ). answer t (decision_text d) (decision_status d)) e a) f
+ends_text R answer left r0 r1 w0 w1 f0 f1 text seen d ReadFault lifts h e a f = given R answer left r0 r1 w0 w1 f0 f1 text d ReadFault lifts h (subst (λ (t : List ℕ). answer t (decision_text d) (decision_status d)) e a) f
+
+-- a tuple has the form of one
+pub shaped_tuple : (p : ProblemData) (t : Tuple) → IsTuple p t → IsShaped p t
+shaped_tuple p t h = record { objects = h.objects; each = λ o l. (h.each o l).form }

@@ -1,67 +1,84 @@
 -- The same words and the same input have one status.
-use Rattle.std.proofs.Common.{◌≡◌, ◌<◌, ◌⊎◌, inl, inr, ℕ, List, [], ◌∷◌, ◌++◌, length, get_or, refl, sym, ◌∙◌, ap, subst, arith, length-append}
+use Rattle.std.proofs.Common.{◌≡◌, inl, inr, ℕ, ℤ, ◌<◌, ◌≤◌, List, [], ◌∷◌, ◌++◌, length, refl, sym, ◌∙◌, ap, subst, arith, append-nil}
+use Rattle.std.specs.Prelude.{codes, decimal}
+use Rattle.std.proofs.lemmas.Fmt.{decimal_injective}
 use Rattle.geo_base.specs.Tuple.{Tuple}
-use Rattle.problem_text.specs.Problem.{DemandData, apart, within, plain, RuleData, ProblemData}
+use Rattle.geo_conditions.specs.declared.cond.Cond.{Cond}
+use Rattle.geo_conditions.specs.Walk.{IsListing, More, End, OutOfBudget}
+use Rattle.geo_tokens.specs.declared.fault.FaultWord.{FaultWord}
+use Rattle.layout_text.specs.FirstFault as layouts
+use Rattle.layout_text.proofs.OneLayout.{layout_once, layout_or_fault}
+use Rattle.geo_meaning.specs.Judged.{IsFirstBroken}
+use Rattle.problem_text.specs.Problem.{ProblemData}
 use Rattle.problem_text.specs.Layouts.{IsLayout}
-use Rattle.geost_run.specs.declared.command.Command.TheVariants.{First, Show}
+use Rattle.problem_text.proofs.OneProblem.{accepted_well_formed}
+use Rattle.rule_ground.specs.Order.{order_of}
+use Rattle.rule_ground.specs.Start.{first_state}
+use Rattle.rule_ground.proofs.Starts.{names-each}
+use Rattle.layout_search.specs.FirstLayout.{walk_of, HasNoLayout}
+use Rattle.layout_search.proofs.Alike as alike
+use Rattle.layout_search.proofs.States.{state-is}
+use Rattle.geost_run.specs.declared.command.Command.TheVariants.{First, Show, Judge}
 use Rattle.geost_run.specs.declared.command.Status.{Status}
 use Rattle.geost_run.specs.declared.command.Status.TheVariants.{Answered, No, Refused, Budget, BadWords, BadToken, ReadFault, WriteFault, Memory}
-use Rattle.geost_run.specs.Accepted.{IsAccepted}
+use Rattle.geost_run.specs.Accepted.{IsAccepted, IsRefused, AreConditions}
 use Rattle.geost_run.proofs.Refusals.{same_problem, not_refused}
-use Rattle.geost_run.specs.First.{HasNoLayout}
-use Rattle.geost_run.specs.Formulas.{IsFormula, IsNoFormula, HasNoFormula, HasFormulaAt}
 use Rattle.geost_run.specs.Words.{HasForm}
-use Rattle.geost_run.specs.Answer.{RefusedAnswer, LaterAnswer, FirstAnswer, ShowAnswer, Answer}
+use Rattle.geost_run.specs.Answer.{RefusedAnswer, FirstAnswer, ShowAnswer, JudgeAnswer, Gives, Answer}
+use Rattle.geost_run.specs.Texts.{IsRefusedPair, endless, in_first, in_second}
+use Rattle.geost_run.proofs.TwoTexts.{one-cut}
 
 -- a text of which a problem with a layout is spelled spells none without
 layout_or_none : (input : List ℕ) (p q : ProblemData) (t : Tuple) → IsAccepted input p → IsLayout p t → IsAccepted input q → HasNoLayout q → ⊥
 layout_or_none input p q t a l b none = subst HasNoLayout (same_problem input q p b a) none t l
 
-formula_or_not : (d : DemandData) → IsFormula d → IsNoFormula d → ⊥
-formula_or_not apart f n = f
-formula_or_not (within ranges) f n = f
-formula_or_not (plain g) f n = n
+-- under conditions of the same problem no listing finds a layout where another is out of budget, and none ends there
+found_or_spent : (n : ℕ) (input : List ℕ) (p q : ProblemData) (v : List ℤ) (cs ds : List Cond) → IsAccepted input p → IsAccepted input q → AreConditions p cs → AreConditions q ds
+    → IsListing (walk_of p cs) 1 n (v ∷ []) More → IsListing (walk_of q ds) 1 n [] OutOfBudget → ⊥
+found_or_spent n input p q v cs ds a b i j l m =
+    let e : q ≡ p = same_problem input q p b a in
+    let well = accepted_well_formed input p a.spells in
+    alike.found-or-spent p.dims cs ds (first_state p) (order_of p) n (state-is p well) (names-each p well) (i ∙ sym (subst (λ (x : ProblemData). AreConditions x ds) e j)) v l
+    (subst (λ (x : ProblemData). IsListing (walk_of x ds) 1 n [] OutOfBudget) e m)
 
--- the element behind a front part
-behind : {X : Type 0} (ps os : List X) (q d : X) → get_or (ps ++ q ∷ os) (length ps) d ≡ q
-behind [] os q d = refl
-behind (p ∷ ps) os q d = behind ps os q d
+ended_or_spent : (n : ℕ) (input : List ℕ) (p q : ProblemData) (cs ds : List Cond) → IsAccepted input p → IsAccepted input q → AreConditions p cs → AreConditions q ds
+    → IsListing (walk_of p cs) 1 n [] End → IsListing (walk_of q ds) 1 n [] OutOfBudget → ⊥
+ended_or_spent n input p q cs ds a b i j l m =
+    let e : q ≡ p = same_problem input q p b a in
+    let well = accepted_well_formed input p a.spells in
+    alike.ended-or-spent p.dims cs ds (first_state p) (order_of p) n (state-is p well) (names-each p well) (i ∙ sym (subst (λ (x : ProblemData). AreConditions x ds) e j)) l
+    (subst (λ (x : ProblemData). IsListing (walk_of x ds) 1 n [] OutOfBudget) e m)
 
-no_formula_later : (p : ProblemData) (place : ℕ) → HasNoFormula p → HasFormulaAt p place → ⊥
-no_formula_later p place none h =
-    let at : get_or p.rules (length h.before) h.rule ≡ h.rule = ap (λ rs. get_or rs (length h.before) h.rule) h.rules ∙ behind h.before h.behind h.rule h.rule in
-    let there : length h.before < length p.rules = omega (arith, ap length h.rules, length-append h.before (h.rule ∷ h.behind)) in
-    formula_or_not h.rule.demand h.formula (subst (λ (r : RuleData). IsNoFormula r.demand) at (none (length h.before) h.rule there))
+pub refused_too : (input out : List ℕ) (p : ProblemData) → IsAccepted input p → RefusedAnswer input out → ⊥
+refused_too input out p a (place, word, f, e) = not_refused input p place word a f
 
-accepted_not_later : (input out : List ℕ) (p : ProblemData) → IsAccepted input p → HasNoFormula p → LaterAnswer input out → ⊥
-accepted_not_later input out p a none (q, place, b, h, e) = no_formula_later q place (subst HasNoFormula (same_problem input p q a b) none) h
-
-first_refused : (input out : List ℕ) (p : ProblemData) → IsAccepted input p → HasNoFormula p → RefusedAnswer input out ⊎ LaterAnswer input out → ⊥
-first_refused input out p a none (inl (place, word, f, e)) = not_refused input p place word a f
-first_refused input out p a none (inr later) = accepted_not_later input out p a none later
-
-first_status : (input t u : List ℕ) (s r : Status) → FirstAnswer input t s → FirstAnswer input u r → s ≡ r
-first_status input t u Answered Answered a b = refl
-first_status input t u No No a b = refl
-first_status input t u Refused Refused a b = refl
-first_status input t u Answered No (p, x, a, f, l, e) (q, b, g, n, h) = absurd (layout_or_none input p q x a l.layout b n)
-first_status input t u No Answered (q, b, g, n, h) (p, x, a, f, l, e) = absurd (layout_or_none input p q x a l.layout b n)
-first_status input t u Answered Refused (p, x, a, f, l, e) r = absurd (first_refused input u p a f r)
-first_status input t u Refused Answered r (p, x, a, f, l, e) = absurd (first_refused input t p a f r)
-first_status input t u No Refused (p, a, f, n, e) r = absurd (first_refused input u p a f r)
-first_status input t u Refused No r (p, a, f, n, e) = absurd (first_refused input t p a f r)
-first_status input t u Budget r a b = absurd a
-first_status input t u BadWords r a b = absurd a
-first_status input t u BadToken r a b = absurd a
-first_status input t u ReadFault r a b = absurd a
-first_status input t u WriteFault r a b = absurd a
-first_status input t u Memory r a b = absurd a
-first_status input t u s Budget a b = absurd b
-first_status input t u s BadWords a b = absurd b
-first_status input t u s BadToken a b = absurd b
-first_status input t u s ReadFault a b = absurd b
-first_status input t u s WriteFault a b = absurd b
-first_status input t u s Memory a b = absurd b
+first_status : (n : ℕ) (input t u : List ℕ) (s r : Status) → FirstAnswer n input t s → FirstAnswer n input u r → s ≡ r
+first_status n input t u Answered Answered a b = refl
+first_status n input t u No No a b = refl
+first_status n input t u Budget Budget a b = refl
+first_status n input t u Refused Refused a b = refl
+first_status n input t u Answered No (p, x, cs, a, are, l, f, e) (q, ds, b, is, m, none, g) = absurd (layout_or_none input p q x a f.layout b none)
+first_status n input t u No Answered (q, ds, b, is, m, none, g) (p, x, cs, a, are, l, f, e) = absurd (layout_or_none input p q x a f.layout b none)
+first_status n input t u Answered Budget (p, x, cs, a, are, l, f, e) (q, ds, b, is, m, g) = absurd (found_or_spent n input p q _ cs ds a b are is l m)
+first_status n input t u Budget Answered (q, ds, b, is, m, g) (p, x, cs, a, are, l, f, e) = absurd (found_or_spent n input p q _ cs ds a b are is l m)
+first_status n input t u No Budget (p, cs, a, are, l, none, e) (q, ds, b, is, m, g) = absurd (ended_or_spent n input p q cs ds a b are is l m)
+first_status n input t u Budget No (q, ds, b, is, m, g) (p, cs, a, are, l, none, e) = absurd (ended_or_spent n input p q cs ds a b are is l m)
+first_status n input t u Answered Refused (p, x, cs, a, are, l, f, e) r = absurd (refused_too input u p a r)
+first_status n input t u Refused Answered r (p, x, cs, a, are, l, f, e) = absurd (refused_too input t p a r)
+first_status n input t u No Refused (p, cs, a, are, l, none, e) r = absurd (refused_too input u p a r)
+first_status n input t u Refused No r (p, cs, a, are, l, none, e) = absurd (refused_too input t p a r)
+first_status n input t u Budget Refused (p, cs, a, are, l, e) r = absurd (refused_too input u p a r)
+first_status n input t u Refused Budget r (p, cs, a, are, l, e) = absurd (refused_too input t p a r)
+first_status n input t u BadWords r a b = absurd a
+first_status n input t u BadToken r a b = absurd a
+first_status n input t u ReadFault r a b = absurd a
+first_status n input t u WriteFault r a b = absurd a
+first_status n input t u Memory r a b = absurd a
+first_status n input t u s BadWords a b = absurd b
+first_status n input t u s BadToken a b = absurd b
+first_status n input t u s ReadFault a b = absurd b
+first_status n input t u s WriteFault a b = absurd b
+first_status n input t u s Memory a b = absurd b
 
 show_status : (input t u : List ℕ) (s r : Status) → ShowAnswer input t s → ShowAnswer input u r → s ≡ r
 show_status input t u Answered Answered a b = refl
@@ -83,15 +100,90 @@ show_status input t u s ReadFault a b = absurd b
 show_status input t u s WriteFault a b = absurd b
 show_status input t u s Memory a b = absurd b
 
+-- ---- judge
+
+-- both ways of reading the two texts give the same problem and tuple
+given_once : (input : List ℕ) (p q : ProblemData) (t u : Tuple) → Gives input p t → Gives input q u → (q ≡ p) × (u ≡ t)
+given_once input p q t u (a, b, cut, acc, lay) (c, d, cut', acc', lay') =
+    let e = one-cut input a b c d cut cut' in
+    let same : q ≡ p = same_problem a q p (subst (λ (z : List ℕ). IsAccepted z q) (sym e.0) acc') acc in
+    (same, layout_once p b t u lay (subst (λ (x : ProblemData). layouts.Accepts x b u) same (subst (λ (z : List ℕ). layouts.Accepts q z u) (sym e.1) lay')))
+
+-- a rule that does not hold is one of those that all hold
+broken_of_all : (p : ProblemData) (t : Tuple) (n : ℕ) → IsLayout p t → IsFirstBroken p t n → ⊥
+broken_of_all p t n l b = b.broken (l.rules b.position _ b.inside)
+
+good_or_broken : (input : List ℕ) (p q : ProblemData) (t u : Tuple) (n : ℕ) → Gives input p t → IsLayout p t → Gives input q u → IsFirstBroken q u n → ⊥
+good_or_broken input p q t u n g l k b =
+    let e = given_once input p q t u g k in
+    broken_of_all p t n l (subst (λ (x : Tuple). IsFirstBroken p x n) e.1 (subst (λ (x : ProblemData). IsFirstBroken x u n) e.0 b))
+
+-- what is refused gives nothing
+pub given_or_refused : (input : List ℕ) (p : ProblemData) (t : Tuple) (place : ℕ) (word : FaultWord) → Gives input p t → IsRefusedPair input place word → ⊥
+given_or_refused input p t place word (a, b, cut, acc, lay) (endless e x y) = elim cut.split [
+  | inl z ↦ (let l : length a ≤ 1048576 = acc.spells.says.short in let m = e.none (length a) z in omega (arith, l, m))
+  | inr z ↦ (let l : length a ≤ 1048576 = acc.spells.says.short in let n = ap length (cut.both ∙ ap (λ (v : List ℕ). a ++ v) z.1 ∙ append-nil a) in let m = e.long in omega (arith, l, m, n))
+]
+given_or_refused input p t place word (a, b, cut, acc, lay) (in_first c d cut' f) =
+    not_refused a p place word acc (subst (λ (z : List ℕ). IsRefused z place word) (sym (one-cut input a b c d cut cut').0) f)
+given_or_refused input p t place word (a, b, cut, acc, lay) (in_second c d cut' q acc' f) =
+    let e = one-cut input a b c d cut cut' in
+    let same : q ≡ p = same_problem a q p (subst (λ (z : List ℕ). IsAccepted z q) (sym e.0) acc') acc in
+    layout_or_fault p b t f.within word lay (subst (λ (x : ProblemData). layouts.HasFirstFault x b f.within word) same (subst (λ (z : List ℕ). layouts.HasFirstFault q z f.within word) (sym e.1) f.first))
+
+judge_status : (input t u : List ℕ) (s r : Status) → JudgeAnswer input t s → JudgeAnswer input u r → s ≡ r
+judge_status input t u Answered Answered a b = refl
+judge_status input t u No No a b = refl
+judge_status input t u Refused Refused a b = refl
+judge_status input t u Answered No (p, x, g, l, e) (q, y, n, k, b, h) = absurd (good_or_broken input p q x y n g l k b)
+judge_status input t u No Answered (q, y, n, k, b, h) (p, x, g, l, e) = absurd (good_or_broken input p q x y n g l k b)
+judge_status input t u Answered Refused (p, x, g, l, e) (place, word, f, h) = absurd (given_or_refused input p x place word g f)
+judge_status input t u Refused Answered (place, word, f, h) (p, x, g, l, e) = absurd (given_or_refused input p x place word g f)
+judge_status input t u No Refused (q, y, n, k, b, h) (place, word, f, e) = absurd (given_or_refused input q y place word k f)
+judge_status input t u Refused No (place, word, f, e) (q, y, n, k, b, h) = absurd (given_or_refused input q y place word k f)
+judge_status input t u Budget r a b = absurd a
+judge_status input t u BadWords r a b = absurd a
+judge_status input t u BadToken r a b = absurd a
+judge_status input t u ReadFault r a b = absurd a
+judge_status input t u WriteFault r a b = absurd a
+judge_status input t u Memory r a b = absurd a
+judge_status input t u s Budget a b = absurd b
+judge_status input t u s BadWords a b = absurd b
+judge_status input t u s BadToken a b = absurd b
+judge_status input t u s ReadFault a b = absurd b
+judge_status input t u s WriteFault a b = absurd b
+judge_status input t u s Memory a b = absurd b
+
+-- words have one number
+pub same_number : (words : List (List ℕ)) (n m : ℕ) → HasForm words (First n) → HasForm words (First m) → n ≡ m
+same_number words n m f g = decimal_injective n m (omega (arith, f.2)) (omega (arith, g.2)) (second (sym f.0 ∙ g.0))
+  where
+    second : codes "first" ∷ decimal n ∷ [] ≡ codes "first" ∷ decimal m ∷ [] → decimal n ≡ decimal m
+    second e = cc
+
 -- words are of one command
-other_words : (words : List (List ℕ)) (n : ℕ) → HasForm words (First n) → HasForm words Show → ⊥
-other_words words n f g = let e = sym f.0 ∙ g in absurd (omega (arith, ap length e))
+pub first_or_show : (words : List (List ℕ)) (n : ℕ) → HasForm words (First n) → HasForm words Show → ⊥
+first_or_show words n f g = let e = sym f.0 ∙ g in absurd (omega (arith, ap length e))
+
+pub first_or_judge : (words : List (List ℕ)) (n : ℕ) → HasForm words (First n) → HasForm words Judge → ⊥
+first_or_judge words n f g = let e = sym f.0 ∙ g in absurd (omega (arith, ap length e))
+
+pub show_or_judge : (words : List (List ℕ)) → HasForm words Show → HasForm words Judge → ⊥
+show_or_judge words f g = apart_words (sym f ∙ g)
+  where
+    apart_words : codes "show" ∷ [] ≡ codes "judge" ∷ [] → ⊥
+    apart_words e = absurd cc
 
 pub one_status : (words : List (List ℕ)) (input t u : List ℕ) (s r : Status) → Answer words input t s → Answer words input u r → s ≡ r
-one_status words input t u s r (inl (First n, f, a)) (inl (First m, g, b)) = first_status input t u s r a b
+one_status words input t u s r (inl (First n, f, a)) (inl (First m, g, b)) = first_status m input t u s r (subst (λ (k : ℕ). FirstAnswer k input t s) (same_number words n m f g) a) b
 one_status words input t u s r (inl (Show, f, a)) (inl (Show, g, b)) = show_status input t u s r a b
-one_status words input t u s r (inl (First n, f, a)) (inl (Show, g, b)) = absurd (other_words words n f g)
-one_status words input t u s r (inl (Show, f, a)) (inl (First n, g, b)) = absurd (other_words words n g f)
+one_status words input t u s r (inl (Judge, f, a)) (inl (Judge, g, b)) = judge_status input t u s r a b
+one_status words input t u s r (inl (First n, f, a)) (inl (Show, g, b)) = absurd (first_or_show words n f g)
+one_status words input t u s r (inl (Show, f, a)) (inl (First n, g, b)) = absurd (first_or_show words n g f)
+one_status words input t u s r (inl (First n, f, a)) (inl (Judge, g, b)) = absurd (first_or_judge words n f g)
+one_status words input t u s r (inl (Judge, f, a)) (inl (First n, g, b)) = absurd (first_or_judge words n g f)
+one_status words input t u s r (inl (Show, f, a)) (inl (Judge, g, b)) = absurd (show_or_judge words f g)
+one_status words input t u s r (inl (Judge, f, a)) (inl (Show, g, b)) = absurd (show_or_judge words g f)
 one_status words input t u s r (inl (c, f, a)) (inr h) = absurd (h.none c f)
 one_status words input t u s r (inr h) (inl (c, f, a)) = absurd (h.none c f)
 one_status words input t u s r (inr h) (inr k) = h.ends ∙ sym k.ends

@@ -1,6 +1,10 @@
 -- A text is accepted or refused, and not both.
-use Rattle.std.proofs.Common.{◌≡◌, ℕ, List, sym, ◌∙◌, subst}
-use Rattle.std.specs.Prelude.{Option, None, Some, Err}
+use Rattle.std.proofs.Common.{◌≡◌, ℕ, List, refl, sym, ◌∙◌, subst}
+use Rattle.std.specs.Prelude.{Option, None, Some, Result, Ok, Err, IfOk}
+use Rattle.geost_run.specs.declared.decision.Decision.{Decision}
+use Rattle.geost_run.specs.declared.decision.Decision.TheVariants.{Refuse}
+use Rattle.geost_run.specs.Decision.{RefusesAs}
+use Rattle.std.proofs.lemmas.Bool.{false≢true}
 use Rattle.geo_tokens.specs.declared.fault.FaultWord.{FaultWord}
 use Rattle.geo_tokens.specs.declared.fault.TextFault.{TextFault}
 use Rattle.geo_tokens.specs.declared.fault.TextFault.TheVariants as faults
@@ -9,7 +13,9 @@ use Rattle.problem_text.specs.FirstFault.{Accepts, AnswersProblem}
 use Rattle.problem_text.proofs.OneProblem.{accepted_once, accepted_not_refused}
 use Rattle.rule_names.specs.Answers.{AreNamesRight, HasFirstMistake, AnswersNames}
 use Rattle.rule_expand.specs.Rules.{expansion_fault, IsFaultOf}
-use Rattle.geost_run.specs.Accepted.{IsAccepted, IsRefused, unread, misnamed, unexpanded, AnswersAccepted}
+use Rattle.rule_ground.specs.Ground.{ground_fault}
+use Rattle.rule_ground.specs.Ground as grounding
+use Rattle.geost_run.specs.Accepted.{IsAccepted, IsRefused, unread, misnamed, unexpanded, ungrounded, AnswersAccepted}
 
 pub same_problem : (text : List ℕ) (p q : ProblemData) → IsAccepted text p → IsAccepted text q → p ≡ q
 same_problem text p q a b = accepted_once text p q a.spells b.spells
@@ -25,6 +31,8 @@ not_refused text p place word a (unread f) = accepted_not_refused text p place w
 not_refused text p place word a (misnamed q b h) = right_or_wrong p place word a.names (subst (λ (x : ProblemData). HasFirstMistake x place word) (accepted_once text q p b a.spells) h)
 not_refused text p place word a (unexpanded q b right e) =
     within_or_large (expansion_fault p) (faults.At place word) a.expands (subst (λ (x : ProblemData). expansion_fault x ≡ Some (faults.At place word)) (accepted_once text q p b a.spells) e)
+not_refused text p place word a (ungrounded q b right x e) =
+    within_or_large (ground_fault p) (faults.At place word) a.grounds (subst (λ (y : ProblemData). ground_fault y ≡ Some (faults.At place word)) (accepted_once text q p b a.spells) e)
 
 -- ---- what the calls answered
 
@@ -39,3 +47,15 @@ refused_misnamed A text p faults.Memory a h = tt
 pub refused_unexpanded : (text : List ℕ) (p : ProblemData) (f : TextFault) → Accepts text p → AreNamesRight p → IsFaultOf (expansion_fault p) f → AnswersAccepted (Err f) text
 refused_unexpanded text p (faults.At place word) a right h = unexpanded p a right h
 refused_unexpanded text p faults.Memory a right h = tt
+
+pub refused_ungrounded : (text : List ℕ) (p : ProblemData) (f : TextFault) → Accepts text p → AreNamesRight p → expansion_fault p ≡ None → grounding.IsFaultOf (ground_fault p) f → AnswersAccepted (Err f) text
+refused_ungrounded text p (faults.At place word) a right x h = ungrounded p a right x h
+refused_ungrounded text p faults.Memory a right x h = tt
+
+-- ---- what is decided of a fault
+
+module _ {E : Type 0} (P : Decision → Type 0) where
+  pub refused_as : (f : TextFault) (r : Result Decision E) → RefusesAs f r → ((place : ℕ) (word : FaultWord) → f ≡ faults.At place word → P (Refuse place word)) → IfOk r P
+  refused_as (faults.At place word) r e h = subst (λ (x : Result Decision E). IfOk x P) (sym e) (h place word refl)
+  refused_as faults.Memory (Ok d) e h = absurd (false≢true e)
+  refused_as faults.Memory (Err d) e h = tt

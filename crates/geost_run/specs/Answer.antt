@@ -1,19 +1,24 @@
 -- What the program answers: the text that it writes and the status that it ends with.
-use Rattle.std.specs.Prelude.{◌≡◌, ◌⊎◌, ◌++◌, ℕ, List, codes, decimal}
+use Rattle.std.specs.Prelude.{◌≡◌, ◌⊎◌, ◌++◌, ◌-◌, ℕ, List, [], ◌∷◌, codes, decimal}
 use Rattle.geo_base.specs.Tuple.{Tuple}
+use Rattle.geo_conditions.specs.declared.cond.Cond.{Cond}
+use Rattle.geo_conditions.specs.Walk.{values, IsListing, More, End, OutOfBudget}
 use Rattle.geo_tokens.specs.declared.fault.FaultWord.{FaultWord}
-use Rattle.geo_tokens.specs.declared.fault.FaultWord.TheVariants.{Later}
 use Rattle.geo_tokens.specs.Fault.{fault_bytes}
 use Rattle.layout_text.specs.Block.{block_of}
+use Rattle.layout_text.specs.FirstFault as layouts
+use Rattle.geo_meaning.specs.Judged.{IsFirstBroken, rule_at}
 use Rattle.problem_text.specs.Problem.{ProblemData}
+use Rattle.problem_text.specs.Layouts.{IsLayout}
 use Rattle.problem_text.specs.Canonical.{problem_text}
 use Rattle.geost_run.specs.declared.command.Command.{Command}
-use Rattle.geost_run.specs.declared.command.Command.TheVariants.{First, Show}
+use Rattle.geost_run.specs.declared.command.Command.TheVariants.{First, Show, Judge}
 use Rattle.geost_run.specs.declared.command.Status.{Status}
 use Rattle.geost_run.specs.declared.command.Status.TheVariants.{Answered, No, Refused, Budget, BadWords, BadToken, ReadFault, WriteFault, Memory}
-use Rattle.geost_run.specs.Accepted.{IsAccepted, IsRefused}
-use Rattle.geost_run.specs.First.{IsFirstLayout, HasNoLayout}
-use Rattle.geost_run.specs.Formulas.{HasNoFormula, HasFormulaAt}
+use Rattle.rule_ground.specs.Order.{variables_for}
+use Rattle.layout_search.specs.FirstLayout.{walk_of, IsFirstLayout, HasNoLayout}
+use Rattle.geost_run.specs.Accepted.{IsAccepted, IsRefused, AreConditions}
+use Rattle.geost_run.specs.Texts.{AreTextsOf, IsRefusedPair}
 use Rattle.geost_run.specs.Words.{HasForm, HasNoForm}
 
 -- refused PLACE WORD
@@ -24,22 +29,23 @@ refusal place word = codes "refused " ++ (decimal place ++ (codes " " ++ (fault_
 abbrev pub RefusedAnswer : List ℕ → List ℕ → Type 0
 RefusedAnswer input text = (place : ℕ) × (word : FaultWord) × IsRefused input place word × (text ≡ refusal place word)
 
--- A text with a formula is refused at the name of its first formula rule, since formulas are not tried yet.
-abbrev pub LaterAnswer : List ℕ → List ℕ → Type 0
-LaterAnswer input text = (p : ProblemData) × (place : ℕ) × IsAccepted input p × HasFormulaAt p place × (text ≡ refusal place Later)
+-- budget N
+abbrev pub out_of_budget : ℕ → List ℕ
+out_of_budget n = codes "budget " ++ (decimal n ++ codes "\n")
 
--- `first N`. The printed layout satisfies every rule by its cells and precedes every other layout; `none` means that
--- there is no layout; any other text is refused at its first fault.
-abbrev pub FirstAnswer : List ℕ → List ℕ → Status → Type 0
-FirstAnswer input text Answered = (p : ProblemData) × (t : Tuple) × IsAccepted input p × HasNoFormula p × IsFirstLayout p t × (text ≡ block_of p t)
-FirstAnswer input text No = (p : ProblemData) × IsAccepted input p × HasNoFormula p × HasNoLayout p × (text ≡ codes "none\n")
-FirstAnswer input text Refused = RefusedAnswer input text ⊎ LaterAnswer input text
-FirstAnswer input text Budget = ⊥
-FirstAnswer input text BadWords = ⊥
-FirstAnswer input text BadToken = ⊥
-FirstAnswer input text ReadFault = ⊥
-FirstAnswer input text WriteFault = ⊥
-FirstAnswer input text Memory = ⊥
+-- `first N`. The listing of one layout among the first N members of the walk. So the printed layout satisfies every rule by its
+-- cells and its formula and precedes every other layout; `none` means that there is no layout; any other text is refused at
+-- its first fault.
+abbrev pub FirstAnswer : ℕ → List ℕ → List ℕ → Status → Type 0
+FirstAnswer n input text Answered = (p : ProblemData) × (t : Tuple) × (cs : List Cond) × IsAccepted input p × AreConditions p cs × IsListing (walk_of p cs) 1 n (values (variables_for p) t ∷ []) More × IsFirstLayout p t × (text ≡ block_of p t)
+FirstAnswer n input text No = (p : ProblemData) × (cs : List Cond) × IsAccepted input p × AreConditions p cs × IsListing (walk_of p cs) 1 n [] End × HasNoLayout p × (text ≡ codes "none\n")
+FirstAnswer n input text Budget = (p : ProblemData) × (cs : List Cond) × IsAccepted input p × AreConditions p cs × IsListing (walk_of p cs) 1 n [] OutOfBudget × (text ≡ out_of_budget n)
+FirstAnswer n input text Refused = RefusedAnswer input text
+FirstAnswer n input text BadWords = ⊥
+FirstAnswer n input text BadToken = ⊥
+FirstAnswer n input text ReadFault = ⊥
+FirstAnswer n input text WriteFault = ⊥
+FirstAnswer n input text Memory = ⊥
 
 -- `show`. The problem in its canonical spelling; any other text is refused at its first fault.
 abbrev pub ShowAnswer : List ℕ → List ℕ → Status → Type 0
@@ -53,10 +59,36 @@ ShowAnswer input text ReadFault = ⊥
 ShowAnswer input text WriteFault = ⊥
 ShowAnswer input text Memory = ⊥
 
+-- the name of the rule with this number, from 1
+abbrev pub rule_name : ProblemData → ℕ → List ℕ
+rule_name p n = (rule_at p (n - 1)).name
+
+-- broken RULE
+abbrev pub broken_rule : List ℕ → List ℕ
+broken_rule name = codes "broken " ++ (name ++ codes "\n")
+
+-- the input is a problem and a layout text of it, which gives the tuple
+abbrev pub Gives : List ℕ → ProblemData → Tuple → Type 0
+Gives input p t = (first : List ℕ) × (second : List ℕ) × AreTextsOf input first second × IsAccepted first p × layouts.Accepts p second t
+
+-- `judge`. `good` where every rule holds on the tuple, else the name of the first rule that does not; other texts are refused at
+-- their first fault.
+abbrev pub JudgeAnswer : List ℕ → List ℕ → Status → Type 0
+JudgeAnswer input text Answered = (p : ProblemData) × (t : Tuple) × Gives input p t × IsLayout p t × (text ≡ codes "good\n")
+JudgeAnswer input text No = (p : ProblemData) × (t : Tuple) × (n : ℕ) × Gives input p t × IsFirstBroken p t n × (text ≡ broken_rule (rule_name p n))
+JudgeAnswer input text Refused = (place : ℕ) × (word : FaultWord) × IsRefusedPair input place word × (text ≡ refusal place word)
+JudgeAnswer input text Budget = ⊥
+JudgeAnswer input text BadWords = ⊥
+JudgeAnswer input text BadToken = ⊥
+JudgeAnswer input text ReadFault = ⊥
+JudgeAnswer input text WriteFault = ⊥
+JudgeAnswer input text Memory = ⊥
+
 -- The answer to each command: one line a command.
 abbrev pub AnswerTo : Command → List ℕ → List ℕ → Status → Type 0
-AnswerTo (First n) input text status = FirstAnswer input text status
+AnswerTo (First n) input text status = FirstAnswer n input text status
 AnswerTo Show input text status = ShowAnswer input text status
+AnswerTo Judge input text status = JudgeAnswer input text status
 
 -- a front part of a text that is an answer
 abbrev pub FrontOf : (List ℕ → List ℕ → Status → Type 0) → List ℕ → List ℕ → Type 0
@@ -64,8 +96,9 @@ FrontOf answer input front = (text : List ℕ) × (status : Status) × (back : L
 
 -- What a command may have written when it was cut off: one line a command.
 abbrev pub BeginsOf : Command → List ℕ → List ℕ → Type 0
-BeginsOf (First n) input front = FrontOf FirstAnswer input front
+BeginsOf (First n) input front = FrontOf (FirstAnswer n) input front
 BeginsOf Show input front = FrontOf ShowAnswer input front
+BeginsOf Judge input front = FrontOf JudgeAnswer input front
 
 -- The answer to words that have no form.
 pub record BadWordsAnswer (words : List (List ℕ)) (text : List ℕ) (status : Status) : Type 0 where

@@ -1,23 +1,20 @@
 // The commands that read one text.
-ghost use Rattle.std.specs.Prelude.{◌≡◌, IfOk, MatchOption};
-ghost use Rattle.std.specs.Bool.{OnTrue, OnFalse};
-ghost use Rattle.problem_text.specs.ProblemView.{demand_data};
+ghost use Rattle.std.specs.Prelude.{◌≡◌, IfOk};
 ghost use Rattle.geost_run.specs.Answer.{FirstAnswer, ShowAnswer, FrontOf};
-ghost use Rattle.geost_run.specs.Decision.{decision_text, decision_status, IsDecided};
+ghost use Rattle.geost_run.specs.Decision.{decision_text, decision_status, IsDecided, RefusesAs};
 ghost use Rattle.geost_run.specs.Ends.{Ends, Finishes};
-ghost use Rattle.geost_run.specs.Formulas.{IsFormula, IsNoFormula, HasNoFormula, HasFormulaAt};
 ghost use Rattle.geost_run.specs.Reading.{TakesAtMost};
 
-use crate::accepted::read_accepted;
-use crate::{Decision, ReadFault, Status, first_layout, read_first_text, write_decision};
+use crate::accepted::{Accepted, read_accepted};
+use crate::{Decision, ReadFault, Status, read_first_text, write_decision};
 use geo_chan::{PutFault, Sink, Source};
-use geo_tokens::fault::{FaultWord, TextFault};
-use problem_text::problem::{Demand, Problem};
+use geo_tokens::fault::TextFault;
+use layout_search::{Outcome, search_first};
 use std::alloc::{AllocError, Global};
 
-/// Reads a problem and writes its first layout.
-pub fn first<S: Source, W: Sink>(alloc: Global, source: &mut S, sink: &mut W) -> Status
-    ensures ends { Ends FirstAnswer (FrontOf FirstAnswer) (S.left source.old) (S.faults source.old) (S.faults source.new)
+/// Reads a problem and writes its first layout, where the walk to it has at most `most` members.
+pub fn first<S: Source, W: Sink>(alloc: Global, most: u64, source: &mut S, sink: &mut W) -> Status
+    ensures ends { Ends (FirstAnswer most) (FrontOf (FirstAnswer most)) (S.left source.old) (S.faults source.old) (S.faults source.new)
         (W.written sink.old) (W.written sink.new) (W.faults sink.old) (W.faults sink.new) result }
     ensures most { TakesAtMost 1048577 (S.left source.old) (S.left source.new) }
 {
@@ -26,7 +23,7 @@ pub fn first<S: Source, W: Sink>(alloc: Global, source: &mut S, sink: &mut W) ->
         Err(ReadFault::Failed) => return Status::ReadFault,
         Err(ReadFault::Memory) => return Status::Memory,
     };
-    match decide_first(alloc, &text) {
+    match decide_first(alloc, most, &text) {
         Ok(decision) => finish(alloc, sink, &decision),
         Err(_) => Status::Memory,
     }
@@ -50,21 +47,22 @@ pub fn show<S: Source, W: Sink>(alloc: Global, source: &mut S, sink: &mut W) -> 
 }
 
 // Decides what `first` answers to a text.
-fn decide_first(alloc: Global, text: &[u8]) -> Result<Decision, AllocError>
-    ensures answer { IfOk result (λ decision. FirstAnswer text.now (decision_text decision) (decision_status decision)) }
+fn decide_first(alloc: Global, most: u64, text: &[u8]) -> Result<Decision, AllocError>
+    ensures answer { IfOk result (λ decision. FirstAnswer most text.now (decision_text decision) (decision_status decision)) }
     ensures decided { IfOk result IsDecided }
 {
-    let problem = match read_accepted(alloc, text) {
-        Ok(problem) => problem,
-        Err(TextFault::At(place, word)) => return Ok(Decision::Refuse(place, word)),
-        Err(TextFault::Memory) => return Err(AllocError),
+    let Accepted {
+        problem,
+        rules: _,
+        conditions,
+    } = match read_accepted(alloc, text) {
+        Ok(accepted) => accepted,
+        Err(fault) => return refuse(fault),
     };
-    if let Some(place) = first_formula(&problem) {
-        return Ok(Decision::Refuse(place, FaultWord::Later));
-    }
-    match first_layout(alloc, &problem)? {
-        Some(layout) => Ok(Decision::Layout(problem, layout)),
-        None => Ok(Decision::Nothing),
+    match search_first(alloc, &problem, conditions, most)? {
+        Outcome::Found(layout) => Ok(Decision::Layout(problem, layout)),
+        Outcome::Nothing => Ok(Decision::Nothing),
+        Outcome::OutOfBudget => Ok(Decision::Budget(most)),
     }
 }
 
@@ -74,33 +72,23 @@ fn decide_show(alloc: Global, text: &[u8]) -> Result<Decision, AllocError>
     ensures decided { IfOk result IsDecided }
 {
     match read_accepted(alloc, text) {
-        Ok(problem) => Ok(Decision::Shown(problem)),
-        Err(TextFault::At(place, word)) => Ok(Decision::Refuse(place, word)),
-        Err(TextFault::Memory) => Err(AllocError),
+        Ok(accepted) => Ok(Decision::Shown(accepted.problem)),
+        Err(fault) => refuse(fault),
     }
 }
 
-// The place of the first rule that is a formula.
-fn first_formula(problem: &Problem) -> Option<u64>
-    ensures { MatchOption result (HasNoFormula problem.now) (HasFormulaAt problem.now) }
+// The answer to a text with that fault.
+pub fn refuse(fault: TextFault) -> Result<Decision, AllocError>
+    ensures { RefusesAs fault result }
 {
-    for rule in problem.rules() {
-        if is_formula(rule.demand()) {
-            return Some(rule.place());
-        }
+    match fault {
+        TextFault::At(place, word) => Ok(Decision::Refuse(place, word)),
+        TextFault::Memory => Err(AllocError),
     }
-    None
-}
-
-fn is_formula(demand: &Demand) -> bool
-    ensures yes { OnTrue result (IsFormula (demand_data demand.now)) }
-    ensures no { OnFalse result (IsNoFormula (demand_data demand.now)) }
-{
-    matches!(demand, Demand::Plain(_))
 }
 
 // Writes what was decided, and says how that ended.
-fn finish<W: Sink>(alloc: Global, sink: &mut W, decision: &Decision) -> Status
+pub fn finish<W: Sink>(alloc: Global, sink: &mut W, decision: &Decision) -> Status
     requires { IsDecided decision.now }
     ensures { Finishes (decision_text decision.now) (decision_status decision.now) (W.written sink.old) (W.written sink.new) (W.faults sink.old) (W.faults sink.new) result }
 {
@@ -116,7 +104,8 @@ fn status_of(decision: &Decision) -> Status
 {
     match decision {
         Decision::Refuse(_, _) => Status::Refused,
-        Decision::Nothing => Status::No,
-        Decision::Layout(_, _) | Decision::Shown(_) => Status::Answered,
+        Decision::Budget(_) => Status::Budget,
+        Decision::Layout(_, _) | Decision::Shown(_) | Decision::Good => Status::Answered,
+        Decision::Nothing | Decision::Broken(_, _) => Status::No,
     }
 }

@@ -1,9 +1,9 @@
 // What is written.
-ghost use Rattle.std.specs.Prelude.{◌≡◌, codes};
+ghost use Rattle.std.specs.Prelude.{◌≡◌, ◌≤◌, codes, length};
 ghost use Rattle.geo_chan.specs.Written.{Writes};
 ghost use Rattle.problem_text.specs.Cells.{IsShaped};
 ghost use Rattle.problem_text.specs.WellFormed.{IsWellFormed};
-ghost use Rattle.geost_run.specs.Answer.{refusal};
+ghost use Rattle.geost_run.specs.Answer.{broken_rule, out_of_budget, refusal, rule_name};
 ghost use Rattle.geost_run.specs.Decision.{decision_text, IsDecided};
 ghost use Rattle.geost_run.specs.Ends.{Prints};
 
@@ -12,6 +12,7 @@ use geo_chan::{Piece, PutFault, Sink, write_all_bytes, write_pieces};
 use geo_tokens::fault::{FaultWord, fault_text};
 use layout_text::print_layout;
 use problem_text::print::print_problem;
+use problem_text::problem::Problem;
 use std::alloc::Global;
 
 /// Writes the whole answer.
@@ -26,9 +27,36 @@ pub fn write_decision<W: Sink>(
     match decision {
         Decision::Refuse(place, word) => write_refusal(sink, *place, *word),
         Decision::Nothing => write_all_bytes(sink, b"none\n"),
+        Decision::Budget(most) => write_budget(sink, *most),
         Decision::Layout(problem, layout) => print_layout(problem, layout, sink),
         Decision::Shown(problem) => print_problem(alloc, problem, sink),
+        Decision::Good => write_all_bytes(sink, b"good\n"),
+        Decision::Broken(problem, number) => write_broken(sink, problem, *number),
     }
+}
+
+fn write_broken<W: Sink>(sink: &mut W, problem: &Problem, number: usize) -> Result<(), PutFault>
+    requires { (1 ≤ number) × (number ≤ length problem.now.rules) }
+    ensures { Writes (W.written sink.old) (W.written sink.new) (W.faults sink.old) (W.faults sink.new) (W.quiet sink.old) (W.quiet sink.new) result (broken_rule (rule_name problem.now number)) }
+{
+    let rule = &problem.rules()[number - 1];
+    let pieces = [
+        Piece::Bytes(b"broken "),
+        Piece::Bytes(rule.name().as_bytes()),
+        Piece::Bytes(b"\n"),
+    ];
+    write_pieces(sink, &pieces)
+}
+
+fn write_budget<W: Sink>(sink: &mut W, most: u64) -> Result<(), PutFault>
+    ensures { Writes (W.written sink.old) (W.written sink.new) (W.faults sink.old) (W.faults sink.new) (W.quiet sink.old) (W.quiet sink.new) result (out_of_budget most) }
+{
+    let pieces = [
+        Piece::Bytes(b"budget "),
+        Piece::Number(most as i128),
+        Piece::Bytes(b"\n"),
+    ];
+    write_pieces(sink, &pieces)
 }
 
 fn write_refusal<W: Sink>(sink: &mut W, place: u64, word: FaultWord) -> Result<(), PutFault>

@@ -157,12 +157,39 @@ fn the_second_shape_and_the_high_side(rt: HostRuntime) -> Result<(), Fail> {
 }
 
 #[test]
-fn a_formula_is_refused_at_its_rule(rt: HostRuntime) -> Result<(), Fail> {
+fn a_formula_is_searched_within_a_budget(rt: HostRuntime) -> Result<(), Fail> {
     let formula =
         b"geost 1 dims 1 shape s box 0 size 1 ; object a as s at 0..9 ; rule r : a.x1 > 3 ; end";
     let (status, text) = answer(rt.alloc(), &["first", "1"], formula)?;
+    assert_eq!(rt; status, Status::Budget);
+    assert_eq!(rt; text.as_slice(), b"budget 1\n".as_slice());
+    let (status, text) = answer(rt.alloc(), &["first", "2"], formula)?;
+    assert_eq!(rt; status, Status::Answered);
+    assert_eq!(rt;
+        text.as_slice(),
+        b"layout\na as s at 4\ntoken 1,4\n".as_slice()
+    );
+    Ok(())
+}
+
+#[test]
+fn a_layout_is_judged(rt: HostRuntime) -> Result<(), Fail> {
+    let alloc = rt.alloc();
+    let good =
+        b"geost 1 dims 1 shape s box 0 size 2 ; object a as s at 0..3 ; object b as s at 0..3 ; rule r : apart ; end layout a as s at 0 b as s at 2";
+    let (status, text) = answer(alloc, &["judge"], good)?;
+    assert_eq!(rt; status, Status::Answered);
+    assert_eq!(rt; text.as_slice(), b"good\n".as_slice());
+    let broken =
+        b"geost 1 dims 1 shape s box 0 size 2 ; object a as s at 0..3 ; object b as s at 0..3 ; rule r : apart ; end layout a as s at 0 b as s at 1";
+    let (status, text) = answer(alloc, &["judge"], broken)?;
+    assert_eq!(rt; status, Status::No);
+    assert_eq!(rt; text.as_slice(), b"broken r\n".as_slice());
+    let outside =
+        b"geost 1 dims 1 shape s box 0 size 2 ; object a as s at 0..3 ; object b as s at 0..3 ; rule r : apart ; end layout a as s at 0 b as s at 4";
+    let (status, text) = answer(alloc, &["judge"], outside)?;
     assert_eq!(rt; status, Status::Refused);
-    assert_eq!(rt; text.as_slice(), b"refused 67 later\n".as_slice());
+    assert_eq!(rt; text.as_slice(), b"refused 136 range\n".as_slice());
     Ok(())
 }
 
@@ -173,7 +200,11 @@ fn wrong_rules_are_refused_by_every_command(rt: HostRuntime) -> Result<(), Fail>
         b"geost 1 dims 1 shape s box 0 size 1 ; object a as s at 0..9 ; rule r : 3 < a ; end";
     let product =
         b"geost 1 dims 1 shape s box 0 size 1 ; object a as s at 0..9 ; rule r : a.x1 * 0 * a.x1 <= 4 ; end";
-    for command in [["first", "1"].as_slice(), ["show"].as_slice()] {
+    for command in [
+        ["first", "1"].as_slice(),
+        ["show"].as_slice(),
+        ["judge"].as_slice(),
+    ] {
         let (status, text) = answer(alloc, command, kind)?;
         assert_eq!(rt; status, Status::Refused);
         assert_eq!(rt; text.as_slice(), b"refused 75 kind\n".as_slice());

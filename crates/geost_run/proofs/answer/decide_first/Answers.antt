@@ -1,13 +1,28 @@
-use Rattle.std.proofs.lemmas.Option.{MatchOption-at_some}
+use Rattle.std.proofs.Common.{Err, refl, subst}
+use Rattle.geost_run.specs.Answer.{FirstAnswer}
+use Rattle.geo_tokens.specs.declared.fault.TextFault.{TextFault}
+use Rattle.geost_run.specs.Accepted.{AnswersAccepted}
+use Rattle.geost_run.specs.Decision.{decision_text, decision_status, IsDecided}
+use Rattle.geost_run.proofs.Refusals.{refused_as}
 use Rattle.problem_text.proofs.OneProblem.{accepted_well_formed}
-use Rattle.geost_run.proofs.Placed.{shaped_layout}
+use Rattle.layout_search.specs.FirstLayout.{Finds}
+use Rattle.layout_search.specs.declared.first.Outcome.{Outcome}
+use Rattle.geost_run.proofs.Ending.{shaped_tuple}
 use Rattle.geost_run.proofs.answer.decide_first.Goals as goal
 
-pub first_layout-requires-clause-problem : goal.first_layout-requires-clause-problem
-first_layout-requires-clause-problem c = accepted_well_formed c.args.text.now c.in-Ok.problem c.in-Ok.ensures.spells
+pub search_first-requires-clause-problem : goal.search_first-requires-clause-problem
+search_first-requires-clause-problem c = accepted_well_formed c.args.text.now c.in-Ok.accepted.problem c.in-Ok.ensures.accepted.spells
 
-pub returns-in-Some-2-clause-decided : goal.returns-in-Some-2-clause-decided
-returns-in-Some-2-clause-decided c = (
-  accepted_well_formed c.args.text.now c.in-Ok.problem c.in-Ok.ensures.spells,
-  shaped_layout c.in-Ok.problem c.in-Some-2.layout (MatchOption-at_some _ _ c.in-Some-2.layout c.in-Some-2.is c.in_ok-layout.ensures).layout,
+pub returns-in-Found-clause-decided : goal.returns-in-Found-clause-decided
+returns-in-Found-clause-decided c = (
+  accepted_well_formed c.args.text.now c.in-Ok.accepted.problem c.in-Ok.ensures.accepted.spells,
+  shaped_tuple c.in-Ok.accepted.problem c.in-Found.layout (subst (λ (o : Outcome). Finds c.in-Ok.accepted.problem o) c.in-Found.is c.in_ok-layout.ensures.layout).layout.tuple,
 )
+
+pub returns-in-Err-clause-answer : goal.returns-in-Err-clause-answer
+returns-in-Err-clause-answer c =
+    refused_as (λ d. FirstAnswer c.args.most c.args.text.now (decision_text d) (decision_status d)) c.in-Err.fault c.refuse.result c.refuse.ensures
+    (λ place word e. (place, word, subst (λ (f : TextFault). AnswersAccepted (Err f) c.args.text.now) e c.in-Err.ensures, refl))
+
+pub returns-in-Err-clause-decided : goal.returns-in-Err-clause-decided
+returns-in-Err-clause-decided c = refused_as IsDecided c.in-Err.fault c.refuse.result c.refuse.ensures (λ place word e. tt)

@@ -1,0 +1,43 @@
+-- What the program promises, in one place.
+use Rattle.std.specs.Prelude.{◌≡◌, ◌⊎◌, ℕ, ℤ, List, [], length, codes, filter}
+use Rattle.geo_base.specs.Tuple.{Tuple}
+use Rattle.geo_conditions.specs.declared.cond.Cond.{Cond}
+use Rattle.geo_conditions.specs.Walk.{IsFront, GoesOn, is_full}
+use Rattle.geo_tokens.specs.declared.fault.FaultWord.{FaultWord}
+use Rattle.layout_text.specs.Block.{block_of}
+use Rattle.problem_text.specs.Problem.{ProblemData}
+use Rattle.problem_text.specs.Layouts.{IsLayout}
+use Rattle.rule_ground.specs.Order.{ComesBefore}
+use Rattle.layout_search.specs.FirstLayout.{walk_of}
+use Rattle.geost_run.specs.Accepted.{IsAccepted, IsRefused, AreConditions}
+use Rattle.geost_run.specs.Answer.{refusal, out_of_budget, Gives}
+use Rattle.geost_run.specs.declared.command.Command.{Command}
+use Rattle.geost_run.specs.declared.command.Command.TheVariants.{First, Show, Judge}
+use Rattle.geost_run.specs.declared.command.Status.{Status}
+use Rattle.geost_run.specs.declared.command.Status.TheVariants.{Answered, No, Refused, Budget, BadWords, BadToken, ReadFault, WriteFault, Memory}
+
+-- `first N`. For an accepted problem a printed layout satisfies every rule by its direct meaning, over cells and finite quantifiers,
+-- and comes before every other layout; `none` means that there is no layout; `budget` comes where the first n members of the walk
+-- are no layouts and the walk goes on behind them; other text is refused at its first fault.
+abbrev pub Promises : ℕ → List ℕ → List ℕ → Status → Type 0
+Promises n input text Answered = (p : ProblemData) × (t : Tuple) × IsAccepted input p × IsLayout p t × ((u : Tuple) → IsLayout p u → (u ≡ t) ⊎ ComesBefore p t u) × (text ≡ block_of p t)
+Promises n input text No = (p : ProblemData) × IsAccepted input p × ((t : Tuple) → IsLayout p t → ⊥) × (text ≡ codes "none\n")
+Promises n input text Budget =
+    (p : ProblemData) × (cs : List Cond) × (w : List (List ℤ)) × IsAccepted input p × AreConditions p cs × IsFront (walk_of p cs) w
+    × (length w ≡ n) × (filter (is_full (walk_of p cs)) w ≡ []) × GoesOn (walk_of p cs) w × (text ≡ out_of_budget n)
+Promises n input text Refused = (place : ℕ) × (word : FaultWord) × IsRefused input place word × (text ≡ refusal place word)
+Promises n input text BadWords = ⊥
+Promises n input text BadToken = ⊥
+Promises n input text ReadFault = ⊥
+Promises n input text WriteFault = ⊥
+Promises n input text Memory = ⊥
+
+-- the texts of the input are without a fault
+abbrev pub IsFaultless : Command → List ℕ → Type 0
+IsFaultless (First n) input = (p : ProblemData) × IsAccepted input p
+IsFaultless Show input = (p : ProblemData) × IsAccepted input p
+IsFaultless Judge input = (p : ProblemData) × (t : Tuple) × Gives input p t
+
+-- a status with which the whole of a command's answer was written, or want of memory
+abbrev pub IsComplete : Status → Type 0
+IsComplete s = (s ≡ Answered) ⊎ ((s ≡ No) ⊎ ((s ≡ Budget) ⊎ (s ≡ Memory)))
