@@ -1,0 +1,126 @@
+-- The turns of the loop over the queue.
+use Rattle.std.proofs.Common.{◌≡◌, ℕ, zero, suc, ◌+◌, ◌*◌, ◌<◌, ◌≤◌, Bool, true, false, List, [], ◌∷◌, length, set, get_or, refl, sym, ap, ◌∙◌, subst, inl, inr, ◌||◌, arith, suc-mul}
+use Rattle.std.specs.List.{All}
+use Rattle.std.proofs.lemmas.Bool.{cases_eq, false≢true}
+use Rattle.std.proofs.lemmas.List.{get_or-set_other}
+use Rattle.std.proofs.Math.ListN.{length-set}
+use Rattle.geo_conditions.specs.declared.cond.Cond.{Cond}
+use Rattle.geo_conditions.specs.Conditions.{FitsIn}
+use Rattle.geo_conditions.specs.Reach.{State, how_many, Inside}
+use Rattle.geo_conditions.specs.Supported.{IsGreatest, NoneInside}
+use Rattle.geo_conditions.specs.Keeps.{Keeps, size}
+use Rattle.geo_conditions.proofs.Points.{inside_self, inside_trans}
+use Rattle.geo_conditions.proofs.Greatest.{keeps_trans}
+use Rattle.geo_state.proofs.Fits.{fits_inside}
+use Rattle.queued_fixpoint.specs.Near.{IsFine, BarePossible}
+use Rattle.queued_fixpoint.specs.Links.{NearOf}
+use Rattle.queued_fixpoint.specs.Queue.{NoneQueued, IsPopped, Marks, Narrowed}
+use Rattle.queued_fixpoint.proofs.Names.{same_answer, fine_kept, all_fine}
+
+-- each object that is not in the queue is fine
+abbrev pub RestFine : List Cond → State → List Bool → Type 0
+RestFine cs S queued = (o : ℕ) → o < length S → get_or queued o false ≡ false → IsFine cs S o
+
+-- what the loop keeps
+pub record Going (cs : List Cond) (S R : State) (queued : List Bool) : Type 0 where
+  pub keeps : Keeps cs S R
+  pub fits : All (λ c. FitsIn c R) cs
+  pub objects : length queued ≡ length R
+  pub fine : RestFine cs R queued
+  pub bare : BarePossible cs R
+
+or_left : (a b : Bool) → (a || b) ≡ false → a ≡ false
+or_left true b h = h
+or_left false b h = refl
+
+or_right : (a b : Bool) → (a || b) ≡ false → b ≡ false
+or_right true b h = absurd (false≢true (sym h))
+or_right false b h = h
+
+pub going_start : (cs : List Cond) (S : State) (q : List Bool) → All (λ c. FitsIn c S) cs → length q ≡ length S → ((o : ℕ) → o < length S → get_or q o false ≡ true) → BarePossible cs S → Going cs S S q
+going_start cs S q f e all bare = record {
+  keeps = record { inside = inside_self S; all = λ T s i. i };
+  fits = f;
+  objects = e;
+  fine = λ o h n. absurd (false≢true (sym n ∙ all o h));
+  bare = bare;
+}
+
+-- an object without a change
+pub going_same : (cs : List Cond) (S R T : State) (q p : List Bool) (o : ℕ) → Going cs S R q → IsPopped q p o → (T ≡ R) × IsFine cs R o → Going cs S T p
+going_same cs S R T q p o g d f = subst (λ (X : State). Going cs S X p) (sym f.0) (record {
+  keeps = g.keeps;
+  fits = g.fits;
+  objects = ap length d.2 ∙ length-set q o false ∙ g.objects;
+  fine = λ u h n. elim (cases_eq u o) [
+    | inl e ↦ subst (IsFine cs R) (sym e) f.1
+    | inr ne ↦ g.fine u h (sym (get_or-set_other q o u false false ne) ∙ ap (λ (l : List Bool). get_or l u false) (sym d.2) ∙ n)
+  ];
+  bare = g.bare;
+})
+
+-- an object that changed
+pub going_changed : (cs : List Cond) (S R T : State) (q p near r : List Bool) (o : ℕ) → Going cs S R q → IsPopped q p o → Narrowed cs R T o → NearOf cs o near → length near ≡ length R → Marks near p r → Going cs S T r
+going_changed cs S R T q p near r o g d w far long m =
+    let lp : length p ≡ length R = ap length d.2 ∙ length-set q o false ∙ g.objects in
+    record {
+      keeps = keeps_trans cs S R T g.keeps w.keeps;
+      fits = λ j e b. fits_inside (get_or cs j e) R T w.keeps.inside (g.fits j e b);
+      objects = m.objects ∙ lp ∙ w.alone.objects;
+      fine = λ u h n. elim (cases_eq u o) [
+        | inl e ↦ subst (IsFine cs T) (sym e) w.fine
+        | inr ne ↦
+            let hr : u < length R = omega (arith, h, w.alone.objects) in
+            let marks : (get_or p u false || get_or near u false) ≡ false = sym (m.each u (omega (arith, lp, hr))) ∙ n in
+            let np : get_or q u false ≡ false = sym (get_or-set_other q o u false false ne) ∙ ap (λ (l : List Bool). get_or l u false) (sym d.2) ∙ or_left (get_or p u false) (get_or near u false) marks in
+            fine_kept cs R T o u w.alone ne hr (far u (omega (arith, long, hr)) (or_right (get_or p u false) (get_or near u false) marks)) (g.fine u hr np)
+      ];
+      bare = λ k e b none. let hr : o < length R = omega (arith, d.0, g.objects) in
+          sym (same_answer (get_or cs k e) R T o w.alone (none o (omega (arith, hr, w.alone.objects)))) ∙ g.bare k e b (λ u l. none u (omega (arith, l, w.alone.objects)));
+    }
+
+pub gone_kept : (cs : List Cond) (S R : State) (q : List Bool) → Going cs S R q → NoneQueued q → IsGreatest cs S R
+gone_kept cs S R q g n = record { supported = all_fine cs R (λ o h. g.fine o h (n o)) g.bare; inside = g.keeps.inside; greatest = g.keeps.all }
+
+pub gone_dead : (cs : List Cond) (S R T : State) (q : List Bool) → Going cs S R q → NoneInside cs R × Inside T R → NoneInside cs S × Inside T S
+gone_dead cs S R T q g n = (λ U s i. n.0 U s (g.keeps.all U s i), inside_trans T R S n.1 g.keeps.inside)
+
+-- ---- the measure
+
+pub few_queued : (q : List Bool) → how_many q ≤ length q
+few_queued [] = omega arith
+few_queued (true ∷ q) = let h = few_queued q in omega (arith, h)
+few_queued (false ∷ q) = let h = few_queued q in omega (arith, h)
+
+pub fewer_queued : (q : List Bool) (o : ℕ) → get_or q o false ≡ true → how_many (set q o false) < how_many q
+fewer_queued [] o h = absurd (false≢true h)
+fewer_queued (true ∷ q) zero h = omega arith
+fewer_queued (false ∷ q) zero h = absurd (false≢true h)
+fewer_queued (b ∷ q) (suc o) h = let l = fewer_queued q o h in omega (arith, l)
+
+abbrev pub measure : State → List Bool → ℕ
+measure S q = size S * (length S + 1) + how_many q
+
+pub smaller_same : (R T : State) (q p : List Bool) (o : ℕ) → IsPopped q p o → T ≡ R → measure T p < measure R q
+smaller_same R T q p o d e =
+    let l : how_many p < how_many q = subst (λ (x : List Bool). how_many x < how_many q) (sym d.2) (fewer_queued q o d.1) in
+    let z : size T * (length T + 1) ≡ size R * (length R + 1) = ap (λ (X : State). size X * (length X + 1)) e in
+    omega (arith, l, z)
+
+below : (a b n x y : ℕ) → a < b → x ≤ n → a * (n + 1) + x < b * (n + 1) + y
+below zero zero n x y h l = absurd (omega arith)
+below zero (suc b) n x y h l = let z : suc b * (n + 1) ≡ b * (n + 1) + (n + 1) = suc-mul b (n + 1) in omega (arith, z, l)
+below (suc a) zero n x y h l = absurd (omega arith)
+below (suc a) (suc b) n x y h l =
+    let z : suc b * (n + 1) ≡ b * (n + 1) + (n + 1) = suc-mul b (n + 1) in
+    let w : suc a * (n + 1) ≡ a * (n + 1) + (n + 1) = suc-mul a (n + 1) in
+    let i = below a b n x y (omega arith) l in
+    omega (arith, z, w, i)
+
+pub smaller_changed : (cs : List Cond) (S R T : State) (q p near r : List Bool) (o : ℕ) → Going cs S R q → IsPopped q p o → Narrowed cs R T o → NearOf cs o near → length near ≡ length R → Marks near p r → measure T r < measure R q
+smaller_changed cs S R T q p near r o g d w far long m =
+    let lp : length p ≡ length R = ap length d.2 ∙ length-set q o false ∙ g.objects in
+    let f : how_many r ≤ length r = few_queued r in
+    let z : size T * (length T + 1) ≡ size T * (length R + 1) = ap (λ (n : ℕ). size T * (n + 1)) (sym w.alone.objects) in
+    let b = below (size T) (size R) (length R) (how_many r) (how_many q) w.smaller (omega (arith, f, m.objects, lp)) in
+    omega (arith, z, b)

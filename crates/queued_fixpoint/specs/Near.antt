@@ -1,0 +1,30 @@
+-- What the conditions that name an object say of it.
+use Rattle.std.specs.Prelude.{◌≡◌, ◌≢◌, ℕ, ◌<◌, true, false, List, length, ℤ}
+use Rattle.std.specs.List.{All}
+use Rattle.geo_base.specs.Boxes.{coordinate}
+use Rattle.geo_conditions.specs.declared.cond.Cond.{Cond}
+use Rattle.geo_conditions.specs.Reach.{State, reach, has, low, high, dims, just, InBox, with_at, NotEmpty}
+use Rattle.geo_conditions.specs.Conditions.{possible}
+use Rattle.indexical.specs.Names.{names}
+
+-- the two states are the same but for the object o
+pub record SameBut (o : ℕ) (S T : State) : Type 0 where
+  pub objects : length S ≡ length T
+  pub each : (u : ℕ) → u ≢ o → reach S u ≡ reach T u
+
+-- at the place s the object o has the point p of its region, and there no condition that names o is refuted
+pub record NearSupports (cs : List Cond) (S : State) (o s : ℕ) (p : List ℤ) : Type 0 where
+  pub place : has S o s ≡ true
+  pub point : InBox p (reach S o).region
+  pub unrefuted : All (λ c. names o c ≡ true → possible c (with_at S o s (just p)) ≡ true) cs
+
+-- the object has all its points, under the conditions that name it
+pub record IsFine (cs : List Cond) (S : State) (o : ℕ) : Type 0 where
+  pub full : NotEmpty (reach S o)
+  pub places : (s : ℕ) → has S o s ≡ true → (p : List ℤ) × NearSupports cs S o s p
+  pub lows : (d : ℕ) → d < dims S o → (s : ℕ) × (p : List ℤ) × NearSupports cs S o s p × (coordinate p d ≡ low S o d)
+  pub highs : (d : ℕ) → d < dims S o → (s : ℕ) × (p : List ℤ) × NearSupports cs S o s p × (coordinate p d ≡ high S o d)
+
+-- conditions that name no object are possible
+abbrev pub BarePossible : List Cond → State → Type 0
+BarePossible cs S = All (λ c. ((o : ℕ) → o < length S → names o c ≡ false) → possible c S ≡ true) cs

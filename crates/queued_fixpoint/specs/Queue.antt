@@ -1,0 +1,35 @@
+-- The queue: a row of marks, one for each object.
+use Rattle.std.specs.Prelude.{◌≡◌, ◌||◌, ℕ, ◌<◌, Bool, true, false, List, length, slice_index_or, slice_set}
+use Rattle.geo_conditions.specs.declared.cond.Cond.{Cond}
+use Rattle.geo_conditions.specs.Reach.{State, Inside}
+use Rattle.geo_conditions.specs.Supported.{NoneInside}
+use Rattle.geo_conditions.specs.Keeps.{Keeps, size}
+use Rattle.queued_fixpoint.specs.Near.{SameBut, IsFine}
+use Rattle.queued_fixpoint.specs.declared.prune.Pruned.{Pruned}
+use Rattle.queued_fixpoint.specs.declared.prune.Pruned.TheVariants.{Empty, Changed, Same}
+
+-- no object is queued
+abbrev pub NoneQueued : List Bool → Type 0
+NoneQueued q = (o : ℕ) → slice_index_or q o false ≡ false
+
+-- the object o was queued, and is taken out
+abbrev pub IsPopped : List Bool → List Bool → ℕ → Type 0
+IsPopped old new o = (o < length old) × (slice_index_or old o false ≡ true) × (new ≡ slice_set old o false)
+
+-- the objects of the row are queued too
+pub record Marks (near old new : List Bool) : Type 0 where
+  pub objects : length new ≡ length old
+  pub each : (u : ℕ) → u < length old → slice_index_or new u false ≡ (slice_index_or old u false || slice_index_or near u false)
+
+-- o alone changed, no supported state is lost, and o is fine now
+pub record Narrowed (cs : List Cond) (S T : State) (o : ℕ) : Type 0 where
+  pub keeps : Keeps cs S T
+  pub smaller : size T < size S
+  pub alone : SameBut o S T
+  pub fine : IsFine cs T o
+
+-- what the pruning of an object means for all conditions
+abbrev pub Prunes : List Cond → State → ℕ → Pruned → State → Type 0
+Prunes cs S o Empty T = NoneInside cs S × Inside T S
+Prunes cs S o Changed T = Narrowed cs S T o
+Prunes cs S o Same T = (T ≡ S) × IsFine cs S o
