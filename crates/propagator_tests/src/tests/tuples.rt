@@ -1,0 +1,206 @@
+//! All tuples of a small problem, and which of them are layouts.
+
+ghost use Rattle.std.specs.Prelude.{◌≤◌, map};
+ghost use Rattle.rule_expand.specs.Rules.{plain_rule_data};
+ghost use Rattle.propagator_tests.specs.Ready.{IsReady};
+
+use super::task::is_good;
+use geo_tokens::fault::TextFault;
+use layout_text::read_layout;
+use problem_text::problem::{ObjectDef, Problem};
+use problem_text::tree::Side;
+use rule_expand::plain::PlainRule;
+use std::alloc::{AllocError, Global};
+
+/// Where an object is put: the place of its shape, from 1, and its origin.
+#[derive(Drop)]
+pub struct Put {
+    pub place: u8,
+    pub origin: Vec<i64>,
+}
+
+/// A number that is taken apart, the last digit first.
+#[derive(Drop)]
+struct Digits {
+    rest: u32,
+}
+
+impl Digits {
+    /// The last digit to a base, which goes.
+    fn take(&mut self, base: u32) -> u32
+        requires { 1 ≤ base }
+    {
+        let digit = self.rest % base;
+        self.rest /= base;
+        digit
+    }
+}
+
+/// How many numbers there are, from `low` to `high`.
+fn width(low: i64, high: i64) -> u32
+    ensures { 1 ≤ result }
+{
+    u32::try_from(high.abs_diff(low))
+        .unwrap_or(u32::MAX)
+        .saturating_add(1)
+}
+
+/// How many shapes an object has.
+fn shapes(object: &ObjectDef) -> u8
+    ensures { 1 ≤ result }
+{
+    u8::try_from(object.shapes().len())
+        .unwrap_or(u8::MAX)
+        .max(1)
+}
+
+/// How many spots an object has.
+fn spots(object: &ObjectDef) -> u32 {
+    let mut count = u32::from(shapes(object));
+    for range in object.ranges() {
+        count = count.saturating_mul(width(range.low, range.high));
+    }
+    count
+}
+
+/// How many tuples a problem has.
+pub fn number_of_tuples(problem: &Problem) -> u32 {
+    let mut count = 1u32;
+    for object in problem.objects() {
+        count = count.saturating_mul(spots(object));
+    }
+    count
+}
+
+/// The spot of an object that the digits say.
+fn spot(alloc: Global, object: &ObjectDef, digits: &mut Digits) -> Result<Put, AllocError> {
+    let mut origin = Vec::new(alloc);
+    let shapes = shapes(object);
+    let place = digits.take(u32::from(shapes));
+    for range in object.ranges() {
+        let steps = digits.take(width(range.low, range.high));
+        origin.push(range.low.saturating_add(i64::from(steps)))?;
+    }
+    let place = u8::try_from(place).unwrap_or(0).saturating_add(1);
+    Ok(Put { place, origin })
+}
+
+/// The tuple with that number.
+fn tuple(alloc: Global, problem: &Problem, number: u32) -> Result<Vec<Put>, AllocError> {
+    let mut digits = Digits { rest: number };
+    let mut puts = Vec::new(alloc);
+    for object in problem.objects() {
+        puts.push(spot(alloc, object, &mut digits)?)?;
+    }
+    Ok(puts)
+}
+
+/// The name of the shape at a place of an object.
+fn shape_name<'a>(problem: &'a Problem, object: &ObjectDef, place: u8) -> &'a [u8] {
+    for (i, shape) in object.shapes().iter().enumerate() {
+        if i + 1 == usize::from(place) {
+            if let Some(shape) = problem.shapes().get(usize::from(*shape)) {
+                return shape.name().as_bytes();
+            }
+        }
+    }
+    b"?"
+}
+
+/// Appends the line of an object in a layout text.
+fn push_line(
+    alloc: Global,
+    problem: &Problem,
+    object: &ObjectDef,
+    put: &Put,
+    text: &mut Vec<u8>,
+) -> Result<(), AllocError> {
+    text.extend_from_slice(object.name().as_bytes())?;
+    text.extend_from_slice(b" as ")?;
+    text.extend_from_slice(shape_name(problem, object, put.place))?;
+    text.extend_from_slice(b" at")?;
+    for x in &put.origin {
+        text.extend_from_slice(format!(in alloc; " {x}")?.as_bytes())?;
+    }
+    text.push(b'\n')?;
+    Ok(())
+}
+
+/// The layout text of a tuple.
+fn layout_text(alloc: Global, problem: &Problem, puts: &[Put]) -> Result<Vec<u8>, AllocError> {
+    let mut text = Vec::from_slice(alloc, b"layout\n")?;
+    for (object, put) in problem.objects().iter().zip(puts) {
+        push_line(alloc, problem, object, put, &mut text)?;
+    }
+    Ok(text)
+}
+
+/// Whether the tuple is a layout.
+fn is_layout(
+    alloc: Global,
+    problem: &Problem,
+    rules: &[PlainRule],
+    puts: &[Put],
+) -> Result<bool, TextFault>
+    requires { IsReady problem.now (map plain_rule_data rules.now) }
+{
+    let text = layout_text(alloc, problem, puts)?;
+    let layout = read_layout(alloc, problem, text.as_slice(), 0)?;
+    Ok(is_good(problem, rules, &layout))
+}
+
+/// All layouts of a problem with that number of tuples.
+pub fn layouts(
+    alloc: Global,
+    problem: &Problem,
+    rules: &[PlainRule],
+    tuples: u32,
+) -> Result<Vec<Vec<Put>>, TextFault>
+    requires { IsReady problem.now (map plain_rule_data rules.now) }
+{
+    let mut found = Vec::new(alloc);
+    for number in 0..tuples {
+        let puts = tuple(alloc, problem, number)?;
+        if is_layout(alloc, problem, rules, puts.as_slice())? {
+            found.push(puts)?;
+        }
+    }
+    Ok(found)
+}
+
+/// Appends what comes first in a comparison of two tuples: the place, then each coordinate, negated where it is tried from
+/// the high end.
+fn push_key(problem: &Problem, put: &Put, key: &mut Vec<i64>) -> Result<(), AllocError> {
+    key.push(i64::from(put.place))?;
+    for (x, side) in put.origin.iter().zip(problem.sides()) {
+        key.push(match side {
+            Side::Low => *x,
+            Side::High => (*x).wrapping_neg(),
+        })?;
+    }
+    Ok(())
+}
+
+/// The numbers by which tuples are compared in search order: those of an object that is tried sooner come sooner.
+fn key_of(alloc: Global, problem: &Problem, puts: &[Put]) -> Result<Vec<i64>, AllocError> {
+    let mut key = Vec::new(alloc);
+    for o in problem.search_order() {
+        if let Some(put) = puts.get(usize::from(*o)) {
+            push_key(problem, put, &mut key)?;
+        }
+    }
+    Ok(key)
+}
+
+/// The keys of some tuples.
+pub fn keys_of(
+    alloc: Global,
+    problem: &Problem,
+    tuples: &[Vec<Put>],
+) -> Result<Vec<Vec<i64>>, AllocError> {
+    let mut keys = Vec::new(alloc);
+    for puts in tuples {
+        keys.push(key_of(alloc, problem, puts.as_slice())?)?;
+    }
+    Ok(keys)
+}
