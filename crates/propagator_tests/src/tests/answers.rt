@@ -121,7 +121,7 @@ fn all_open<const K: usize>(alloc: Global, state: &State<K>) -> Result<Vec<Open>
     Ok(all)
 }
 
-/// What is left of the first state of a problem when it is settled; nothing where it is dead.
+/// What is left of the first state of a problem when it is settled, read off a copy; nothing where it is dead.
 pub fn settled<const K: usize, P: Propagate<K>>(
     alloc: Global,
     problem: &Problem,
@@ -138,7 +138,7 @@ pub fn settled<const K: usize, P: Propagate<K>>(
     let first = start_state::<K>(alloc, problem)?;
     let mut state = Trailed::start(alloc, first, 0)?;
     match prop.settle(&mut state, &mut NoRecord::new())? {
-        Settled::Kept => Ok(Some(all_open(alloc, state.state())?)),
+        Settled::Kept => Ok(Some(all_open(alloc, &state.state().copy()?)?)),
         Settled::Dead => Ok(None),
     }
 }
