@@ -32,7 +32,7 @@ fits_at cs S i a c e = elim (slice_get_cases cs i).1 [
   | inr h ↦ let x : Some c ≡ None = sym e ∙ h.1 in absurd (cc)
 ]
 
-refutes_inside : (cs : List Cond) (i : ℕ) (S : State) (o s : ℕ) (inner b : Region) → AllFit cs S → o < length S → ((d : ℕ) → d < dims S o → (coordinate b.lo d ≤ℤ coordinate inner.lo d) × (coordinate inner.hi d ≤ℤ coordinate b.hi d))
+pub refutes_inside : (cs : List Cond) (i : ℕ) (S : State) (o s : ℕ) (inner b : Region) → AllFit cs S → o < length S → ((d : ℕ) → d < dims S o → (coordinate b.lo d ≤ℤ coordinate inner.lo d) × (coordinate inner.hi d ≤ℤ coordinate b.hi d))
     → refutes cs i (with_at S o s b) ≡ true → refutes cs i (with_at S o s inner) ≡ true
 refutes_inside cs zero S o s inner b a there r h = h
 refutes_inside cs (suc i) S o s inner b a there r h = refuted_inside (slice_get cs i) S o s inner b (fits_at cs S i a) there r h

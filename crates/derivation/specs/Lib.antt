@@ -2,3 +2,5 @@ pub mod Events
 pub mod Cuts
 pub mod Covers
 pub mod Points
+pub mod PlaceCovers
+pub mod Chains

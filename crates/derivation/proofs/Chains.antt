@@ -1,0 +1,77 @@
+-- How chains of a derivation come together.
+use Rattle.std.proofs.Common.{◌≡◌, ℕ, ℤ, List, [], ◌∷◌, ◌++◌, set, refl, sym, ap, ◌∙◌, subst, arith, append_assoc}
+use Rattle.std.specs.Int.{int_min, int_max}
+use Rattle.std.proofs.lemmas.Int.{ints, clamps}
+use Rattle.std.proofs.lemmas.List.{append-nil}
+use Rattle.geo_conditions.specs.declared.cond.Cond.{Cond}
+use Rattle.geo_conditions.specs.Reach.{State, Region, reach, low, high}
+use Rattle.derivation.specs.declared.event.Event.{Event}
+use Rattle.derivation.specs.declared.side.Side.{Side}
+use Rattle.derivation.specs.declared.side.Side.TheVariants.{Upto, From}
+use Rattle.derivation.specs.Cuts.{near}
+use Rattle.derivation.specs.Chains.{Link, link_events, moved, Narrows, after, Holds, links_events, behind, EachHolds, Leads, Ending, ending_events, EndHolds, Closes}
+
+events_append : (ls ms : List Link) → links_events (ls ++ ms) ≡ links_events ls ++ links_events ms
+events_append [] ms = refl
+events_append (l ∷ ls) ms = ap (λ (es : List Event). link_events l ++ es) (events_append ls ms) ∙ sym (append_assoc (link_events l) (links_events ls) (links_events ms))
+
+behind_append : (ls ms : List Link) (S : State) → behind (ls ++ ms) S ≡ behind ms (behind ls S)
+behind_append [] ms S = refl
+behind_append (l ∷ ls) ms S = behind_append ls ms (after l S)
+
+each_append : (cs : List Cond) (ls ms : List Link) (S : State) → EachHolds cs S ls → EachHolds cs (behind ls S) ms → EachHolds cs S (ls ++ ms)
+each_append cs [] ms S h k = k
+each_append cs (l ∷ ls) ms S h k = (h.0, each_append cs ls ms (after l S) h.1 k)
+
+-- no events lead from a state to itself
+pub leads_nil : (cs : List Cond) (S : State) → Leads cs S [] S
+leads_nil cs S = record { links = []; events = refl; state = refl; each_holds = tt }
+
+-- one link that holds
+pub leads_one : (cs : List Cond) (S : State) (l : Link) → Holds cs S l → Leads cs S (link_events l) (after l S)
+leads_one cs S l h = record {
+  links = l ∷ [];
+  events = sym (append-nil (link_events l));
+  state = refl;
+  each_holds = (h, tt);
+}
+
+-- one chain behind another
+pub leads_on : (cs : List Cond) (S T U : State) (es fs : List Event) → Leads cs S es T → Leads cs T fs U → Leads cs S (es ++ fs) U
+leads_on cs S T U es fs p q = record {
+  links = p.links ++ q.links;
+  events = ap (λ (gs : List Event). gs ++ fs) p.events ∙ ap (λ (gs : List Event). links_events p.links ++ gs) q.events ∙ sym (events_append p.links q.links);
+  state = q.state ∙ ap (behind q.links) p.state ∙ sym (behind_append p.links q.links S);
+  each_holds = each_append cs p.links q.links S p.each_holds (subst (λ (X : State). EachHolds cs X q.links) p.state q.each_holds);
+}
+
+-- an ending that holds closes
+pub closes_end : (cs : List Cond) (S : State) (e : Ending) → EndHolds cs S e → Closes cs S (ending_events e)
+closes_end cs S e h = record {
+  chain = [];
+  state = S;
+  ending = e;
+  events = refl;
+  leads = leads_nil cs S;
+  holds = h;
+}
+
+-- a chain, and then what closes
+pub closes_on : (cs : List Cond) (S T : State) (es fs : List Event) → Leads cs S es T → Closes cs T fs → Closes cs S (es ++ fs)
+closes_on cs S T es fs p q = record {
+  chain = es ++ q.chain;
+  state = q.state;
+  ending = q.ending;
+  events = ap (λ (gs : List Event). es ++ gs) q.events ∙ sym (append_assoc es q.chain (ending_events q.ending));
+  leads = leads_on cs S T q.state es q.chain p q.leads;
+  holds = q.holds;
+}
+
+-- where it does not widen, moving an end is an intersection
+pub moved_is_near : (S : State) (o : ℕ) (side : Side) → Narrows S o side → (moved side (reach S o)).region ≡ near side (reach S o).region
+moved_is_near S o (Upto d v) n =
+    let e : v ≡ int_min (high S o d) v = omega (arith, ints, clamps) in
+    ap (λ (x : ℤ). let r : Region = record { lo = (reach S o).region.lo; hi = set (reach S o).region.hi d x } in r) e
+moved_is_near S o (From d v) n =
+    let e : v ≡ int_max (low S o d) v = omega (arith, ints, clamps) in
+    ap (λ (x : ℤ). let r : Region = record { lo = set (reach S o).region.lo d x; hi = (reach S o).region.hi } in r) e
