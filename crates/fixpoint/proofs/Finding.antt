@@ -1,53 +1,39 @@
 -- Finding a defect.
-use Rattle.std.proofs.Common.{◌≡◌, ℕ, zero, suc, ◌+◌, ◌<◌, ◌≤◌, Bool, true, false, List, length, refl, sym, ap, ◌∙◌, subst, inl, inr, ◌↔◌, IsTrue, arith, ℤ, pos, ◌≤ℤ◌, ◌<ℤ◌, ◌+ℤ◌, negsuc, set}
+use Rattle.std.proofs.Common.{◌≡◌, ℕ, zero, suc, ◌+◌, ◌<◌, ◌≤◌, Bool, true, false, List, length, refl, sym, ◌∙◌, subst, inl, inr, arith, pos, ◌≤ℤ◌, ◌<ℤ◌}
 use Rattle.std.proofs.lemmas.Int.{ints}
 use Rattle.std.proofs.lemmas.Bool.{cases_lt, cases_eq, false≢true}
-use Rattle.std.proofs.lemmas.List.{get_or_past, get_or-set_same}
+use Rattle.std.proofs.lemmas.List.{get_or_past}
 use Rattle.geo_conditions.specs.declared.cond.Cond.{Cond}
 use Rattle.geo_state.proofs.Shapes.{place_few}
-use Rattle.geo_conditions.specs.Reach.{State, Reach, reach, nowhere, has, low, high, dims, Inside}
-use Rattle.geo_base.specs.Boxes.{coordinate}
+use Rattle.geo_conditions.specs.Reach.{State, reach, has, low, high, dims}
 use Rattle.geo_conditions.specs.Supported.{IsSupported, NoneInside, NoneRefuted}
-use Rattle.geo_conditions.proofs.Points.{unrefuted_wider}
-use Rattle.geo_conditions.proofs.Greatest.{raise_keeps, lower_keeps, raised, lowered}
+use Rattle.geo_conditions.proofs.Points.{unrefuted_wider, supports_wider}
 use Rattle.fixpoint.specs.Points.{HasSupport, HasEnd}
-use Rattle.fixpoint.specs.Defects.{PlacesFine, ObjectFine}
+use Rattle.fixpoint.specs.Defects.{LacksAll, PlacesFine, ObjectFine}
 
 -- a condition that is refuted on a state is so on every state inside
-pub hopeless_refuted : (cs : List Cond) (S : State) (t : Bool) → t ≡ false → (IsTrue t ↔ NoneRefuted cs S) → NoneInside cs S
-hopeless_refuted cs S t e h T s i = false≢true (sym e ∙ h.1 (unrefuted_wider cs T S i s.nonempty s.unrefuted))
+pub refuted_hopeless : (cs : List Cond) (S : State) → (NoneRefuted cs S → ⊥) → NoneInside cs S
+refuted_hopeless cs S h T s i = h (unrefuted_wider cs T S i s.nonempty s.unrefuted)
 
--- a state inside has the same objects
-in_narrower : (T S : State) (o : ℕ) → Inside T S → o < length S → o < length T
-in_narrower T S o i h = omega (arith, i.objects, h)
+-- where an object has no point, each state inside has an object without a point
+pub gone_hopeless : (cs : List Cond) (S : State) (o : ℕ) → LacksAll cs S o → NoneInside cs S
+gone_hopeless cs S o l T s i =
+    let h : o < length T = omega (arith, i.objects, l.object) in
+    let p = (s.nonempty o h).place in
+    let y = s.places o p.0 h p.1 in
+    l.lacks p.0 (y.0, supports_wider cs T S o p.0 y.0 h i s.nonempty y.1)
 
--- an empty interval stays empty
-pub hopeless_range : (cs : List Cond) (S : State) (o d : ℕ) → o < length S → high S o d <ℤ low S o d → NoneInside cs S
-hopeless_range cs S o d h l T s i = let r = (s.nonempty o (in_narrower T S o i h)).ranges d in absurd (omega (arith, ints, l, r, (i.each o).lows d, (i.each o).highs d))
+-- in an empty interval there is no point
+pub gone_range : (cs : List Cond) (S : State) (o d : ℕ) → o < length S → high S o d <ℤ low S o d → LacksAll cs S o
+gone_range cs S o d h l = record { object = h; lacks = λ s y. absurd (omega (arith, ints, l, y.1.point.above d, y.1.point.below d)) }
 
--- an empty set of places stays empty
-pub hopeless_places : (cs : List Cond) (S : State) (o : ℕ) → o < length S → ((s : ℕ) → has S o s ≡ true → ⊥) → NoneInside cs S
-hopeless_places cs S o h none T s i = let p = (s.nonempty o (in_narrower T S o i h)).place in none p.0 ((i.each o).places p.0 p.1)
+-- without places there is no point
+pub gone_places : (cs : List Cond) (S : State) (o : ℕ) → o < length S → ((s : ℕ) → has S o s ≡ true → ⊥) → LacksAll cs S o
+gone_places cs S o h none = record { object = h; lacks = λ s y. none s y.1.place }
 
--- an interval of one number whose end has no point
-pub hopeless_low : (cs : List Cond) (S : State) (o d : ℕ) → o < length S → d < dims S o → (HasEnd cs S o d (low S o d) → ⊥) → high S o d ≤ℤ low S o d → NoneInside cs S
-hopeless_low cs S o d h k n l T s i =
-    let j = (raise_keeps cs S o d h k n).all T s i in
-    let r = (s.nonempty o (in_narrower T S o i h)).ranges d in
-    let e : coordinate (reach (set S o (raised (reach S o) d)) o).region.lo d ≡ low S o d +ℤ pos 1 =
-    ap (λ (q : Reach). coordinate q.region.lo d) (get_or-set_same S o (raised (reach S o) d) nowhere h) ∙ get_or-set_same (reach S o).region.lo d (low S o d +ℤ pos 1) (pos 0) k in
-    let m : (low S o d +ℤ pos 1) ≤ℤ low T o d = subst (λ (z : ℤ). z ≤ℤ low T o d) e ((j.each o).lows d) in
-    absurd (omega (arith, ints, m, r, l, (i.each o).highs d))
-
--- the same of the high end
-pub hopeless_high : (cs : List Cond) (S : State) (o d : ℕ) → o < length S → d < dims S o → d < length (reach S o).region.hi → (HasEnd cs S o d (high S o d) → ⊥) → high S o d ≤ℤ low S o d → NoneInside cs S
-hopeless_high cs S o d h k kh n l T s i =
-    let j = (lower_keeps cs S o d h k n).all T s i in
-    let r = (s.nonempty o (in_narrower T S o i h)).ranges d in
-    let e : coordinate (reach (set S o (lowered (reach S o) d)) o).region.hi d ≡ high S o d +ℤ negsuc 0 =
-    ap (λ (q : Reach). coordinate q.region.hi d) (get_or-set_same S o (lowered (reach S o) d) nowhere h) ∙ get_or-set_same (reach S o).region.hi d (high S o d +ℤ negsuc 0) (pos 0) kh in
-    let m : high T o d ≤ℤ (high S o d +ℤ negsuc 0) = subst (λ (z : ℤ). high T o d ≤ℤ z) e ((j.each o).highs d) in
-    absurd (omega (arith, ints, m, r, l, (i.each o).lows d))
+-- an interval of at most one number whose low end has no point
+pub gone_low : (cs : List Cond) (S : State) (o d : ℕ) → o < length S → (HasEnd cs S o d (low S o d) → ⊥) → high S o d ≤ℤ low S o d → LacksAll cs S o
+gone_low cs S o d h n l = record { object = h; lacks = λ s y. n (s, y.0, y.1, omega (arith, ints, l, y.1.point.above d, y.1.point.below d)) }
 
 -- the places before the next one are fine, and one of them is there where it says so
 pub record PlacesUpTo (cs : List Cond) (S : State) (o : ℕ) (any : Bool) (n : ℕ) : Type 0 where
@@ -88,8 +74,8 @@ pub places_end : (cs : List Cond) (S : State) (o n : ℕ) → length (reach S o)
 places_end cs S o n e h p = (p.some refl, λ s t. p.fine s (omega (arith, place_few (reach S o).places s t, e, h)) t)
 
 -- all places are tried, and none was there
-pub places_hopeless : (cs : List Cond) (S : State) (o n : ℕ) → o < length S → length (reach S o).places ≡ 16 → 17 ≤ n → PlacesUpTo cs S o false n → NoneInside cs S
-places_hopeless cs S o n b e h p = hopeless_places cs S o b (λ s t. p.none refl s (omega (arith, place_few (reach S o).places s t, e, h)) t)
+pub places_gone : (cs : List Cond) (S : State) (o n : ℕ) → o < length S → length (reach S o).places ≡ 16 → 17 ≤ n → PlacesUpTo cs S o false n → LacksAll cs S o
+places_gone cs S o n b e h p = gone_places cs S o b (λ s t. p.none refl s (omega (arith, place_few (reach S o).places s t, e, h)) t)
 
 -- all objects fine: the state is supported
 pub all_supported : (cs : List Cond) (S : State) → NoneRefuted cs S → ((o : ℕ) → o < length S → ObjectFine cs S o) → IsSupported cs S

@@ -2,3 +2,5 @@ pub mod PointSearch
 pub mod Narrowed
 pub mod Finding
 pub mod Passing
+pub mod Refuting
+pub mod Recorded

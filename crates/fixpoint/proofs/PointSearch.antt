@@ -12,7 +12,7 @@ use Rattle.geo_conditions.specs.declared.cond.Cond.{Cond}
 use Rattle.geo_conditions.specs.Reach.{State, Region, place_in, reach, has, low, high, dims, InBox, with_at, just}
 use Rattle.geo_base.specs.Boxes.{coordinate, Has}
 use Rattle.geo_conditions.specs.Supported.{NoneRefuted, Supports}
-use Rattle.fixpoint.specs.Points.{HasPoint, HasEnd}
+use Rattle.fixpoint.specs.Points.{HasPoint, HasEnd, cut_to}
 
 -- two points of one length that agree in each dimension are the same
 pub same_list : (p q : List ℤ) → length p ≡ length q → ((j : ℕ) → j < length p → coordinate p j ≡ coordinate q j) → p ≡ q
@@ -100,7 +100,7 @@ whole_no cs S o s b p k d e h l never y =
     never (subst (λ (r : List ℤ). InBox r b) (sym same) y.1) (subst (λ (r : List ℤ). NoneRefuted cs (with_at S o s (just r))) (sym same) y.3)
 
 -- a box whose corners are the point is that point as a box
-same_box : (b : Region) (p : List ℤ) → b.lo ≡ p → b.hi ≡ p → b ≡ just p
+pub same_box : (b : Region) (p : List ℤ) → b.lo ≡ p → b.hi ≡ p → b ≡ just p
 same_box b p e f = ap (λ (x : List ℤ). record { lo = x; hi = b.hi }) e ∙ ap (λ (x : List ℤ). record { lo = p; hi = x }) f
 
 -- where the point is whole and in the box, the test of the conditions decides
@@ -123,10 +123,6 @@ ended cs S o s b p d from to v h e f below k =
     (λ y. absurd (false≢true y), λ y. absurd (none_left cs S o s b p d from to h e f (λ w l m. below w l (omega (arith, ints))) y))
 
 -- ---- the box cut to one value in one dimension
-
--- the box cut to one number in one dimension
-abbrev pub cut_to : Region → ℕ → ℤ → Region
-cut_to b d v = record { lo = set b.lo d v; hi = set b.hi d v }
 
 -- a point of the cut box lies in the whole box
 pub cut_in : (b : Region) (d : ℕ) (v : ℤ) (q : List ℤ) → d < length b.lo → d < length b.hi → coordinate b.lo d ≤ℤ v → v ≤ℤ coordinate b.hi d → InBox q (cut_to b d v) → InBox q b
@@ -180,10 +176,6 @@ end_to cs S o d s v b p q k l w y e = (q, subst (InBox q) (sym w) (cut_out (reac
 -- no place below the next one has such a point
 abbrev pub NoneUpTo : List Cond → State → ℕ → ℕ → ℤ → ℕ → Type 0
 NoneUpTo cs S o d v n = (s : ℕ) → s < n → (q : List ℤ) → Supports cs S o s q → coordinate q d ≡ v → ⊥
-
--- a box with those ends is the cut one
-pub same_cut : (b r : Region) (d : ℕ) (v : ℤ) → b.lo ≡ set r.lo d v → b.hi ≡ set r.hi d v → b ≡ cut_to r d v
-same_cut b r d v lo hi = ap (λ (x : List ℤ). record { lo = x; hi = b.hi }) lo ∙ ap (λ (x : List ℤ). record { lo = set r.lo d v; hi = x }) hi
 
 -- one place more without such a point
 pub none_next : (cs : List Cond) (S : State) (o d : ℕ) (v : ℤ) (n : ℕ) → NoneUpTo cs S o d v n → ((q : List ℤ) → Supports cs S o n q → coordinate q d ≡ v → ⊥) → NoneUpTo cs S o d v (n + 1)

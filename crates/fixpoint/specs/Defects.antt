@@ -2,10 +2,14 @@
 use Rattle.std.specs.Prelude.{◌≡◌, ℕ, ◌<◌, ◌≤◌, true, List, length, ◌<ℤ◌, ◌≤ℤ◌}
 use Rattle.geo_conditions.specs.declared.cond.Cond.{Cond}
 use Rattle.geo_conditions.specs.Reach.{State, reach, has, low, high, dims}
-use Rattle.geo_conditions.specs.Supported.{NoneInside}
 use Rattle.fixpoint.specs.Points.{HasSupport, HasEnd}
 use Rattle.fixpoint.specs.declared.defects.Defect.{Defect}
-use Rattle.fixpoint.specs.declared.defects.Defect.TheVariants.{Hopeless, NoPoint, NoLow, NoHigh}
+use Rattle.fixpoint.specs.declared.defects.Defect.TheVariants.{Gone, NoPoint, NoLow, NoHigh}
+
+-- the object has no point, at any place
+pub record LacksAll (cs : List Cond) (S : State) (o : ℕ) : Type 0 where
+  pub object : o < length S
+  pub lacks : (s : ℕ) → HasSupport cs S o s → ⊥
 
 -- the place is there, and has no point
 pub record LacksPoint (cs : List Cond) (S : State) (o s : ℕ) : Type 0 where
@@ -31,7 +35,7 @@ pub record LacksHigh (cs : List Cond) (S : State) (o d : ℕ) : Type 0 where
 
 -- what each defect says of the state
 abbrev pub IsDefect : List Cond → State → Defect → Type 0
-IsDefect cs S Hopeless = NoneInside cs S
+IsDefect cs S (Gone o) = LacksAll cs S o.0
 IsDefect cs S (NoPoint o s) = LacksPoint cs S o.0 s
 IsDefect cs S (NoLow o d) = LacksLow cs S o.0 d
 IsDefect cs S (NoHigh o d) = LacksHigh cs S o.0 d

@@ -1,5 +1,5 @@
 -- What a search over the points of a box finds.
-use Rattle.std.specs.Prelude.{◌≡◌, ℕ, ◌<◌, List, ℤ}
+use Rattle.std.specs.Prelude.{◌≡◌, ℕ, ◌<◌, List, ℤ, slice_set}
 use Rattle.geo_conditions.specs.declared.cond.Cond.{Cond}
 use Rattle.geo_conditions.specs.Reach.{State, Region, InBox, with_at, just}
 use Rattle.geo_base.specs.Boxes.{coordinate}
@@ -20,3 +20,7 @@ HasSupport cs S o s = (p : List ℤ) × Supports cs S o s p
 -- the end has a point, at some place
 abbrev pub HasEnd : List Cond → State → ℕ → ℕ → ℤ → Type 0
 HasEnd cs S o d v = (s : ℕ) × (p : List ℤ) × Supports cs S o s p × (coordinate p d ≡ v)
+
+-- the part of the box that has one number in a dimension
+abbrev pub cut_to : Region → ℕ → ℤ → Region
+cut_to b d v = record { lo = slice_set b.lo d v; hi = slice_set b.hi d v }

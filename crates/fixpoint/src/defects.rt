@@ -10,8 +10,8 @@ use geo_conditions::{Cond, ObjId, State};
 /// Why a state is not supported.
 #[derive(Clone, Copy)]
 pub enum Defect {
-    /// No supported state lies inside.
-    Hopeless,
+    /// The object has no point, at any place.
+    Gone(ObjId),
     /// The object has no point at this place.
     NoPoint(ObjId, u8),
     /// The low end of this interval has no point, and the interval has another number.
@@ -37,7 +37,7 @@ fn place_defect<const K: usize>(cs: &[Cond], s: &State<K>, o: ObjId) -> Option<D
             any = true;
         }
     }
-    if any { None } else { Some(Defect::Hopeless) }
+    if any { None } else { Some(Defect::Gone(o)) }
 }
 
 /// What is wrong with an interval of an object, if anything is.
@@ -53,19 +53,19 @@ fn end_defect<const K: usize>(cs: &[Cond], s: &State<K>, o: ObjId, d: usize) -> 
     let low = region.lo.get(d);
     let high = region.hi.get(d);
     if high < low {
-        return Some(Defect::Hopeless);
+        return Some(Defect::Gone(o));
     }
     if !end_supported(cs, s, o, d, low) {
         if low < high {
             return Some(Defect::NoLow(o, d));
         }
-        return Some(Defect::Hopeless);
+        return Some(Defect::Gone(o));
     }
     if !end_supported(cs, s, o, d, high) {
         if low < high {
             return Some(Defect::NoHigh(o, d));
         }
-        return Some(Defect::Hopeless);
+        return Some(Defect::Gone(o));
     }
     None
 }

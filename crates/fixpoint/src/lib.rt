@@ -5,6 +5,7 @@ mod defects;
 mod mending;
 mod plain;
 mod points;
+mod recording;
 #[cfg(test)]
 mod tests;
 

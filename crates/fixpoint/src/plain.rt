@@ -1,7 +1,8 @@
-ghost use Rattle.std.specs.Prelude.{◌≡◌, ◌≤◌, IfOk};
+ghost use Rattle.std.specs.Prelude.{◌≡◌, ◌+◌, ◌-◌, ◌^◌, ◌≤◌, length, true, false, min, IfOk, IsOk, OnErr};
 ghost use Rattle.std.specs.List.{All};
 ghost use Rattle.geo_conditions.specs.Conditions.{FitsIn};
-ghost use Rattle.geo_state.specs.Settle.{Settles};
+ghost use Rattle.derivation.specs.Events.{Continues};
+ghost use Rattle.geo_state.specs.Settle.{SettlesOr, Records};
 
 use super::mending::{Outcome, pass};
 use derivation::Recorder;
@@ -12,11 +13,13 @@ use std::alloc::{AllocError, Global};
 
 /// Propagation point by point: each end of each interval and each place of each object is kept only
 /// where some point supports it, which is sought among all points of the region, one after another.
-/// It takes no memory once it is made.
+/// Its record names a condition for each point that is refuted. Beside the record it takes no memory
+/// once it is made.
 #[derive(Drop)]
 pub struct PlainPropagate<const K: usize> {
     list: Vec<Cond>,
     objects: usize,
+    ghost few: { length list.items ≤ 1000000000 },
 }
 
 impl<const K: usize> PlainPropagate<K> {
@@ -26,6 +29,7 @@ impl<const K: usize> PlainPropagate<K> {
         list: Vec<Cond>,
         objects: usize,
     ) -> Result<PlainPropagate<K>, AllocError>
+        requires list { length list.items ≤ 1000000000 }
         ensures conditions { IfOk result (λ p.
             ⟦<PlainPropagate<K> as Propagate<K>>⟧.conditions p ≡ list.items) }
         ensures objects { IfOk result (λ p.
@@ -36,17 +40,30 @@ impl<const K: usize> PlainPropagate<K> {
 }
 
 /// Passes over the objects until nothing changes.
-fn settle<const K: usize>(cs: &[Cond], t: &mut Trailed<K>) -> Settled
+fn settle<const K: usize, R: Recorder>(
+    cs: &[Cond],
+    t: &mut Trailed<K>,
+    rec: &mut R,
+) -> Result<Settled, AllocError>
     requires k { K ≤ MAX_DIMS }
+    requires list { length cs.now ≤ 1000000000 }
     requires fits { All (λ c. FitsIn c t.old.state) cs.now }
-    ensures settles { Settles cs.now t.old.state result t.new.state }
+    ensures settles { SettlesOr cs.now t.old.state result t.new.state }
     ensures levels { (t.new.levels ≡ t.old.levels) × (t.new.restores ≡ t.old.restores) }
+    ensures record { IfOk result (λ a. R.keeps ≡ true
+        → Records cs.now t.old.state a t.new.state (R.list rec.old) (R.list rec.new)) }
+    ensures events { R.keeps ≡ true → Continues (R.list rec.old) (R.list rec.new) }
+    ensures refused { OnErr result
+        (min (R.refusals rec.old + 1) (2 ^ 64 - 1) ≤ R.refusals rec.new) }
+    ensures refusals { R.refusals rec.old ≤ R.refusals rec.new }
+    ensures no_record { R.keeps ≡ false → IsOk result }
 {
-    loop {
-        match pass(cs, t) {
-            Outcome::Dead => return Settled::Dead,
-            Outcome::Changed => {}
-            Outcome::Fine => return Settled::Kept,
+    'passes: loop {
+        match pass(cs, t, rec) {
+            Err(e) => return Err(e),
+            Ok(Outcome::Dead) => return Ok(Settled::Dead),
+            Ok(Outcome::Changed) => {}
+            Ok(Outcome::Fine) => return Ok(Settled::Kept),
         }
     }
 }
@@ -59,8 +76,8 @@ impl<const K: usize> Propagate<K> for PlainPropagate<K> {
     fn settle<R: Recorder>(
         &mut self,
         t: &mut Trailed<K>,
-        _rec: &mut R,
+        rec: &mut R,
     ) -> Result<Settled, AllocError> {
-        Ok(settle(&self.list, t))
+        settle(&self.list, t, rec)
     }
 }

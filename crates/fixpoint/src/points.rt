@@ -1,26 +1,52 @@
-ghost use Rattle.std.specs.Prelude.{◌≡◌, ◌<◌, ◌≤◌, ◌≤ℤ◌, length, ◌↔◌, IsTrue, true};
+ghost use Rattle.std.specs.Prelude.{◌≡◌, ◌<◌, ◌≤◌, ◌≤ℤ◌, length, ◌↔◌, IsTrue, true, MatchOption, IfSome};
 ghost use Rattle.std.specs.List.{All};
 ghost use Rattle.geo_conditions.specs.Conditions.{FitsIn};
 ghost use Rattle.geo_conditions.specs.Reach.{with_at, low, high, has};
 ghost use Rattle.geo_conditions.specs.Regions.{region_of};
 ghost use Rattle.geo_conditions.specs.Supported.{NoneRefuted};
-ghost use Rattle.fixpoint.specs.Points.{HasPoint, HasSupport, HasEnd};
+ghost use Rattle.derivation.specs.Covers.{refutes};
+ghost use Rattle.fixpoint.specs.Points.{HasPoint, HasSupport, HasEnd, cut_to};
 
 use geo_base::{KBox, MAX_DIMS, Point};
 use geo_conditions::{Cond, ObjId, State, refuted, refuted_at};
 
-/// Whether no condition is refuted on the state.
-pub fn none_refuted<const K: usize>(cs: &[Cond], s: &State<K>) -> bool
+/// The number of the first condition that is refuted on the state, from 1; none where none is.
+pub fn first_refuted<const K: usize>(cs: &[Cond], s: &State<K>) -> Option<usize>
     requires k { K ≤ MAX_DIMS }
     requires fits { All (λ c. FitsIn c s.now) cs.now }
-    ensures { IsTrue result ↔ NoneRefuted cs.now s.now }
+    ensures found { MatchOption result (NoneRefuted cs.now s.now)
+        (λ i. refutes cs.now i s.now ≡ true) }
+    ensures number { IfSome result (λ i. i ≤ length cs.now) }
 {
-    for c in cs {
+    for (i, c) in cs.iter().enumerate() {
         if refuted(c, s) {
-            return false;
+            return Some(i + 1);
         }
     }
-    true
+    None
+}
+
+/// The same with the object at that place in that box.
+pub fn first_refuted_at<const K: usize>(
+    cs: &[Cond],
+    s: &State<K>,
+    o: ObjId,
+    place: u8,
+    b: &KBox<K>,
+) -> Option<usize>
+    requires k { K ≤ MAX_DIMS }
+    requires fits { All (λ c. FitsIn c s.now) cs.now }
+    requires object { o.0 < length s.now }
+    ensures found { let put = with_at s.now o.0 place (region_of b.now) in
+        MatchOption result (NoneRefuted cs.now put) (λ i. refutes cs.now i put ≡ true) }
+    ensures number { IfSome result (λ i. i ≤ length cs.now) }
+{
+    for (i, c) in cs.iter().enumerate() {
+        if refuted_at(c, s, o, place, b) {
+            return Some(i + 1);
+        }
+    }
+    None
 }
 
 /// Whether no condition is refuted with the object at that place in that box.
@@ -36,12 +62,10 @@ fn none_refuted_at<const K: usize>(
     requires object { o.0 < length s.now }
     ensures { IsTrue result ↔ NoneRefuted cs.now (with_at s.now o.0 place (region_of b.now)) }
 {
-    for c in cs {
-        if refuted_at(c, s, o, place, b) {
-            return false;
-        }
+    match first_refuted_at(cs, s, o, place, b) {
+        Some(_) => false,
+        None => true,
     }
-    true
 }
 
 /// Whether some point of the box that agrees with `p` below `d` is one at which no condition is
@@ -89,6 +113,14 @@ pub fn place_supported<const K: usize>(cs: &[Cond], s: &State<K>, o: ObjId, plac
     any_point(cs, s, o, place, &region, region.lo, 0)
 }
 
+/// The part of the box that has one number in the dimension.
+pub fn cut_to<const K: usize>(b: &KBox<K>, d: usize, v: i64) -> KBox<K>
+    requires { d < K }
+    ensures { region_of result ≡ cut_to (region_of b.now) d v }
+{
+    KBox::new(b.lo.with(d, v), b.hi.with(d, v))
+}
+
 /// Whether the object has a point of its region with that coordinate, at some place.
 pub fn end_supported<const K: usize>(cs: &[Cond], s: &State<K>, o: ObjId, d: usize, v: i64) -> bool
     requires k { K ≤ MAX_DIMS }
@@ -99,7 +131,7 @@ pub fn end_supported<const K: usize>(cs: &[Cond], s: &State<K>, o: ObjId, d: usi
     ensures { IsTrue result ↔ HasEnd cs.now s.now o.0 d v }
 {
     let region = s.region(o);
-    let cut = KBox::new(region.lo.with(d, v), region.hi.with(d, v));
+    let cut = cut_to(&region, d, v);
     for place in 1..=16u8 {
         if s.has_shape(o, place) && any_point(cs, s, o, place, &cut, cut.lo, 0) {
             return true;

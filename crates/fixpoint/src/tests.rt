@@ -47,7 +47,7 @@ fn settled<const K: usize>(
 ) -> Result<Option<State<K>>, AllocError>
     requires k { K ≤ MAX_DIMS }
 {
-    if !is_small(&s) || !all_fit(&list, &s) {
+    if !is_small(&s) || !all_fit(&list, &s) || list.len() > 1_000_000_000 {
         return Ok(None);
     }
     let objects = s.objects();

@@ -1,8 +1,10 @@
 -- What a settle answers and leaves.
-use Rattle.std.specs.Prelude.{List, Result, Ok, Err}
+use Rattle.std.specs.Prelude.{◌≡◌, ◌++◌, List, Result, Ok, Err}
 use Rattle.geo_conditions.specs.declared.cond.Cond.{Cond}
 use Rattle.geo_conditions.specs.Reach.{State, Inside}
 use Rattle.geo_conditions.specs.Supported.{IsGreatest, NoneInside}
+use Rattle.derivation.specs.declared.event.Event.{Event}
+use Rattle.derivation.specs.Chains.{Leads, Closes}
 use Rattle.geo_state.specs.declared.propagate.Settled.{Settled}
 use Rattle.geo_state.specs.declared.propagate.Settled.TheVariants.{Kept, Dead}
 
@@ -15,3 +17,12 @@ Settles cs S Dead T = NoneInside cs S × Inside T S
 abbrev pub SettlesOr : {E : Type 0} → List Cond → State → Result Settled E → State → Type 0
 SettlesOr cs S (Ok a) T = Settles cs S a T
 SettlesOr cs S (Err e) T = Inside T S
+
+-- the events that a settle from S to T adds: kept, a chain that leads from S to T; dead, a chain from S that is closed
+abbrev pub AreEventsOf : List Cond → State → Settled → State → List Event → Type 0
+AreEventsOf cs S Kept T es = Leads cs S es T
+AreEventsOf cs S Dead T es = Closes cs S es
+
+-- behind the old events stand those of the settle
+abbrev pub Records : List Cond → State → Settled → State → List Event → List Event → Type 0
+Records cs S a T old new = (es : List Event) × (new ≡ old ++ es) × AreEventsOf cs S a T es

@@ -1,9 +1,9 @@
-ghost use Rattle.std.specs.Prelude.{◌≡◌, ℕ, ◌+◌, ◌-◌, ◌^◌, min, ◌≤◌, true, false, List, length, IsOk, OnErr};
+ghost use Rattle.std.specs.Prelude.{◌≡◌, ℕ, ◌+◌, ◌-◌, ◌^◌, min, ◌≤◌, true, false, List, length, IfOk, IsOk, OnErr};
 ghost use Rattle.std.specs.List.{All};
 ghost use Rattle.geo_conditions.specs.declared.cond.Cond.{Cond};
 ghost use Rattle.geo_conditions.specs.Conditions.{FitsIn};
 ghost use Rattle.derivation.specs.Events.{Continues};
-ghost use Rattle.geo_state.specs.Settle.{SettlesOr};
+ghost use Rattle.geo_state.specs.Settle.{Records, SettlesOr};
 
 use super::trailed::Trailed;
 use derivation::Recorder;
@@ -29,8 +29,9 @@ pub trait Propagate<const K: usize> {
     ghost objects: { Self → ℕ };
 
     /// Settles the state. What the open levels restore stays as it is, and so do the events that
-    /// the recorder has at the call. The answer is want of memory only where the recorder refused
-    /// an event.
+    /// the recorder has at the call. Behind them come the events of the settle: a chain of drops,
+    /// raises and lowers that leads to the state left, or that is closed where none is left. The
+    /// answer is want of memory only where the recorder refused an event.
     fn settle<R: Recorder>(
         &mut self,
         t: &mut Trailed<K>,
@@ -43,6 +44,8 @@ pub trait Propagate<const K: usize> {
         ensures levels { (t.new.levels ≡ t.old.levels) × (t.new.restores ≡ t.old.restores) }
         ensures conditions { conditions self.new ≡ conditions self.old }
         ensures count { objects self.new ≡ objects self.old }
+        ensures record { IfOk result (λ a. R.keeps ≡ true
+            → Records (conditions self.old) t.old.state a t.new.state (R.list rec.old) (R.list rec.new)) }
         ensures events { R.keeps ≡ true → Continues (R.list rec.old) (R.list rec.new) }
         ensures refused { OnErr result
             (min (R.refusals rec.old + 1) (2 ^ 64 - 1) ≤ R.refusals rec.new) }

@@ -77,7 +77,7 @@ fn listing<const K: usize>(
     requires k { K ≤ MAX_DIMS }
     requires down { length down.now ≡ K }
 {
-    if !is_small(&s) || !all_fit(&list, &s) {
+    if !is_small(&s) || !all_fit(&list, &s) || list.len() > 1_000_000_000 {
         return Ok(None);
     }
     let objects = s.objects();

@@ -6,7 +6,7 @@ use Rattle.geo_conditions.specs.Reach.{low, high, Region}
 use Rattle.fixpoint.specs.Points.{HasEnd}
 use Rattle.geo_state.proofs.Numbers.{kept64}
 use Rattle.geo_state.proofs.Shapes.{lo_long}
-use Rattle.fixpoint.proofs.Finding.{hopeless_range, hopeless_low}
+use Rattle.fixpoint.proofs.Finding.{gone_range, gone_low}
 use Rattle.fixpoint.proofs.defects.end_defect.Goals as goal
 
 pub returns-then-high-low : goal.returns-then-high-low
@@ -16,7 +16,7 @@ returns-then-high-low g c =
     let d = c.args.d in
     let la : c.get-low.result ≡ low S o d = c.get-low.ensures ∙ ap (λ (x : Region). coordinate x.lo d) c.region-region.ensures.value in
     let ha : c.get-high.result ≡ high S o d = c.get-high.ensures ∙ ap (λ (x : Region). coordinate x.hi d) c.region-region.ensures.value in
-    hopeless_range c.args.cs.now S o d c.requires.object (omega (arith, ints, c.if-high-low.true, la, ha))
+    gone_range c.args.cs.now S o d c.requires.object (omega (arith, ints, c.if-high-low.true, la, ha))
 
 pub returns-then-not-end_supported : goal.returns-then-not-end_supported
 returns-then-not-end_supported g c =
@@ -26,8 +26,7 @@ returns-then-not-end_supported g c =
     let la : c.get-low.result ≡ low S o d = c.get-low.ensures ∙ ap (λ (x : Region). coordinate x.lo d) c.region-region.ensures.value in
     let ha : c.get-high.result ≡ high S o d = c.get-high.ensures ∙ ap (λ (x : Region). coordinate x.hi d) c.region-region.ensures.value in
     let v = kept64 c.get-low.result c.get-low.type_inv ∙ la in
-    hopeless_low c.args.cs.now S o d c.requires.object (omega (arith, lo_long g.row.K S o c.objects-objects.ensures.shape c.requires.object, c.requires.dimension))
-    (λ y. false≢true (sym c.if-not-end_supported.true ∙ c.end_supported.ensures.1 (subst (λ (z : ℤ). HasEnd c.args.cs.now S o d z) (sym v) y)))
+    gone_low c.args.cs.now S o d c.requires.object (λ y. false≢true (sym c.if-not-end_supported.true ∙ c.end_supported.ensures.1 (subst (λ (z : ℤ). HasEnd c.args.cs.now S o d z) (sym v) y)))
     (omega (arith, ints, c.if-low-high.false, la, ha))
 
 pub returns-then-low-high-2 : goal.returns-then-low-high-2

@@ -1,21 +1,34 @@
-use Rattle.std.proofs.Common.{◌≡◌, ◌+◌, Bool, ap, ◌∙◌, subst, arith, length}
+use Rattle.std.proofs.Common.{◌≡◌, ◌+◌, Bool, ap, ◌∙◌, subst, arith, length, Option, ℕ, true}
+use Rattle.std.specs.Prelude.{MatchOption}
 use Rattle.geo_conditions.specs.Reach.{State}
-use Rattle.geo_conditions.proofs.Points.{inside_self}
-use Rattle.fixpoint.specs.declared.mending.Outcome.{Outcome}
 use Rattle.geo_conditions.specs.Supported.{NoneInside, NoneRefuted}
+use Rattle.geo_conditions.proofs.Points.{inside_self}
+use Rattle.derivation.specs.Covers.{refutes}
+use Rattle.fixpoint.specs.declared.mending.Outcome.{Outcome}
 use Rattle.fixpoint.specs.Passes.{Repairs}
-use Rattle.fixpoint.proofs.Finding.{hopeless_refuted, all_supported}
+use Rattle.fixpoint.specs.Recorded.{LedTo, RecordsOutcome}
+use Rattle.fixpoint.proofs.Refuting.{some_refuted}
+use Rattle.fixpoint.proofs.Recorded.{led_on, closed_on}
+use Rattle.fixpoint.proofs.Finding.{refuted_hopeless, all_supported}
 use Rattle.fixpoint.proofs.Narrowed.{Unless, FineBelow}
 use Rattle.fixpoint.proofs.Passing.{Along, along_changed, along_fine}
 use Rattle.fixpoint.proofs.mending.pass.Goals as goal
 use Rattle.fixpoint.proofs.mending.pass.Goals.{in-Changed, in-Fine}
 
-pub returns-then-not-none_refuted-clause-passes : goal.returns-then-not-none_refuted-clause-passes
-returns-then-not-none_refuted-clause-passes g c =
+pub returns-in-Ok-clause-passes : goal.returns-in-Ok-clause-passes
+returns-in-Ok-clause-passes g c =
     let cs = c.args.cs.now in (
-      subst (NoneInside cs) c.state.ensures.value (hopeless_refuted cs c.state.result.now c.none_refuted.result c.if-not-none_refuted.true c.none_refuted.ensures),
+      subst (NoneInside cs) c.state.ensures.value (refuted_hopeless cs c.state.result.now (some_refuted cs c.in-Some.i c.state.result.now c.in-Some.ensures.found)),
       inside_self c.args.t.now.state,
     )
+
+pub returns-in-Dead-clause-record : goal.returns-in-Dead-clause-record
+returns-in-Dead-clause-record g c = λ kept.
+    let cs = c.args.cs.now in
+    let R = c.loop-o.t.state in
+    let mid = g.R.Recorder.list c.loop-o.rec in
+    let end = g.R.Recorder.list c.repair.new.rec in
+    closed_on cs c.args.t.now.state R (g.R.Recorder.list c.args.rec.now) mid end (c.loop-o.invariant.recorded kept) (subst (λ (a : Outcome). RecordsOutcome cs R a c.repair.new.t.state mid end) c.in-Dead.is (c.in_ok-outcome.ensures.record kept))
 
 pub loop-o-preserved : goal.loop-o-preserved
 loop-o-preserved g c =
@@ -23,24 +36,40 @@ loop-o-preserved g c =
     let S = c.args.t.now.state in
     let R = c.loop-o.t.state in
     let Q = c.repair.new.t.state in
+    let old = g.R.Recorder.list c.args.rec.now in
+    let mid = g.R.Recorder.list c.loop-o.rec in
+    let end = g.R.Recorder.list c.repair.new.rec in
     let i = c.loop-o.invariant in
-    let a : Along cs S R c.loop-o.changed c.loop-o.o = (i.0, i.1, i.2) in
-    let b : Along cs S Q c.match-repair.changed (c.loop-o.o + 1) = elim c.match-repair.branch [
-      | in-Changed w ↦ along_changed cs S R Q c.loop-o.changed c.match-repair.changed c.loop-o.o a (subst (λ (x : Outcome). Repairs cs R c.loop-o.o x Q) w.in-Changed.is c.repair.ensures.repairs) w.changed-is
-      | in-Fine w ↦ let f = subst (λ (x : Outcome). Repairs cs R c.loop-o.o x Q) w.in-Fine.is c.repair.ensures.repairs in
-          along_fine cs S R Q c.loop-o.changed c.match-repair.changed c.loop-o.o a f.0 f.1 w.changed-is
+    let a : Along cs S R c.loop-o.changed c.loop-o.o = (i.going, i.unless, i.fine) in
+    let b : Along cs S Q c.match-outcome.changed (c.loop-o.o + 1) × (g.R.Recorder.keeps ≡ true → LedTo cs R Q mid end) = elim c.match-outcome.branch [
+      | in-Changed w ↦ (
+        along_changed cs S R Q c.loop-o.changed c.match-outcome.changed c.loop-o.o a (subst (λ (x : Outcome). Repairs cs R c.loop-o.o x Q) w.in-Changed.is c.in_ok-outcome.ensures.repairs) w.changed-is,
+        λ kept. subst (λ (x : Outcome). RecordsOutcome cs R x Q mid end) w.in-Changed.is (c.in_ok-outcome.ensures.record kept),
+      )
+      | in-Fine w ↦ let f = subst (λ (x : Outcome). Repairs cs R c.loop-o.o x Q) w.in-Fine.is c.in_ok-outcome.ensures.repairs in (
+        along_fine cs S R Q c.loop-o.changed c.match-outcome.changed c.loop-o.o a f.0 f.1 w.changed-is,
+        λ kept. subst (λ (x : Outcome). RecordsOutcome cs R x Q mid end) w.in-Fine.is (c.in_ok-outcome.ensures.record kept),
+      )
     ] in
-    (b.0, b.1, b.2, c.repair.ensures.levels.0 ∙ i.3, c.repair.ensures.levels.1 ∙ i.4)
+    record {
+      going = b.0.0;
+      unless = b.0.1;
+      fine = b.0.2;
+      levels = (c.repair.ensures.levels.0 ∙ i.levels.0, c.repair.ensures.levels.1 ∙ i.levels.1);
+      recorded = λ kept. led_on cs S R Q old mid end (i.recorded kept) (b.1 kept);
+      refusals = omega (arith, i.refusals, c.repair.ensures.refusals);
+    }
 
 pub returns-else-changed-clause-passes : goal.returns-else-changed-clause-passes
 returns-else-changed-clause-passes g c =
     let cs = c.args.cs.now in
     let S = c.args.t.now.state in
     let i = c.loop-o.invariant in
-    let same : c.loop-o.t.state ≡ S = subst (λ (b : Bool). Unless b cs S c.loop-o.t.state) c.if-changed.false i.1 in
-    let fine : FineBelow c.loop-o.changed cs S c.loop-o.o = subst (λ (T : State). FineBelow c.loop-o.changed cs T c.loop-o.o) same i.2 in
+    let none : NoneRefuted cs c.state.result.now = subst (λ (a : Option ℕ). MatchOption a (NoneRefuted cs c.state.result.now) (λ n. refutes cs n c.state.result.now ≡ true)) c.in_default.is c.first_refuted.ensures.found in
+    let same : c.loop-o.t.state ≡ S = subst (λ (b : Bool). Unless b cs S c.loop-o.t.state) c.if-changed.false i.unless in
+    let fine : FineBelow c.loop-o.changed cs S c.loop-o.o = subst (λ (T : State). FineBelow c.loop-o.changed cs T c.loop-o.o) same i.fine in
     let all = subst (λ (b : Bool). FineBelow b cs S c.loop-o.o) c.if-changed.false fine in (
       same,
-      all_supported cs S (subst (NoneRefuted cs) c.state.ensures.value (c.none_refuted.ensures.0 c.if-not-none_refuted.false))
+      all_supported cs S (subst (NoneRefuted cs) c.state.ensures.value none)
           (λ o h. all o (omega (arith, h, c.objects-objects.ensures.number, ap length c.state-2.ensures.value, c.loop-o-test.false))),
     )

@@ -1,6 +1,14 @@
-use Rattle.std.proofs.Common.{◌≡◌}
+use Rattle.std.proofs.Common.{◌≡◌, ◌≤◌, true}
+use Rattle.fixpoint.specs.Recorded.{LedTo}
 use Rattle.fixpoint.proofs.Narrowed.{Going, Unless, FineBelow}
 use Rattle.fixpoint.proofs.mending.pass.Given as goal
 
 abbrev pub invariant-loop-o : goal.invariant-loop-o
-invariant-loop-o g l = Going l.cs l.fn.t.state l.t.state × Unless l.changed l.cs l.fn.t.state l.t.state × FineBelow l.changed l.cs l.t.state l.o × (l.t.levels ≡ l.fn.t.levels) × (l.t.restores ≡ l.fn.t.restores)
+invariant-loop-o g l = record {
+  going : Going l.cs l.fn.t.state l.t.state;
+  unless : Unless l.changed l.cs l.fn.t.state l.t.state;
+  fine : FineBelow l.changed l.cs l.t.state l.o;
+  levels : (l.t.levels ≡ l.fn.t.levels) × (l.t.restores ≡ l.fn.t.restores);
+  recorded : g.R.Recorder.keeps ≡ true → LedTo l.cs l.fn.t.state l.t.state (g.R.Recorder.list l.fn.rec) (g.R.Recorder.list l.rec);
+  refusals : g.R.Recorder.refusals l.fn.rec ≤ g.R.Recorder.refusals l.rec;
+}

@@ -1,14 +1,40 @@
-use Rattle.std.proofs.Common.{◌∙◌, subst}
+use Rattle.std.proofs.Common.{◌∙◌, subst, arith}
 use Rattle.fixpoint.specs.declared.mending.Outcome.{Outcome}
 use Rattle.fixpoint.specs.Passes.{Passes}
+use Rattle.fixpoint.specs.Recorded.{RecordsOutcome}
 use Rattle.fixpoint.proofs.Narrowed.{going_on}
+use Rattle.fixpoint.proofs.Recorded.{led_on, closed_on}
 use Rattle.fixpoint.proofs.plain.settle.Goals as goal
 
-pub loop-preserved : goal.loop-preserved
-loop-preserved g c =
-    let i = c.loop.invariant in
-    let m = subst (λ (x : Outcome). Passes c.args.cs.now c.loop.t.state x c.pass.new.t.state) c.in-Changed.is c.pass.ensures.passes in (
-      going_on c.args.cs.now c.args.t.now.state c.loop.t.state c.pass.new.t.state i.0 m.0,
-      c.pass.ensures.levels.0 ∙ i.1,
-      c.pass.ensures.levels.1 ∙ i.2,
-    )
+pub returns-in-Ok-Dead-clause-record : goal.returns-in-Ok-Dead-clause-record
+returns-in-Ok-Dead-clause-record g c = λ kept.
+    let cs = c.args.cs.now in
+    let R = c.passes.t.state in
+    let mid = g.R.Recorder.list c.passes.rec in
+    let end = g.R.Recorder.list c.pass.new.rec in
+    closed_on cs c.args.t.now.state R (g.R.Recorder.list c.args.rec.now) mid end (c.passes.invariant.recorded kept) (subst (λ (a : Outcome). RecordsOutcome cs R a c.pass.new.t.state mid end) c.in-Ok-Dead.field-0-is (c.in-Ok-Dead.ensures.record kept))
+
+pub returns-in-Ok-Fine-clause-record : goal.returns-in-Ok-Fine-clause-record
+returns-in-Ok-Fine-clause-record g c = λ kept.
+    let cs = c.args.cs.now in
+    let R = c.passes.t.state in
+    let mid = g.R.Recorder.list c.passes.rec in
+    let end = g.R.Recorder.list c.pass.new.rec in
+    led_on cs c.args.t.now.state R c.pass.new.t.state (g.R.Recorder.list c.args.rec.now) mid end (c.passes.invariant.recorded kept) (subst (λ (a : Outcome). RecordsOutcome cs R a c.pass.new.t.state mid end) c.in-Ok-Fine.field-0-is (c.in-Ok-Fine.ensures.record kept))
+
+pub passes-preserved : goal.passes-preserved
+passes-preserved g c =
+    let cs = c.args.cs.now in
+    let S = c.args.t.now.state in
+    let R = c.passes.t.state in
+    let Q = c.pass.new.t.state in
+    let mid = g.R.Recorder.list c.passes.rec in
+    let end = g.R.Recorder.list c.pass.new.rec in
+    let i = c.passes.invariant in
+    let m = subst (λ (x : Outcome). Passes cs R x Q) c.in-Ok-Changed.field-0-is c.in-Ok-Changed.ensures.passes in
+    record {
+      going = going_on cs S R Q i.going m.0;
+      levels = (c.pass.ensures.levels.0 ∙ i.levels.0, c.pass.ensures.levels.1 ∙ i.levels.1);
+      recorded = λ kept. led_on cs S R Q (g.R.Recorder.list c.args.rec.now) mid end (i.recorded kept) (subst (λ (a : Outcome). RecordsOutcome cs R a Q mid end) c.in-Ok-Changed.field-0-is (c.in-Ok-Changed.ensures.record kept));
+      refusals = omega (arith, i.refusals, c.pass.ensures.refusals);
+    }

@@ -1,10 +1,16 @@
-use Rattle.std.proofs.Common.{◌≡◌}
+use Rattle.std.proofs.Common.{◌≡◌, ◌≤◌, true}
 use Rattle.geo_conditions.specs.Keeps.{size}
+use Rattle.fixpoint.specs.Recorded.{LedTo}
 use Rattle.fixpoint.proofs.Narrowed.{Going}
 use Rattle.fixpoint.proofs.plain.settle.Given as goal
 
-abbrev pub invariant-loop : goal.invariant-loop
-invariant-loop g l = Going l.cs l.fn.t.state l.t.state × (l.t.levels ≡ l.fn.t.levels) × (l.t.restores ≡ l.fn.t.restores)
+abbrev pub invariant-passes : goal.invariant-passes
+invariant-passes g l = record {
+  going : Going l.cs l.fn.t.state l.t.state;
+  levels : (l.t.levels ≡ l.fn.t.levels) × (l.t.restores ≡ l.fn.t.restores);
+  recorded : g.R.Recorder.keeps ≡ true → LedTo l.cs l.fn.t.state l.t.state (g.R.Recorder.list l.fn.rec) (g.R.Recorder.list l.rec);
+  refusals : g.R.Recorder.refusals l.fn.rec ≤ g.R.Recorder.refusals l.rec;
+}
 
-abbrev pub decreases-loop : goal.decreases-loop
-decreases-loop g l = size l.t.state
+abbrev pub decreases-passes : goal.decreases-passes
+decreases-passes g l = size l.t.state

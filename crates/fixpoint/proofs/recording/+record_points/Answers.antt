@@ -1,0 +1,85 @@
+use Rattle.std.proofs.Common.{rules, length, ◌≡◌, ◌<◌, ◌+◌, ℕ, arith, refl, subst, ◌∙◌, ℤ}
+use Rattle.std.specs.Int.{w64}
+use mir.Val.{to_z, of_z}
+use Rattle.std.proofs.lemmas.Int.{ints}
+use Rattle.geo_base.specs.Boxes.{coordinate}
+use Rattle.geo_conditions.specs.Reach.{with_at}
+use Rattle.geo_conditions.specs.Regions.{region_of}
+use Rattle.geo_conditions.specs.Supported.{NoneRefuted, HasNoPoint}
+use Rattle.geo_state.proofs.Numbers.{kept64}
+use Rattle.derivation.proofs.Continuing.{continues_same, continues_on}
+use Rattle.fixpoint.proofs.Recorded.{RecordedUpTo, crossed_empty, cover_empty, point_refuted, cut_none, cut_single, upto_start, upto_more, upto_end}
+use Rattle.fixpoint.proofs.recording.+record_points.Goals as goal
+
+pub returns-in-Ok-clause-cover : goal.returns-in-Ok-clause-cover
+returns-in-Ok-clause-cover g t c = λ kept.
+    cover_empty c.args.cs.now c.args.s.now c.args.o.0 c.args.place 1 (region_of c.args.b.now) (g.R.Recorder.list c.args.rec.now) (g.R.Recorder.list c.record_event.new.rec) (crossed_empty g.row.K (region_of c.args.b.now) c.requires.lows c.requires.highs c.if-is_empty.ensures.ends) (c.in-Ok.ensures.added kept)
+
+pub record_refuted-requires : goal.record_refuted-requires
+record_refuted-requires g t c =
+    let b = region_of c.args.b.now in
+    let never : NoneRefuted c.args.cs.now (with_at c.args.s.now c.args.o.0 c.args.place b) → ⊥ = point_refuted c.args.cs.now c.args.s.now c.args.o.0 c.args.place b g.row.K c.args.d c.if-d.true c.requires.lows c.requires.highs c.requires.single c.requires.none in
+    search rules
+
+pub loop-v-init : goal.loop-v-init
+loop-v-init g t c =
+    let d : c.args.d < g.row.K = omega (arith, c.requires.dimension, c.if-d.false) in
+    record {
+      from = omega (arith, ints, c.get-v.ensures);
+      to = omega (arith, ints, c.get-v.ensures, c.get-last.ensures, c.if-is_empty.ensures.ends c.args.d d);
+      recorded = λ kept. upto_start c.args.cs.now c.args.s.now c.args.o.0 c.args.place (region_of c.args.b.now) c.args.d _ (g.R.Recorder.list c.args.rec.now) (kept64 c.get-v.result c.get-v.type_inv ∙ c.get-v.ensures);
+      events = λ kept. continues_same _ _ refl;
+      refusals = omega arith;
+    }
+
+pub returns-in-Err-record_event-clause-events : goal.returns-in-Err-record_event-clause-events
+returns-in-Err-record_event-clause-events g t c = λ kept. continues_on _ _ _ (c.loop-v.invariant.events kept) (c.record_event-in-loop-v.ensures.events kept)
+
+pub record_points-requires : goal.record_points-requires
+record_points-requires g t c κs within =
+    let b = region_of c.args.b.now in
+    let k : c.args.d < length b.lo = omega (arith, c.requires.lows, c.requires.dimension, c.if-d.false) in
+    let l : c.args.d < length b.hi = omega (arith, c.requires.highs, c.requires.dimension, c.if-d.false) in
+    let single : (e : ℕ) → e < c.args.d + 1 → coordinate c.cut_to.result.lo.coordinates e ≡ coordinate c.cut_to.result.hi.coordinates e = cut_single b (region_of c.cut_to.result) c.args.d _ k l c.cut_to.ensures c.requires.single in
+    let none : HasNoPoint c.args.cs.now c.args.s.now c.args.o.0 c.args.place (region_of c.cut_to.result) = cut_none c.args.cs.now c.args.s.now c.args.o.0 c.args.place b (region_of c.cut_to.result) c.args.d _ k l (omega (arith, ints, c.loop-v.invariant.from)) (omega (arith, ints, c.loop-v.invariant.to, c.get-last.ensures)) c.cut_to.ensures c.requires.none in
+    search rules
+
+pub returns-in-Err-record_points-clause-events : goal.returns-in-Err-record_points-clause-events
+returns-in-Err-record_points-clause-events g t c = λ kept.
+    continues_on _ _ _ (continues_on _ _ _ (c.loop-v.invariant.events kept) (c.record_event-in-loop-v.ensures.events kept)) (c.record_points.ensures.events kept)
+
+pub loop-v-preserved : goal.loop-v-preserved
+loop-v-preserved g t c =
+    let b = region_of c.args.b.now in
+    let k : c.args.d < length b.lo = omega (arith, c.requires.lows, c.requires.dimension, c.if-d.false) in
+    record {
+      from = omega (arith, ints, c.loop-v.invariant.from);
+      to = omega (arith, ints, c.loop-v.invariant.to);
+      recorded = λ kept. upto_more c.args.cs.now c.args.s.now c.args.o.0 c.args.place b (region_of c.cut_to.result) c.args.d _ _ _ _ _ _ k (omega (arith, ints, c.loop-v.invariant.to, c.get-last.ensures)) c.cut_to.ensures (omega (arith, ints)) (c.in-Ok-record_event.ensures.added kept) (c.in-Ok-record_points.ensures.cover kept) (c.loop-v.invariant.recorded kept);
+      events = λ kept. continues_on _ _ _ (continues_on _ _ _ (c.loop-v.invariant.events kept) (c.record_event-in-loop-v.ensures.events kept)) (c.record_points.ensures.events kept);
+      refusals = omega (arith, c.loop-v.invariant.refusals, c.record_event-in-loop-v.ensures.refusals, c.record_points.ensures.refusals);
+    }
+
+pub record_points-requires-2 : goal.record_points-requires-2
+record_points-requires-2 g t c κs within =
+    let b = region_of c.args.b.now in
+    let d : c.args.d < g.row.K = omega (arith, c.requires.dimension, c.if-d.false) in
+    let k : c.args.d < length b.lo = omega (arith, c.requires.lows, d) in
+    let l : c.args.d < length b.hi = omega (arith, c.requires.highs, d) in
+    let single : (e : ℕ) → e < c.args.d + 1 → coordinate c.cut_to-2.result.lo.coordinates e ≡ coordinate c.cut_to-2.result.hi.coordinates e = cut_single b (region_of c.cut_to-2.result) c.args.d _ k l c.cut_to-2.ensures c.requires.single in
+    let none : HasNoPoint c.args.cs.now c.args.s.now c.args.o.0 c.args.place (region_of c.cut_to-2.result) = cut_none c.args.cs.now c.args.s.now c.args.o.0 c.args.place b (region_of c.cut_to-2.result) c.args.d _ k l (omega (arith, ints, c.get-last.ensures, c.if-is_empty.ensures.ends c.args.d d)) (omega (arith, ints, c.get-last.ensures)) c.cut_to-2.ensures c.requires.none in
+    search rules
+
+pub returns-in-Err-record_points-2-clause-events : goal.returns-in-Err-record_points-2-clause-events
+returns-in-Err-record_points-2-clause-events g t c = λ kept. continues_on _ _ _ (c.loop-v.invariant.events kept) (c.record_points-2.ensures.events kept)
+
+pub returns-in-Ok-record_points-2-clause-cover : goal.returns-in-Ok-record_points-2-clause-cover
+returns-in-Ok-record_points-2-clause-cover g t c = λ kept.
+    let b = region_of c.args.b.now in
+    let last = to_z w64 (of_z w64 c.get-last.result) in
+    let at_end : to_z w64 c.loop-v.v-bits ≡ last = omega (arith, ints, c.loop-v.invariant.to, c.loop-v-test.false) in
+    upto_end c.args.cs.now c.args.s.now c.args.o.0 c.args.place b (region_of c.cut_to-2.result) c.args.d last _ _ _ (kept64 c.get-last.result c.get-last.type_inv ∙ c.get-last.ensures) c.cut_to-2.ensures (c.in-Ok-record_points-2.ensures.cover kept)
+    (subst (λ (v : ℤ). RecordedUpTo c.args.cs.now c.args.s.now c.args.o.0 c.args.place b c.args.d v (g.R.Recorder.list c.args.rec.now) (g.R.Recorder.list c.loop-v.rec)) at_end (c.loop-v.invariant.recorded kept))
+
+pub returns-in-Ok-record_points-2-clause-events : goal.returns-in-Ok-record_points-2-clause-events
+returns-in-Ok-record_points-2-clause-events g t c = λ kept. continues_on _ _ _ (c.loop-v.invariant.events kept) (c.record_points-2.ensures.events kept)

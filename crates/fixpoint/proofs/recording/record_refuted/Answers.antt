@@ -1,0 +1,7 @@
+use Rattle.geo_conditions.specs.Regions.{region_of}
+use Rattle.fixpoint.proofs.Recorded.{cover_refuted}
+use Rattle.fixpoint.proofs.recording.record_refuted.Goals as goal
+
+pub returns-in-Ok-clause-cover : goal.returns-in-Ok-clause-cover
+returns-in-Ok-clause-cover g c = λ kept.
+    cover_refuted c.args.cs.now c.args.s.now c.args.o.0 c.args.place c.in-Some.i (region_of c.args.b.now) (g.R.Recorder.list c.args.rec.now) (g.R.Recorder.list c.record_event.new.rec) c.in-Some.ensures.found (c.in-Ok.ensures.added kept)
