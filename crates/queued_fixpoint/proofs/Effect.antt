@@ -1,5 +1,5 @@
 -- What the pruning of an object by the conditions that name it means for all conditions.
-use Rattle.std.proofs.Common.{◌≡◌, ℕ, zero, suc, ◌<◌, true, List, [], ◌∷◌, length, sym, ◌∙◌, subst, inl, inr, arith, ℤ, pos, ◌≤ℤ◌, Some}
+use Rattle.std.proofs.Common.{◌≡◌, ℕ, zero, suc, ◌<◌, true, List, [], ◌∷◌, length, get_or, sym, ◌∙◌, subst, inl, inr, arith, ℤ, pos, ◌≤ℤ◌, Some}
 use Rattle.std.specs.Prelude.{slice_get}
 use Rattle.std.specs.List.{All}
 use Rattle.std.proofs.lemmas.Int.{ints}
@@ -13,15 +13,18 @@ use Rattle.geo_conditions.specs.Supported.{Supports, IsSupported, NoneInside, No
 use Rattle.geo_conditions.specs.Keeps.{Keeps}
 use Rattle.geo_conditions.proofs.Points.{supports_wider, unrefuted_wider}
 use Rattle.geo_conditions.proofs.Monotone.{le_trans}
+use Rattle.derivation.specs.Covers.{refutes}
+use Rattle.fixpoint.proofs.Refuting.{some_refuted}
 use Rattle.sweep.specs.Picks.{picked}
 use Rattle.sweep.proofs.PickedConditions.{picked_all}
-use Rattle.queued_fixpoint.specs.declared.prune.Pruned.{Pruned}
-use Rattle.queued_fixpoint.specs.declared.prune.Pruned.TheVariants.{Empty, Changed, Same}
+use Rattle.object_pruning.specs.declared.prune.Pruned.{Pruned}
+use Rattle.object_pruning.specs.declared.prune.Pruned.TheVariants.{Empty, Changed, Same}
+use Rattle.object_pruning.specs.Same.{SameBut}
 use Rattle.queued_fixpoint.specs.Near.{NearSupports, IsFine, BarePossible}
-use Rattle.queued_fixpoint.specs.Pruning.{CanBe, HasSamePoints, IsTight, PrunesTo}
-use Rattle.queued_fixpoint.specs.Links.{PicksOf}
+use Rattle.object_pruning.specs.Pruning.{CanBe, HasSamePoints, IsTight, PrunesTo}
+use Rattle.queued_fixpoint.specs.Links.{PicksOf, BareOf, names_none}
 use Rattle.queued_fixpoint.specs.Queue.{Prunes}
-use Rattle.queued_fixpoint.proofs.Linking.{named_all}
+use Rattle.queued_fixpoint.proofs.Linking.{named_all, numbers_all, none_named}
 
 some_same : {X : Type 0} {a b : X} → Some a ≡ Some b → a ≡ b
 some_same e = cc
@@ -97,19 +100,20 @@ module _ (cs : List Cond) (o : ℕ) (picks : List ℕ) where
         highs = λ d b. let z = t.highs d b in (z.0, z.1, near S z.0 z.1 p z.2, z.3);
       }
 
-  pub prunes_of : (S T : State) (r : Pruned) → PicksOf cs o picks → o < length S → 0 < dims S o → PrunesTo (picked cs picks) o S r T → Prunes cs S o r T
-  prunes_of S T Empty p h d k = (none_inside S h k.0, k.1)
-  prunes_of S T Changed p h d k = record {
+  pub prunes_of : (S T : State) (r : Pruned) → PicksOf cs o picks → o < length S → 0 < dims S o → SameBut o S T → PrunesTo (picked cs picks) o S r T → Prunes cs S o r T
+  prunes_of S T Empty p h d alone k = (none_inside S h k.0, k.1, alone)
+  prunes_of S T Changed p h d alone k = record {
     keeps = keeps S T h k.0 k.2;
     smaller = k.3;
     alone = k.0.alone;
     fine = fine T p (omega (arith, d, (k.2.each o).same_lo)) k.1;
   }
-  prunes_of S T Same p h d k = (k.0, fine S p d k.1)
+  prunes_of S T Same p h d alone k = (k.0, fine S p d k.1)
 
 -- a refuted condition leaves no hope
-pub hopeless : (cs : List Cond) (S : State) → (NoneRefuted cs S → ⊥) → NoneInside cs S
-hopeless cs S never T s i = never (unrefuted_wider cs T S i s.nonempty s.unrefuted)
+pub hopeless : (cs : List Cond) (S : State) (i : ℕ) → refutes cs i S ≡ true → NoneInside cs S
+hopeless cs S i r T s j = some_refuted cs i S r (unrefuted_wider cs T S j s.nonempty s.unrefuted)
 
-pub bare_of : (cs : List Cond) (S : State) → NoneRefuted cs S → BarePossible cs S
-bare_of cs S a k d b none = a k d b
+-- the conditions without objects
+pub bare_possible : (cs : List Cond) (S : State) (picks : List ℕ) → BareOf cs (length S) picks → NoneRefuted (picked cs picks) S → BarePossible cs S
+bare_possible cs S picks p a k d b none = numbers_all (λ c. possible c S ≡ true) (names_none (length S)) cs picks p a k d b (none_named (get_or cs k d) (length S) none)

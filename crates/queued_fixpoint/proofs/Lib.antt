@@ -1,7 +1,7 @@
-pub mod Narrowing
-pub mod Ends
-pub mod Cases
 pub mod Names
 pub mod Turns
 pub mod Linking
 pub mod Effect
+pub mod Stable
+pub mod Standing
+pub mod Record

@@ -1,5 +1,5 @@
 pub mod Near
-pub mod Pruning
-pub mod Ends
 pub mod Links
 pub mod Queue
+pub mod Kept
+pub mod Record

@@ -1,5 +1,5 @@
 -- What the conditions that name an object say of it.
-use Rattle.std.specs.Prelude.{◌≡◌, ◌≢◌, ℕ, ◌<◌, true, false, List, length, ℤ}
+use Rattle.std.specs.Prelude.{◌≡◌, ◌⊎◌, ℕ, ◌<◌, true, false, List, length, ℤ}
 use Rattle.std.specs.List.{All}
 use Rattle.geo_base.specs.Boxes.{coordinate}
 use Rattle.geo_conditions.specs.declared.cond.Cond.{Cond}
@@ -7,16 +7,24 @@ use Rattle.geo_conditions.specs.Reach.{State, reach, has, low, high, dims, just,
 use Rattle.geo_conditions.specs.Conditions.{possible}
 use Rattle.indexical.specs.Names.{names}
 
--- the two states are the same but for the object o
-pub record SameBut (o : ℕ) (S T : State) : Type 0 where
-  pub objects : length S ≡ length T
-  pub each : (u : ℕ) → u ≢ o → reach S u ≡ reach T u
+-- no condition names both objects
+abbrev pub AreApart : List Cond → ℕ → ℕ → Type 0
+AreApart cs o u = All (λ c. names u c ≡ true → names o c ≡ false) cs
+
+-- the object o is the same in the two states, and so is each object that a condition names with it
+pub record IsUntouched (cs : List Cond) (S T : State) (o : ℕ) : Type 0 where
+  pub itself : reach S o ≡ reach T o
+  pub others : (u : ℕ) → u < length S → (reach S u ≡ reach T u) ⊎ AreApart cs u o
 
 -- at the place s the object o has the point p of its region, and there no condition that names o is refuted
 pub record NearSupports (cs : List Cond) (S : State) (o s : ℕ) (p : List ℤ) : Type 0 where
   pub place : has S o s ≡ true
   pub point : InBox p (reach S o).region
   pub unrefuted : All (λ c. names o c ≡ true → possible c (with_at S o s (just p)) ≡ true) cs
+
+-- no condition that names the object is refuted
+abbrev pub NearUnrefuted : List Cond → State → ℕ → Type 0
+NearUnrefuted cs S o = All (λ c. names o c ≡ true → possible c S ≡ true) cs
 
 -- the object has all its points, under the conditions that name it
 pub record IsFine (cs : List Cond) (S : State) (o : ℕ) : Type 0 where

@@ -1,14 +1,12 @@
 //! Propagation to the greatest supported state by a queue of objects, each pruned by sweeps.
 #![tactic(auto)]
 
-mod counted;
-mod first_point;
+mod differences;
+mod kept;
 mod links;
 mod propagation;
-mod prune;
 mod queue;
 #[cfg(test)]
 mod tests;
 
 pub use propagation::Fixpoint;
-pub use prune::{Pruned, prune_object};

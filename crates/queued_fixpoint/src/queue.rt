@@ -1,12 +1,19 @@
 //! The queue of objects: a row of marks, one for each object, that is gone through in turn.
 
-ghost use Rattle.std.specs.Prelude.{◌≡◌, ℕ, ◌<◌, ◌≤◌, false, true, length, slice_index_or, MatchOption};
-ghost use Rattle.queued_fixpoint.specs.Queue.{IsPopped, Marks, NoneQueued};
+ghost use Rattle.std.specs.Prelude.{◌≡◌, ℕ, ◌<◌, ◌≤◌, false, true, List, length, slice_index_or, MatchOption};
+ghost use Rattle.std.specs.List.{All};
+ghost use Rattle.geo_conditions.specs.declared.cond.Cond.{Cond};
+ghost use Rattle.queued_fixpoint.specs.Links.{AreLinks};
+ghost use Rattle.queued_fixpoint.specs.Queue.{IsPopped, Marks, NoneQueued, Touches};
+
+use super::links::Links;
+use geo_conditions::ObjId;
 
 /// Takes an object out of the queue: the first one from `from` on, and around.
 pub fn pop(queued: &mut [bool], from: usize) -> Option<usize>
     requires from { from ≤ length queued.old }
-    ensures { MatchOption result (NoneQueued queued.old) (IsPopped queued.old queued.new) }
+    ensures { MatchOption result (NoneQueued queued.old × (queued.new ≡ queued.old))
+        (IsPopped queued.old queued.new) }
 {
     'ahead: for o in from..queued.len() {
         if queued[o] {
@@ -23,24 +30,27 @@ pub fn pop(queued: &mut [bool], from: usize) -> Option<usize>
     None
 }
 
-/// Queues every object.
-pub fn mark_all(queued: &mut [bool])
-    ensures len { length queued.new ≡ length queued.old }
-    ensures each { (o : ℕ) → o < length queued.old → slice_index_or queued.new o false ≡ true }
+// Queues the objects of the list, but u.
+fn mark(list: &[ObjId], u: usize, queued: &mut [bool])
+    requires { All (λ o. o.0 < length queued.old) list.now }
+    ensures { Marks u list.now queued.old queued.new }
 {
-    for o in 0..queued.len() {
-        queued[o] = true;
+    for o in list {
+        let o = o.0 as usize;
+        if o != u {
+            queued[o] = true;
+        }
     }
 }
 
-/// Queues the objects of the row.
-pub fn mark(near: &[bool], queued: &mut [bool])
-    requires objects { length near.now ≡ length queued.old }
-    ensures { Marks near.now queued.old queued.new }
+/// Queues the objects that a condition names with u, but u.
+pub fn touch(links: &Links, u: usize, queued: &mut [bool])
+    requires links { (cs : List Cond) × AreLinks cs (length queued.old) links.now }
+    requires object { u < length queued.old }
+    ensures { (cs : List Cond) → AreLinks cs (length queued.old) links.now
+        → Touches cs u queued.old queued.new }
 {
-    for u in 0..near.len() {
-        if near[u] {
-            queued[u] = true;
-        }
+    for number in &links.picks[u] {
+        mark(&links.named[*number as usize - 1], u, queued);
     }
 }

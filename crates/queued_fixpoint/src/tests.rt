@@ -63,7 +63,7 @@ fn queued(alloc: Global, s: State<1>, conds: Vec<Cond>) -> Result<Option<State<1
 
 /// The same point by point.
 fn plain(alloc: Global, s: State<1>, conds: Vec<Cond>) -> Result<Option<State<1>>, AllocError> {
-    if !is_small(&s) || !all_fit(&conds, &s) {
+    if !is_small(&s) || !all_fit(&conds, &s) || conds.len() > 1_000_000_000 {
         return Ok(None);
     }
     let objects = s.objects();

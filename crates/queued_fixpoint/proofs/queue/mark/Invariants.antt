@@ -1,7 +1,6 @@
-use Rattle.std.proofs.Common.{◌≡◌, ◌<◌, ◌≤◌, ◌||◌, ℕ, false, get_or, length}
+use Rattle.std.proofs.Common.{take}
+use Rattle.queued_fixpoint.specs.Queue.{Marks}
 use Rattle.queued_fixpoint.proofs.queue.mark.Given as goal
 
-abbrev pub invariant-loop-u : goal.invariant-loop-u
-invariant-loop-u l = (length l.queued ≡ length l.fn.queued)
-    × ((v : ℕ) → v < l.u → get_or l.queued v false ≡ (get_or l.fn.queued v false || get_or l.near v false))
-    × ((v : ℕ) → l.u ≤ v → get_or l.queued v false ≡ get_or l.fn.queued v false)
+abbrev pub invariant-loop-o : goal.invariant-loop-o
+invariant-loop-o l = Marks l.u (take l.o-index l.list) l.fn.queued l.queued

@@ -1,0 +1,5 @@
+pub mod Narrowing
+pub mod Ends
+pub mod Cases
+pub mod Supports
+pub mod Record

@@ -1,0 +1,165 @@
+-- What a pruning adds to a record: chains, and covers of what an end cuts off.
+use Rattle.std.proofs.Common.{◌≡◌, ℕ, zero, suc, ◌+◌, ◌<◌, ◌≤◌, Bool, true, false, List, [], ◌∷◌, ◌++◌, length, set, take, refl, sym, ap, ◌∙◌, subst, arith, ℤ, pos, negsuc, ◌+ℤ◌, ◌≤ℤ◌, append_assoc, Option, Some, None}
+use Rattle.std.specs.Int.{int_min, int_max}
+use Rattle.std.proofs.lemmas.Int.{ints, clamps}
+use Rattle.std.proofs.lemmas.List.{append-nil, length-append}
+use Rattle.std.proofs.Math.Seq.{take-append_seam, set-append_seam}
+use Rattle.geo_base.specs.Boxes.{coordinate}
+use Rattle.geo_base.specs.Ways.{toward}
+use Rattle.geo_conditions.specs.declared.cond.Cond.{Cond}
+use Rattle.geo_conditions.specs.Conditions.{AllFit}
+use Rattle.geo_conditions.specs.Reach.{State, Region, reach, has, low, high, dims, with_low, with_high, without, Exists}
+use Rattle.geo_conditions.proofs.Monotone.{le_trans}
+use Rattle.geo_state.proofs.Narrower.{low_within, high_within}
+use Rattle.derivation.specs.declared.event.Event.{Event}
+use Rattle.derivation.specs.declared.event.Event.TheVariants.{Drop, Gone, Cover, EndCovers}
+use Rattle.derivation.specs.Covers.{dimension_of}
+use Rattle.derivation.specs.Cuts.{far}
+use Rattle.derivation.specs.Events.{Continues}
+use Rattle.derivation.specs.PlaceCovers.{covers_events, RecordedBelow, RecordedCovers, SmallerBox}
+use Rattle.derivation.specs.Chains.{Leads, Narrows, bound_event}
+use Rattle.derivation.proofs.Chains.{leads_nil, leads_on, closes_on}
+use Rattle.derivation.proofs.SmallerCovers.{box_same, box_within, upto_smaller, from_smaller, covers_smaller}
+use Rattle.derivation.proofs.Listings.{recorded_start, recorded_skip, recorded_more, recorded_end, drop_led, bound_led, gone_closed}
+use Rattle.sweep.specs.Sweep.{IsCovered, part_before}
+use Rattle.object_pruning.specs.declared.kept.Placed.{Placed}
+use Rattle.object_pruning.specs.Ends.{IsSooner}
+use Rattle.object_pruning.specs.Record.{IsLed, IsClosed, end_side, with_end, IsNotBeyond, ListsPlace, AreListed}
+
+-- ---- lists of events
+
+-- one event more
+pub added : (old new : List Event) (e : Event) → new ≡ old ++ (e ∷ []) → Continues old new
+added old new e h = (e ∷ [], h)
+
+-- a mark lies in a list that went on from there
+pub mark_in : (old new : List Event) (m : ℕ) → m ≡ length old → Continues old new → m ≤ length new
+mark_in old new m e k = omega (arith, e, ap length k.1, length-append old k.0)
+
+-- cut back to the mark, it is as before
+pub cut_to_mark : (old new : List Event) (m : ℕ) → m ≡ length old → Continues old new → take m new ≡ old
+cut_to_mark old new m e k = ap (λ (n : ℕ). take n new) e ∙ ap (λ (xs : List Event). take (length old) xs) k.1 ∙ take-append_seam old k.0
+
+-- a mark lies before one event more
+pub mark_before : (old mid new : List Event) (m : ℕ) (e : Event) → m ≡ length old → Continues old mid → new ≡ mid ++ (e ∷ []) → m < length new
+mark_before old mid new m e h k f = omega (arith, mark_in old mid m h k, ap length f, length-append mid (e ∷ []))
+
+-- ---- chains
+
+-- nothing changed
+pub led_same : (cs : List Cond) (S T : State) (old new : List Event) → T ≡ S → new ≡ old → IsLed cs S T old new
+led_same cs S T old new e f = ([], f ∙ sym (append-nil old), subst (Leads cs S []) (sym e) (leads_nil cs S))
+
+-- a list with a chain behind it went on
+pub led_continues : (cs : List Cond) (S T : State) (old new : List Event) → IsLed cs S T old new → Continues old new
+led_continues cs S T old new p = (p.0, p.1)
+
+-- one chain behind another
+pub led_on : (cs : List Cond) (S T U : State) (a b c : List Event) → IsLed cs S T a b → IsLed cs T U b c → IsLed cs S U a c
+led_on cs S T U a b c p q = (
+  p.0 ++ q.0,
+  q.1 ∙ ap (λ (xs : List Event). xs ++ q.0) p.1 ∙ append_assoc a p.0 q.0,
+  leads_on cs S T U p.0 q.0 p.2 q.2,
+)
+
+-- what closes behind a chain
+pub led_closed : (cs : List Cond) (S T : State) (a b c : List Event) → IsLed cs S T a b → IsClosed cs T b c → IsClosed cs S a c
+led_closed cs S T a b c p q = (
+  p.0 ++ q.0,
+  q.1 ∙ ap (λ (xs : List Event). xs ++ q.0) p.1 ∙ append_assoc a p.0 q.0,
+  closes_on cs S T p.0 q.0 p.2 q.2,
+)
+
+-- a place that is dropped, and the cover of the whole region
+pub drop_recorded : (K : ℕ) (cs : List Cond) (picks : List ℕ) (S : State) (o s : ℕ) (old mid new : List Event) → has S o s ≡ true → mid ≡ old ++ (Drop (record { 0 = o }) s ∷ [])
+    → IsCovered K cs picks S o s (reach S o).region mid new → IsLed cs S (set S o (without (reach S o) s)) old new
+drop_recorded K cs picks S o s old mid new h f c = drop_led cs S (set S o (without (reach S o) s)) o s c.tree old mid new h c.covers f c.events refl
+
+-- ---- an object without a place
+
+false_of : (b : Bool) → (b ≡ true → ⊥) → b ≡ false
+false_of true h = absurd (h refl)
+false_of false h = refl
+
+none_below : (cs : List Cond) (S : State) (o : ℕ) (b : Region) (old : List Event) (n : ℕ) → ((s : ℕ) → has S o s ≡ true → ⊥) → RecordedBelow cs S o b (n + 1) old old
+none_below cs S o b old zero none = let e : 1 ≡ zero + 1 = omega arith in subst (λ (m : ℕ). RecordedBelow cs S o b m old old) e (recorded_start cs S o b old)
+none_below cs S o b old (suc n) none =
+    let e : n + 1 + 1 ≡ suc n + 1 = omega arith in
+    subst (λ (m : ℕ). RecordedBelow cs S o b m old old) e (recorded_skip cs S o b (n + 1) old old (omega arith) (false_of (has S o (n + 1)) (none (n + 1))) (none_below cs S o b old n none))
+
+-- it is gone, with no cover
+pub gone_recorded : (cs : List Cond) (S : State) (o : ℕ) (old mid new : List Event) → o < length S → ((s : ℕ) → has S o s ≡ true → ⊥) → mid ≡ old ++ (Gone (record { 0 = o }) ∷ []) → new ≡ mid ++ (EndCovers ∷ [])
+    → IsClosed cs S old new
+gone_recorded cs S o old mid new there none f g =
+    gone_closed cs S o old mid new there f (recorded_end cs S o (reach S o).region (length (reach S o).places + 1) mid mid new (omega arith) g (none_below cs S o (reach S o).region mid (length (reach S o).places) none))
+
+-- ---- what an end cuts off
+
+-- it lies in the region
+cut_off_in : (S : State) (o d : ℕ) (up : Bool) (v : ℤ) → SmallerBox (far (end_side up d v) (reach S o).region) (reach S o).region
+cut_off_in S o d true v =
+    let x = int_min (high S o d) (v +ℤ negsuc 0) in box_within (with_high (reach S o) d x) (reach S o) (high_within (reach S o) d x (omega (arith, ints, clamps)))
+cut_off_in S o d false v =
+    let x = int_max (low S o d) (v +ℤ pos 1) in box_within (with_low (reach S o) d x) (reach S o) (low_within (reach S o) d x (omega (arith, ints, clamps)))
+
+-- where the end does not lie beyond a point, it lies in the part before the point
+cut_off_before : (b : Region) (d : ℕ) (up : Bool) (v : ℤ) (p : List ℤ) → toward up v ≤ℤ toward up (coordinate p d) → SmallerBox (far (end_side up d v) b) (part_before d up p b)
+cut_off_before b d true v p h = upto_smaller b b d (v +ℤ negsuc 0) (coordinate p d +ℤ negsuc 0) (omega (arith, ints, h)) (box_same b)
+cut_off_before b d false v p h = from_smaller b b d (v +ℤ pos 1) (coordinate p d +ℤ pos 1) (omega (arith, ints, h)) (box_same b)
+
+-- an end that does not lie beyond the sooner one of two points lies beyond none
+pub not_beyond : {K : ℕ} (d : ℕ) (up : Bool) (v : ℤ) (b : Option (Placed K)) (q r : Placed K) → IsSooner d up b q r → IsNotBeyond d up v (Some r) → IsNotBeyond d up v b × IsNotBeyond d up v (Some q)
+not_beyond {K} d up v None q r i h = (tt, subst (λ (x : Placed K). IsNotBeyond d up v (Some x)) i h)
+not_beyond d up v (Some b) q r i h = (le_trans _ _ _ h i.1, le_trans _ _ _ h i.2)
+
+-- ---- covers of it, one for each place
+
+-- a place that is not there
+pub lists_absent : (cs : List Cond) (S : State) (o d : ℕ) (up : Bool) (v : ℤ) (n : ℕ) (mid : List Event) → 1 ≤ n → has S o n ≡ false → ListsPlace cs S o d up v n mid mid
+lists_absent cs S o d up v n mid l h = λ old r. recorded_skip cs S o (far (end_side up d v) (reach S o).region) n old mid l h r
+
+-- a place, and the cover of a box that has all of it
+lists_box : (K : ℕ) (cs : List Cond) (picks : List ℕ) (S : State) (o d : ℕ) (up : Bool) (v : ℤ) (n : ℕ) (b : Region) (mid cover new : List Event) → AllFit cs S → o < length S → 1 ≤ n → has S o n ≡ true
+    → SmallerBox (far (end_side up d v) (reach S o).region) b → cover ≡ mid ++ (Cover n ∷ []) → IsCovered K cs picks S o n b cover new → ListsPlace cs S o d up v n mid new
+lists_box K cs picks S o d up v n b mid cover new fits there l h small f c = λ old r.
+    let part = far (end_side up d v) (reach S o).region in
+    recorded_more cs S o part n c.tree old mid cover new l h f c.events (covers_smaller cs S o n c.tree part b fits there small c.covers) r
+
+-- a place without a point
+pub lists_none : (K : ℕ) (cs : List Cond) (picks : List ℕ) (S : State) (o d : ℕ) (up : Bool) (v : ℤ) (n : ℕ) (mid cover new : List Event) → AllFit cs S → o < length S → 1 ≤ n → has S o n ≡ true
+    → cover ≡ mid ++ (Cover n ∷ []) → IsCovered K cs picks S o n (reach S o).region cover new → ListsPlace cs S o d up v n mid new
+lists_none K cs picks S o d up v n mid cover new fits there l h f c = lists_box K cs picks S o d up v n (reach S o).region mid cover new fits there l h (cut_off_in S o d up v) f c
+
+-- a place with a point that does not come before the end
+pub lists_some : (K : ℕ) (cs : List Cond) (picks : List ℕ) (S : State) (o d : ℕ) (up : Bool) (v : ℤ) (n : ℕ) (p : List ℤ) (mid cover new : List Event) → AllFit cs S → o < length S → 1 ≤ n → has S o n ≡ true
+    → toward up v ≤ℤ toward up (coordinate p d) → cover ≡ mid ++ (Cover n ∷ []) → IsCovered K cs picks S o n (part_before d up p (reach S o).region) cover new → ListsPlace cs S o d up v n mid new
+lists_some K cs picks S o d up v n p mid cover new fits there l h e f c =
+    lists_box K cs picks S o d up v n (part_before d up p (reach S o).region) mid cover new fits there l h (cut_off_before (reach S o).region d up v p e) f c
+
+-- ---- an end that moves
+
+-- a list that began with a place holder
+held : (old ce : List Event) (x e : Event) (mid : List Event) (m : ℕ) → m ≡ length old → mid ≡ (old ++ (x ∷ [])) ++ ce → set mid m e ≡ (old ++ (e ∷ [])) ++ ce
+held old ce x e mid m f g =
+    ap (λ (n : ℕ). set mid n e) f ∙ ap (λ (xs : List Event). set xs (length old) e) (g ∙ append_assoc old (x ∷ []) ce) ∙ set-append_seam old x ce e ∙ sym (append_assoc old (e ∷ []) ce)
+
+-- the end lies in the interval
+narrows : (S : State) (o d : ℕ) (up : Bool) (v : ℤ) → low S o d ≤ℤ v → v ≤ℤ high S o d → Narrows S o (end_side up d v)
+narrows S o d true v l h = l
+narrows S o d false v l h = h
+
+there_is : (S : State) (o d : ℕ) (up : Bool) (v : ℤ) → o < length S → d < dims S o → Exists S o (dimension_of (end_side up d v))
+there_is S o d true v h k = (h, k)
+there_is S o d false v h k = (h, k)
+
+-- its place holder, a cover for each place, and the end of their list; and then its event in the place of the place holder
+pub end_recorded : (cs : List Cond) (S : State) (o d : ℕ) (up : Bool) (v : ℤ) (old first mid last new : List Event) (x : Event) (m : ℕ) → o < length S → d < dims S o → low S o d ≤ℤ v → v ≤ℤ high S o d → m ≡ length old
+    → first ≡ old ++ (x ∷ []) → AreListed cs S o d up v first mid → last ≡ mid ++ (EndCovers ∷ []) → new ≡ set last m (bound_event o (end_side up d v)) → IsLed cs S (with_end S o d up v) old new
+end_recorded cs S o d up v old first mid last new x m there k l h e f a g q =
+    let side = end_side up d v in
+    let part = far side (reach S o).region in
+    let r : RecordedCovers cs S o part first last = recorded_end cs S o part a.0 first mid last a.1 g a.2 in
+    let begun = old ++ (bound_event o side ∷ []) in
+    let c : RecordedCovers cs S o part begun new =
+    record { list = r.list; events = q ∙ held old (covers_events r.list) x (bound_event o side) last m e (r.events ∙ ap (λ (xs : List Event). xs ++ covers_events r.list) f); all = r.all } in
+    bound_led cs S (with_end S o d up v) o side old begun new (there_is S o d up v there k) (narrows S o d up v l h) refl c refl

@@ -1,0 +1,118 @@
+use Rattle.std.proofs.Common.{◌≡◌, ◌≢◌, ◌≤ℤ◌, ℤ, map, refl, sym, ap, ◌∙◌, subst, rules}
+use Rattle.std.specs.Int.{w64}
+use mir.Val.{to_z, of_z}
+use Rattle.geo_base.specs.Boxes.{coordinate}
+use Rattle.geo_conditions.specs.Reach.{State, IsState, reach, low, high}
+use Rattle.geo_state.specs.Trail.{IsSmallNumber}
+use Rattle.geo_state.proofs.Numbers.{kept64}
+use Rattle.derivation.specs.Chains.{moved}
+use Rattle.sweep.specs.Picks.{picked}
+use Rattle.object_pruning.specs.Ends.{IsOutermostPoint, IsTightEnd, end}
+use Rattle.object_pruning.specs.Kept.{AllSupport}
+use Rattle.object_pruning.specs.Record.{IsLed, end_side, with_end}
+use Rattle.object_pruning.proofs.Ends.{moves_none, moves_not, moves_set, outermost_in, outermost_small}
+use Rattle.object_pruning.proofs.Record.{led_same}
+use Rattle.object_pruning.proofs.Supports.{supports_found, supports_set}
+use Rattle.object_pruning.proofs.move_ends.move_end.Goals as goal
+use Rattle.object_pruning.proofs.move_ends.move_end.Goals.{Then-v-end_of, After-set_end}
+
+pub returns-then-knows_end-clause-moves : goal.returns-then-knows_end-clause-moves
+returns-then-knows_end-clause-moves g c =
+    let cs = picked (map g.I.Indexical.cond c.args.list.now) c.args.picks.now in
+    let S = c.args.t.now.state in
+    let o = c.args.o.0 in
+    let e : c.state-state.result.now ≡ S = c.state-state.ensures.value in
+    moves_none cs S o c.args.d c.args.up (subst (λ (T : State). IsTightEnd cs T o c.args.d c.args.up) e (c.knows_end.ensures.tight c.if-knows_end.true))
+
+-- the point that was sought has the end as its coordinate
+tight : (g : _) (c : Then-v-end_of g) → coordinate c.in_ok-q.q.point.coordinates c.args.d ≡ end c.args.up c.state-state.result.now c.args.o.0 c.args.d
+tight g c =
+    let same : c.get-v.result ≡ c.end_of.result = sym (kept64 c.get-v.result c.get-v.type_inv) ∙ ap (to_z w64) c.if-v-end_of.true ∙ kept64 c.end_of.result c.end_of.type_inv in
+    sym c.get-v.ensures ∙ same ∙ c.end_of.ensures
+
+pub returns-then-v-end_of-clause-moves : goal.returns-then-v-end_of-clause-moves
+returns-then-v-end_of-clause-moves g c =
+    let cs = picked (map g.I.Indexical.cond c.args.list.now) c.args.picks.now in
+    let S = c.args.t.now.state in
+    let o = c.args.o.0 in
+    let d = c.args.d in
+    let up = c.args.up in
+    let q = c.in_ok-q.q in
+    let e : c.state-state.result.now ≡ S = c.state-state.ensures.value in
+    let out : IsOutermostPoint cs S o d up q = subst (λ (T : State). IsOutermostPoint cs T o d up q) e c.in_ok-q.ensures.point in
+    moves_not cs S o d up (coordinate q.point.coordinates d) out.1 (tight g c ∙ ap (λ (T : State). end up T o d) e)
+
+pub returns-then-v-end_of-clause-led : goal.returns-then-v-end_of-clause-led
+returns-then-v-end_of-clause-led g c = λ kept.
+    let list = g.R.Recorder.list in
+    let S = c.args.t.now.state in
+    led_same (map g.I.Indexical.cond c.args.list.now) S S (list c.args.rec.now) (list c.sought_end.new.rec) refl (c.in_ok-q.ensures.stands kept (tight g c))
+
+pub returns-then-v-end_of-clause-kept : goal.returns-then-v-end_of-clause-kept
+returns-then-v-end_of-clause-kept g c =
+    let cs = picked (map g.I.Indexical.cond c.args.list.now) c.args.picks.now in
+    supports_found cs c.state-state.result.now c.args.t.now.state c.args.o.0 c.args.d c.args.up c.knows_end.new.kept c.keep_found.new.kept c.end_slot.result c.in_ok-q.q
+    c.state-state.ensures.value c.in_ok-q.ensures.point c.knows_end.ensures.kept c.keep_found.ensures
+
+pub set_end-requires : goal.set_end-requires
+set_end-requires g c =
+    let cs = picked (map g.I.Indexical.cond c.args.list.now) c.args.picks.now in
+    let S = c.args.t.now.state in
+    let o = c.args.o.0 in
+    let d = c.args.d in
+    let up = c.args.up in
+    let q = c.in_ok-q.q in
+    let v = coordinate q.point.coordinates d in
+    let out : IsOutermostPoint cs S o d up q = subst (λ (T : State). IsOutermostPoint cs T o d up q) c.state-state.ensures.value c.in_ok-q.ensures.point in
+    let at : to_z w64 (of_z w64 c.get-v.result) ≡ v = kept64 c.get-v.result c.get-v.type_inv ∙ c.get-v.ensures in
+    let small : IsSmallNumber (to_z w64 (of_z w64 c.get-v.result)) = subst IsSmallNumber (sym at) (outermost_small cs S o d up v c.state-state.ensures.small out.1) in
+    let within : (low S o d ≤ℤ to_z w64 (of_z w64 c.get-v.result)) × (to_z w64 (of_z w64 c.get-v.result) ≤ℤ high S o d) =
+    subst (λ (z : ℤ). (low S o d ≤ℤ z) × (z ≤ℤ high S o d)) (sym at) (outermost_in cs S o d up v out.1) in
+    search rules
+
+-- the end was not there
+loose : (g : _) (c : After-set_end g) → coordinate c.in_ok-q.q.point.coordinates c.args.d ≢ end c.args.up c.state-state.result.now c.args.o.0 c.args.d
+loose g c x = c.if-v-end_of.false (ap (of_z w64) (c.get-v.ensures ∙ x ∙ sym c.end_of.ensures))
+
+-- the end is there now
+moved_there : (g : _) (c : After-set_end g) → c.set_end.new.t.state ≡ with_end c.args.t.now.state c.args.o.0 c.args.d c.args.up (coordinate c.in_ok-q.q.point.coordinates c.args.d)
+moved_there g c =
+    let at : to_z w64 (of_z w64 c.get-v.result) ≡ coordinate c.in_ok-q.q.point.coordinates c.args.d = kept64 c.get-v.result c.get-v.type_inv ∙ c.get-v.ensures in
+    c.set_end.ensures.state ∙ ap (λ (z : ℤ). with_end c.args.t.now.state c.args.o.0 c.args.d c.args.up z) at
+
+pub returns-clause-moves : goal.returns-clause-moves
+returns-clause-moves g c =
+    let cs = picked (map g.I.Indexical.cond c.args.list.now) c.args.picks.now in
+    let S = c.args.t.now.state in
+    let o = c.args.o.0 in
+    let d = c.args.d in
+    let up = c.args.up in
+    let q = c.in_ok-q.q in
+    let v = coordinate q.point.coordinates d in
+    let e : c.state-state.result.now ≡ S = c.state-state.ensures.value in
+    let shape : IsState g.row.K S = subst (IsState g.row.K) e c.objects-objects.ensures.shape in
+    let out : IsOutermostPoint cs S o d up q = subst (λ (T : State). IsOutermostPoint cs T o d up q) e c.in_ok-q.ensures.point in
+    moves_set g.row.K cs S c.set_end.new.t.state o d up v shape c.requires.object c.requires.dimension out.1 (λ x. loose g c (x ∙ sym (ap (λ (T : State). end up T o d) e))) (moved_there g c)
+
+pub returns-clause-led : goal.returns-clause-led
+returns-clause-led g c = λ kept.
+    let all = map g.I.Indexical.cond c.args.list.now in
+    let S = c.args.t.now.state in
+    let o = c.args.o.0 in
+    let d = c.args.d in
+    let up = c.args.up in
+    let v = coordinate c.in_ok-q.q.point.coordinates d in
+    let old = g.R.Recorder.list c.args.rec.now in
+    let new = g.R.Recorder.list c.sought_end.new.rec in
+    let at_S : IsLed all S (with_end S o d up v) old new = subst (λ (X : State). IsLed all X (with_end X o d up v) old new) c.state-state.ensures.value (c.in_ok-q.ensures.led kept (loose g c)) in
+    subst (λ (X : State). IsLed all S X old new) (sym (moved_there g c)) at_S
+
+pub returns-clause-kept : goal.returns-clause-kept
+returns-clause-kept g c =
+    let cs = picked (map g.I.Indexical.cond c.args.list.now) c.args.picks.now in
+    let S = c.args.t.now.state in
+    let o = c.args.o.0 in
+    let v = coordinate c.in_ok-q.q.point.coordinates c.args.d in
+    let kept : AllSupport cs S o c.keep_found.new.kept =
+    supports_found cs c.state-state.result.now S o c.args.d c.args.up c.knows_end.new.kept c.keep_found.new.kept c.end_slot.result c.in_ok-q.q c.state-state.ensures.value c.in_ok-q.ensures.point c.knows_end.ensures.kept c.keep_found.ensures in
+    supports_set cs S c.set_end.new.t.state o (moved (end_side c.args.up c.args.d v) (reach S o)) c.keep_found.new.kept c.requires.object (moved_there g c) kept

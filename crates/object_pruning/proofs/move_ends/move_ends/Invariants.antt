@@ -1,0 +1,16 @@
+use Rattle.std.specs.Prelude.{true, map, ◌≡◌, ◌≤◌}
+use Rattle.sweep.specs.Picks.{picked}
+use Rattle.object_pruning.specs.Kept.{AllSupport}
+use Rattle.object_pruning.specs.Record.{IsLed}
+use Rattle.object_pruning.proofs.Ends.{MovesBelow}
+use Rattle.object_pruning.proofs.move_ends.move_ends.Given as goal
+
+abbrev pub invariant-loop-d : goal.invariant-loop-d
+invariant-loop-d g l = record {
+  moves : MovesBelow (picked (map g.I.Indexical.cond l.list) l.picks) l.o.0 l.d l.fn.t.state l.moved l.t.state;
+  led : g.R.Recorder.keeps ≡ true → IsLed (map g.I.Indexical.cond l.list) l.fn.t.state l.t.state (g.R.Recorder.list l.fn.rec) (g.R.Recorder.list l.rec);
+  kept : AllSupport (picked (map g.I.Indexical.cond l.list) l.picks) l.t.state l.o.0 l.kept;
+  levels : l.t.levels ≡ l.fn.t.levels;
+  restores : l.t.restores ≡ l.fn.t.restores;
+  refusals : g.R.Recorder.refusals l.fn.rec ≤ g.R.Recorder.refusals l.rec;
+}

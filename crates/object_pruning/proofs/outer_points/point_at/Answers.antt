@@ -1,0 +1,49 @@
+use Rattle.std.proofs.Common.{◌≡◌, true, false, map, sym, ◌∙◌}
+use Rattle.geo_conditions.specs.Reach.{reach, has}
+use Rattle.geo_conditions.specs.Supported.{IsFirstPoint}
+use Rattle.sweep.specs.Picks.{picked}
+use Rattle.object_pruning.proofs.Cases.{from_none, from_some}
+use Rattle.object_pruning.proofs.Ends.{first_outermost}
+use Rattle.object_pruning.proofs.Record.{lists_absent, lists_none, lists_some}
+use Rattle.object_pruning.proofs.outer_points.point_at.Goals as goal
+
+pub returns-then-not-has_shape-clause-listed : goal.returns-then-not-has_shape-clause-listed
+returns-then-not-has_shape-clause-listed g c = λ kept v h.
+    let S = c.args.s.now in
+    let o = c.args.o.0 in
+    let way = c.args.way.now in
+    let f : has S o c.args.place ≡ false = sym c.has_shape.ensures ∙ c.if-not-has_shape.true in
+    lists_absent (map g.I.Indexical.cond c.args.list.now) S o way.lead way.up v c.args.place (g.R.Recorder.list c.args.rec.now) c.requires.place f
+
+pub returns-in-Some-clause-point : goal.returns-in-Some-clause-point
+returns-in-Some-clause-point g c =
+    let cs = picked (map g.I.Indexical.cond c.args.list.now) c.args.picks.now in
+    let S = c.args.s.now in
+    let o = c.args.o.0 in
+    let way = c.args.way.now in
+    let p = c.in-Some.point.coordinates in
+    let t : has S o c.args.place ≡ true = sym c.has_shape.ensures ∙ c.if-not-has_shape.false in
+    let f : IsFirstPoint g.row.K way.lead way.up cs S o c.args.place (reach S o).region p = from_some _ _ c.in_ok-point.field-0 c.in-Some.point c.in-Some.is c.in_ok-point.ensures.point in (
+      record { place = t; point = f.point },
+      λ q y. first_outermost g.row.K way.lead way.up cs S o c.args.place (reach S o).region p q way.lead_in f y.point,
+    )
+
+pub returns-in-Some-clause-listed : goal.returns-in-Some-clause-listed
+returns-in-Some-clause-listed g c = λ kept v h.
+    let S = c.args.s.now in
+    let o = c.args.o.0 in
+    let way = c.args.way.now in
+    let list = g.R.Recorder.list in
+    let t : has S o c.args.place ≡ true = sym c.has_shape.ensures ∙ c.if-not-has_shape.false in
+    lists_some g.row.K (map g.I.Indexical.cond c.args.list.now) c.args.picks.now S o way.lead way.up v c.args.place c.in-Some.point.coordinates (list c.args.rec.now) (list c.add.new.self) (list c.first_point.new.rec)
+    c.requires.fits c.requires.object c.requires.place t h (c.in_ok-add.ensures.ok kept) (from_some _ _ c.in_ok-point.field-0 c.in-Some.point c.in-Some.is (c.in_ok-point.ensures.covered kept))
+
+pub returns-in-None-clause-listed : goal.returns-in-None-clause-listed
+returns-in-None-clause-listed g c = λ kept v h.
+    let S = c.args.s.now in
+    let o = c.args.o.0 in
+    let way = c.args.way.now in
+    let list = g.R.Recorder.list in
+    let t : has S o c.args.place ≡ true = sym c.has_shape.ensures ∙ c.if-not-has_shape.false in
+    lists_none g.row.K (map g.I.Indexical.cond c.args.list.now) c.args.picks.now S o way.lead way.up v c.args.place (list c.args.rec.now) (list c.add.new.self) (list c.first_point.new.rec)
+    c.requires.fits c.requires.object c.requires.place t (c.in_ok-add.ensures.ok kept) (from_none _ _ c.in_ok-point.field-0 c.in-None.is (c.in_ok-point.ensures.covered kept))

@@ -1,0 +1,16 @@
+use Rattle.std.specs.Prelude.{true, map, ◌+◌, ◌≡◌, ◌≤◌}
+use Rattle.sweep.specs.Picks.{picked}
+use Rattle.object_pruning.specs.Kept.{AllSupport}
+use Rattle.object_pruning.specs.Record.{IsLed}
+use Rattle.object_pruning.proofs.Ends.{DropsBelow}
+use Rattle.object_pruning.proofs.places.drop_places.Given as goal
+
+abbrev pub invariant-loop-before : goal.invariant-loop-before
+invariant-loop-before g l = record {
+  drops : DropsBelow (picked (map g.I.Indexical.cond l.list) l.picks) l.o.0 (l.before + 1) l.fn.t.state l.some l.dropped l.t.state;
+  led : g.R.Recorder.keeps ≡ true → IsLed (map g.I.Indexical.cond l.list) l.fn.t.state l.t.state (g.R.Recorder.list l.fn.rec) (g.R.Recorder.list l.rec);
+  kept : AllSupport (picked (map g.I.Indexical.cond l.list) l.picks) l.t.state l.o.0 l.kept;
+  levels : l.t.levels ≡ l.fn.t.levels;
+  restores : l.t.restores ≡ l.fn.t.restores;
+  refusals : g.R.Recorder.refusals l.fn.rec ≤ g.R.Recorder.refusals l.rec;
+}

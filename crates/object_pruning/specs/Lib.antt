@@ -1,0 +1,5 @@
+pub mod Same
+pub mod Pruning
+pub mod Ends
+pub mod Kept
+pub mod Record

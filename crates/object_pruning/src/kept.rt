@@ -1,0 +1,257 @@
+//! Supports of an object that are kept.
+
+ghost use Rattle.std.specs.Prelude.{◌≡◌, ℕ, ◌+◌, ◌*◌, ◌<◌, ◌≤◌, List, ℤ, length, map, slice_index_or, slice_set, IfSome, IsTrue};
+ghost use Rattle.geo_base.specs.Boxes.{coordinate};
+ghost use Rattle.geo_conditions.specs.declared.cond.Cond.{Cond};
+ghost use Rattle.geo_conditions.specs.Conditions.{possible, FitsIn};
+ghost use Rattle.object_pruning.specs.Ends.{IsTightEnd, end};
+ghost use Rattle.object_pruning.specs.Kept.{AllSupport, placed, retried};
+ghost use Rattle.object_pruning.specs.Pruning.{CanBe};
+
+use super::counted::{Counted, answer};
+use derivation::NoRecord;
+use geo_base::{KBox, MAX_DIMS, Point, Steps, Way};
+use geo_conditions::{ObjId, State};
+use indexical::Indexical;
+use std::sync::ledger::Ledger;
+
+/// A point of an object at a place.
+#[derive(Clone, Copy)]
+pub struct Placed<const K: usize> {
+    pub place: u8,
+    pub point: Point<K>,
+}
+
+/// How many supports are kept of an object: one for each place, and one for each end of each interval.
+pub fn slots<const K: usize>() -> usize
+    requires { K ≤ MAX_DIMS }
+    ensures { result ≡ 16 + 2 * K }
+{
+    16 + 2 * K
+}
+
+/// The slot of a place.
+pub fn place_slot(place: u8) -> usize {
+    usize::from(place).saturating_sub(1)
+}
+
+/// The slot of an end of an interval: of the low end, where it is upwards.
+pub fn end_slot(d: usize, up: bool) -> usize
+    requires { d < MAX_DIMS }
+{
+    if up { 16 + 2 * d } else { 17 + 2 * d }
+}
+
+/// Keeps the support in a slot, where there is one.
+pub fn keep<const K: usize>(kept: &mut [Option<Placed<K>>], slot: usize, q: &Placed<K>)
+    ensures { kept.new ≡ slice_set kept.old slot (Some q.now) }
+{
+    if slot < kept.len() {
+        kept[slot] = Some(*q);
+    }
+}
+
+/// Keeps a point that was found, as a support and as a hint.
+pub fn keep_found<const K: usize>(
+    kept: &mut [Option<Placed<K>>],
+    hints: &mut [Option<Placed<K>>],
+    slot: usize,
+    q: &Placed<K>,
+)
+    ensures { kept.new ≡ slice_set kept.old slot (Some q.now) }
+{
+    keep(kept, slot, q);
+    keep(hints, slot, q);
+}
+
+// The question whether a condition is refuted with the object there.
+#[derive(Drop)]
+struct PlacedQuestion<'a, const K: usize, I: Indexical<K> + 'a> {
+    s: &'a State<K>,
+    o: ObjId,
+    q: &'a Placed<K>,
+    x: &'a I,
+}
+
+impl<'a, const K: usize, I: Indexical<K> + 'a> Counted<NoRecord, bool>
+    for PlacedQuestion<'a, K, I> {
+    ghost use Rattle.geo_base.specs.declared.TheConstants.{MAX_DIMS};
+
+    ghost ready = { λ a. (0 < K) × (K ≤ MAX_DIMS) × FitsIn (I.cond a.x.now) a.s.now × (a.o.0 < length a.s.now) };
+
+    ghost right = { λ a old new result. result ≡ possible (I.cond a.x.now) (placed a.s.now a.o.0 a.q.now) };
+
+    fn answer<L: Ledger>(&self, _to: &mut NoRecord, steps: &mut Steps<L>) -> bool {
+        let point = self.q.point;
+        let just = KBox::new(point, point);
+        let way = Way::new(0, true);
+        let _objects = self.s.objects();
+        match self
+            .x
+            .forbid(self.s, self.o, self.q.place, &point, &just, &way, steps)
+        {
+            Some(_) => false,
+            None => true,
+        }
+    }
+}
+
+/// Whether the condition is possible with the object there.
+pub fn is_possible_at<const K: usize, I: Indexical<K>>(
+    s: &State<K>,
+    o: ObjId,
+    q: &Placed<K>,
+    x: &I,
+) -> bool
+    requires k { (0 < K) × (K ≤ MAX_DIMS) }
+    requires fits { FitsIn (I.cond x.now) s.now }
+    requires object { o.0 < length s.now }
+    ensures { result ≡ possible (I.cond x.now) (placed s.now o.0 q.now) }
+{
+    answer(&PlacedQuestion { s, o, q, x }, &mut NoRecord::new())
+}
+
+// The kept support, if the condition is possible with the object there.
+fn retry_one<const K: usize, I: Indexical<K>>(
+    slot: Option<Placed<K>>,
+    s: &State<K>,
+    o: ObjId,
+    x: &I,
+) -> Option<Placed<K>>
+    requires k { (0 < K) × (K ≤ MAX_DIMS) }
+    requires fits { FitsIn (I.cond x.now) s.now }
+    requires object { o.0 < length s.now }
+    ensures { result ≡ retried (I.cond x.now) s.now o.0 slot.entry }
+{
+    let q = slot?;
+    if is_possible_at(s, o, &q, x) {
+        Some(q)
+    } else {
+        None
+    }
+}
+
+/// Forgets each kept support that the condition refutes with the object there.
+pub fn retry<const K: usize, I: Indexical<K>>(
+    kept: &mut [Option<Placed<K>>],
+    s: &State<K>,
+    o: ObjId,
+    x: &I,
+)
+    requires k { (0 < K) × (K ≤ MAX_DIMS) }
+    requires fits { FitsIn (I.cond x.now) s.now }
+    requires object { o.0 < length s.now }
+    ensures { kept.new ≡ map (retried (I.cond x.now) s.now o.0) kept.old }
+{
+    for slot in kept.iter_mut() {
+        *slot = retry_one(*slot, s, o, x);
+    }
+}
+
+/// What is in a slot.
+pub fn kept_in<const K: usize>(kept: &[Option<Placed<K>>], slot: usize) -> Option<Placed<K>>
+    ensures { result ≡ slice_index_or kept.now slot None }
+{
+    match kept.get(slot) {
+        Some(q) => *q,
+        None => None,
+    }
+}
+
+// The support in a slot, if the object still has its place and its point.
+fn kept_at<const K: usize>(
+    s: &State<K>,
+    o: ObjId,
+    kept: &[Option<Placed<K>>],
+    slot: usize,
+) -> Option<Placed<K>>
+    requires k { K ≤ MAX_DIMS }
+    requires object { o.0 < length s.now }
+    ensures { IfSome result (λ q. (cs : List Cond) → AllSupport cs s.now o.0 kept.now
+        → CanBe cs s.now o.0 q.place q.point.coordinates) }
+{
+    let _objects = s.objects();
+    let q = kept_in(kept, slot)?;
+    let _coordinates = q.point.dimensions();
+    if s.has_shape(o, q.place) && s.region(o).has(&q.point) {
+        Some(q)
+    } else {
+        None
+    }
+}
+
+/// Whether a point is kept at which the object still has that place.
+pub fn place_stands<const K: usize>(
+    s: &State<K>,
+    o: ObjId,
+    place: u8,
+    kept: &[Option<Placed<K>>],
+) -> bool
+    requires k { K ≤ MAX_DIMS }
+    requires object { o.0 < length s.now }
+    ensures { IsTrue result → (cs : List Cond) → AllSupport cs s.now o.0 kept.now
+        → (p : List ℤ) × CanBe cs s.now o.0 place p }
+{
+    match kept_at(s, o, kept, place_slot(place)) {
+        Some(q) => q.place == place,
+        None => false,
+    }
+}
+
+/// The end of an interval: the low one upwards, else the high one.
+pub fn end_of<const K: usize>(s: &State<K>, o: ObjId, d: usize, up: bool) -> i64
+    requires k { K ≤ MAX_DIMS }
+    requires object { o.0 < length s.now }
+    requires dimension { d < K }
+    ensures { result ≡ end up s.now o.0 d }
+{
+    let ends = s.interval(o, d);
+    if up { ends.lo } else { ends.hi }
+}
+
+// Whether the point in a slot is one at which the object still has that coordinate in a dimension.
+fn is_kept_there<const K: usize>(
+    s: &State<K>,
+    o: ObjId,
+    d: usize,
+    there: i64,
+    kept: &[Option<Placed<K>>],
+    slot: usize,
+) -> bool
+    requires k { K ≤ MAX_DIMS }
+    requires object { o.0 < length s.now }
+    requires dimension { d < K }
+    ensures { IsTrue result → (cs : List Cond) → AllSupport cs s.now o.0 kept.now
+        → (u : ℕ) × (p : List ℤ) × CanBe cs s.now o.0 u p × (coordinate p d ≡ there) }
+{
+    match kept_at(s, o, kept, slot) {
+        Some(q) => q.point.get(d) == there,
+        None => false,
+    }
+}
+
+/// Whether a point is kept at which the object still has that end of an interval: the one that was kept for it, or another.
+pub fn end_stands<const K: usize>(
+    s: &State<K>,
+    o: ObjId,
+    d: usize,
+    up: bool,
+    kept: &[Option<Placed<K>>],
+) -> bool
+    requires k { K ≤ MAX_DIMS }
+    requires object { o.0 < length s.now }
+    requires dimension { d < K }
+    ensures { IsTrue result → (cs : List Cond) → AllSupport cs s.now o.0 kept.now
+        → IsTightEnd cs s.now o.0 d up }
+{
+    let there = end_of(s, o, d, up);
+    if is_kept_there(s, o, d, there, kept, end_slot(d, up)) {
+        return true;
+    }
+    for slot in 0..kept.len() {
+        if is_kept_there(s, o, d, there, kept, slot) {
+            return true;
+        }
+    }
+    false
+}

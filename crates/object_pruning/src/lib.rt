@@ -1,0 +1,14 @@
+//! The pruning of one object by sweeps: its shapes and bounds become exactly those of its points.
+#![tactic(auto)]
+
+mod counted;
+mod first_point;
+mod hints;
+mod kept;
+mod move_ends;
+mod outer_points;
+mod places;
+mod prune;
+
+pub use kept::{Placed, retry, slots};
+pub use prune::{Pruned, prune_kept, prune_object};

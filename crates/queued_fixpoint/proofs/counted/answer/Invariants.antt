@@ -1,4 +1,0 @@
-use Rattle.queued_fixpoint.proofs.counted.answer.Given as goal
-
-abbrev pub ghosts-answer_with : goal.ghosts-answer_with
-ghosts-answer_with g a = record { name = a.blank.name; parts = a.blank.parts }
