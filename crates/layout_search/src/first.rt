@@ -1,6 +1,6 @@
 //! The first layout, and when there is none within the budget.
 
-ghost use Rattle.std.specs.Prelude.{◌≡◌, ◌<◌, ◌≤◌, ◌++◌, [], ◌∷◌, IfOk, IsSome, OnOk, length};
+ghost use Rattle.std.specs.Prelude.{◌≡◌, ◌<◌, ◌≤◌, ◌++◌, [], ◌∷◌, IfOk, IsSome, OnOk, length, map};
 ghost use Rattle.problem_text.specs.WellFormed.{IsWellFormed};
 ghost use Rattle.geo_base.specs.Tuple.{Tuple, spot};
 ghost use Rattle.problem_text.specs.Cells.{IsTuple};
@@ -10,14 +10,19 @@ ghost use Rattle.layout_search.specs.FirstLayout.{AreConditionsOf, Finds, Lists}
 ghost use Rattle.layout_search.specs.Found.{HasFoundIn};
 
 use derivation::NoRecord;
-use fixpoint::PlainPropagate;
 use geo_base::MAX_DIMS;
-use geo_conditions::{Cond, Layout, ObjId};
+use geo_conditions::{Cond, Layout, MAX_OBJECTS, ObjId};
+use geo_state::Propagate;
+use indexical::AnyIndexical;
 use problem_text::problem::Problem;
+use queued_fixpoint::Fixpoint;
 use rule_ground::order::search_order;
 use rule_ground::start::start_state;
 use std::alloc::{AllocError, Global};
 use trail_search::{Search, Step};
+
+/// The greatest number of conditions that numbers can pick.
+const MAX_CONDITIONS: usize = 1_000_000_000;
 
 /// How a search for a layout ends.
 #[derive(Drop)]
@@ -52,6 +57,41 @@ pub fn search_first(
     }
 }
 
+// The conditions, each met by its boxes where it says that two of them are apart.
+fn indexicals_of<const K: usize>(
+    alloc: Global,
+    conditions: Vec<Cond>,
+) -> Result<Vec<AnyIndexical<K>>, AllocError>
+    ensures { IfOk result (λ v. map (λ x. x.cond) v.items ≡ conditions.items) }
+{
+    let mut list = Vec::with_capacity(alloc, conditions.len())?;
+    for c in conditions {
+        list.push(AnyIndexical::from_cond(c))?;
+    }
+    Ok(list)
+}
+
+// A propagator of the conditions. More of them than numbers can pick count as want of memory: they would take up tens of
+// gigabytes.
+fn propagator_of<const K: usize>(
+    alloc: Global,
+    conditions: Vec<Cond>,
+    objects: usize,
+) -> Result<Fixpoint<K>, AllocError>
+    requires k { (0 < K) × (K ≤ MAX_DIMS) }
+    requires objects { objects ≤ MAX_OBJECTS }
+    ensures conditions { IfOk result (λ p.
+        ⟦<Fixpoint<K> as Propagate<K>>⟧.conditions p ≡ conditions.items) }
+    ensures objects { IfOk result (λ p.
+        ⟦<Fixpoint<K> as Propagate<K>>⟧.objects p ≡ objects) }
+{
+    if conditions.len() > MAX_CONDITIONS {
+        return Err(AllocError);
+    }
+    let list = indexicals_of(alloc, conditions)?;
+    Fixpoint::start(alloc, list, objects)
+}
+
 // The same, where K is the number of dimensions.
 fn search_in<const K: usize>(
     alloc: Global,
@@ -59,7 +99,7 @@ fn search_in<const K: usize>(
     conditions: Vec<Cond>,
     budget: u64,
 ) -> Result<Outcome, AllocError>
-    requires k { K ≤ MAX_DIMS }
+    requires k { (0 < K) × (K ≤ MAX_DIMS) }
     requires problem { IsWellFormed problem.now }
     requires dims { problem.now.dims ≡ K }
     requires conditions { AreConditionsOf problem.now conditions.items }
@@ -69,7 +109,7 @@ fn search_in<const K: usize>(
     let first = start_state::<K>(alloc, problem)?;
     let _objects = first.objects();
     let order = search_order(alloc, problem)?;
-    let propagator = PlainPropagate::start(alloc, conditions, problem.objects().len())?;
+    let propagator = propagator_of(alloc, conditions, problem.objects().len())?;
     let record = NoRecord::new();
     let mut search = Search::start(alloc, first, order, None, budget, propagator, record)?;
     match search.next() {
@@ -84,7 +124,7 @@ fn search_in<const K: usize>(
 fn found_layout<const K: usize>(
     alloc: Global,
     problem: &Problem,
-    search: &Search<K, PlainPropagate<K>, NoRecord>,
+    search: &Search<K, Fixpoint<K>, NoRecord>,
 ) -> Result<Layout, AllocError>
     requires k { K ≤ MAX_DIMS }
     requires problem { IsWellFormed problem.now }
@@ -102,7 +142,7 @@ fn found_layout<const K: usize>(
 
 // Appends where the search has put the object.
 fn push_spot<const K: usize>(
-    search: &Search<K, PlainPropagate<K>, NoRecord>,
+    search: &Search<K, Fixpoint<K>, NoRecord>,
     o: ObjId,
     layout: &mut Layout,
 ) -> Result<(), AllocError>

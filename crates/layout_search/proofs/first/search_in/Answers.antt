@@ -5,14 +5,15 @@ use Rattle.geo_conditions.specs.Walk.{Tree, Order, NamesEach, variables_in}
 use Rattle.geo_conditions.specs.Conditions.{FitsIn, AllFit}
 use Rattle.geo_conditions.specs.Reach.{State, Reach}
 use Rattle.geo_conditions.specs.declared.cond.Cond.{Cond}
+use Rattle.indexical.specs.declared.any.AnyIndexical.{AnyIndexical}
 use Rattle.rule_ground.specs.Start.{whole_reach, first_state}
 use Rattle.layout_search.specs.FirstLayout.{walk_of}
 use Rattle.layout_search.proofs.States.{state-is}
 use Rattle.layout_search.proofs.Outcomes.{fresh-search, first-answer, found-in, found-lists, found-finds, ended-lists, ended-finds, budget-lists}
 use Rattle.layout_search.proofs.first.search_in.Goals as goal
 
-pub start-requires-2 : goal.start-requires-2
-start-requires-2 g c =
+pub start-requires : goal.start-requires
+start-requires g c =
     let p = c.args.problem.now in
     let s : c.in_ok-first.first ≡ first_state p = c.in_ok-first.ensures.value in
     let cs = c.in_ok-propagator.ensures.conditions in (
@@ -20,7 +21,7 @@ start-requires-2 g c =
       (
         omega arith,
         (
-          c.requires.k,
+          c.requires.k.1,
           (
             λ o d. let e = c.in_ok-first.ensures.ends o d in ((omega (arith, ints, e), omega (arith, ints, e)), (omega (arith, ints, e), omega (arith, ints, e))),
             (
@@ -45,10 +46,10 @@ found_layout-requires g c =
     let a = c.in_ok-search.search in
     let b = c.next.new.self in
     let well = c.requires.problem in
-    let f = fresh-search p cs c.in_ok-propagator.propagator.list.items c.in_ok-first.first c.in_ok-order.order c.args.budget a c.in_ok-propagator.ensures.conditions c.in_ok-first.ensures.value c.in_ok-order.ensures.value
+    let f = fresh-search p cs (map (λ (x : AnyIndexical g.row.K). x.cond) c.in_ok-propagator.propagator.list.items) c.in_ok-first.first c.in_ok-order.order c.args.budget a c.in_ok-propagator.ensures.conditions c.in_ok-first.ensures.value c.in_ok-order.ensures.value
     c.in_ok-search.ensures.walk c.in_ok-search.ensures.budget c.in_ok-search.ensures.walked in
     let h = first-answer a b _ c.in_ok-search.ensures.over c.in-Found.ensures.steps in
-    (omega arith, (omega arith, (c.requires.k, (well, (c.requires.dims, (ap (λ (W : Tree). W.first) (h.0 ∙ f.walk), found-in p cs well (state-is p well) c.requires.conditions c.args.budget a b f h.0 h.1))))))
+    (omega arith, (omega arith, (c.requires.k.1, (well, (c.requires.dims, (ap (λ (W : Tree). W.first) (h.0 ∙ f.walk), found-in p cs well (state-is p well) c.requires.conditions c.args.budget a b f h.0 h.1))))))
 
 pub returns-in-Found-clause-walk : goal.returns-in-Found-clause-walk
 returns-in-Found-clause-walk g c =
@@ -57,7 +58,7 @@ returns-in-Found-clause-walk g c =
     let a = c.in_ok-search.search in
     let b = c.next.new.self in
     let well = c.requires.problem in
-    let f = fresh-search p cs c.in_ok-propagator.propagator.list.items c.in_ok-first.first c.in_ok-order.order c.args.budget a c.in_ok-propagator.ensures.conditions c.in_ok-first.ensures.value c.in_ok-order.ensures.value
+    let f = fresh-search p cs (map (λ (x : AnyIndexical g.row.K). x.cond) c.in_ok-propagator.propagator.list.items) c.in_ok-first.first c.in_ok-order.order c.args.budget a c.in_ok-propagator.ensures.conditions c.in_ok-first.ensures.value c.in_ok-order.ensures.value
     c.in_ok-search.ensures.walk c.in_ok-search.ensures.budget c.in_ok-search.ensures.walked in
     let h = first-answer a b _ c.in_ok-search.ensures.over c.in-Found.ensures.steps in
     found-lists p cs well (state-is p well) c.requires.conditions c.args.budget a b f h.0 c.in_ok-found_layout-in-Found.field-0 h.1 c.in_ok-found_layout-in-Found.ensures.1 c.in_ok-found_layout-in-Found.ensures.0
@@ -69,7 +70,7 @@ returns-in-Found-clause-layout g c =
     let a = c.in_ok-search.search in
     let b = c.next.new.self in
     let well = c.requires.problem in
-    let f = fresh-search p cs c.in_ok-propagator.propagator.list.items c.in_ok-first.first c.in_ok-order.order c.args.budget a c.in_ok-propagator.ensures.conditions c.in_ok-first.ensures.value c.in_ok-order.ensures.value
+    let f = fresh-search p cs (map (λ (x : AnyIndexical g.row.K). x.cond) c.in_ok-propagator.propagator.list.items) c.in_ok-first.first c.in_ok-order.order c.args.budget a c.in_ok-propagator.ensures.conditions c.in_ok-first.ensures.value c.in_ok-order.ensures.value
     c.in_ok-search.ensures.walk c.in_ok-search.ensures.budget c.in_ok-search.ensures.walked in
     let h = first-answer a b _ c.in_ok-search.ensures.over c.in-Found.ensures.steps in
     found-finds p cs well (state-is p well) c.requires.conditions c.args.budget a b f h.0 c.in_ok-found_layout-in-Found.field-0 h.1 c.in_ok-found_layout-in-Found.ensures.1 c.in_ok-found_layout-in-Found.ensures.0
@@ -81,7 +82,7 @@ returns-in-Ended-clause-walk g c =
     let a = c.in_ok-search.search in
     let b = c.next.new.self in
     let well = c.requires.problem in
-    let f = fresh-search p cs c.in_ok-propagator.propagator.list.items c.in_ok-first.first c.in_ok-order.order c.args.budget a c.in_ok-propagator.ensures.conditions c.in_ok-first.ensures.value c.in_ok-order.ensures.value
+    let f = fresh-search p cs (map (λ (x : AnyIndexical g.row.K). x.cond) c.in_ok-propagator.propagator.list.items) c.in_ok-first.first c.in_ok-order.order c.args.budget a c.in_ok-propagator.ensures.conditions c.in_ok-first.ensures.value c.in_ok-order.ensures.value
     c.in_ok-search.ensures.walk c.in_ok-search.ensures.budget c.in_ok-search.ensures.walked in
     let h = first-answer a b _ c.in_ok-search.ensures.over c.in-Ended.ensures.steps in
     ended-lists p cs well (state-is p well) c.requires.conditions c.args.budget a b f h.0 h.1
@@ -93,7 +94,7 @@ returns-in-Ended-clause-layout g c =
     let a = c.in_ok-search.search in
     let b = c.next.new.self in
     let well = c.requires.problem in
-    let f = fresh-search p cs c.in_ok-propagator.propagator.list.items c.in_ok-first.first c.in_ok-order.order c.args.budget a c.in_ok-propagator.ensures.conditions c.in_ok-first.ensures.value c.in_ok-order.ensures.value
+    let f = fresh-search p cs (map (λ (x : AnyIndexical g.row.K). x.cond) c.in_ok-propagator.propagator.list.items) c.in_ok-first.first c.in_ok-order.order c.args.budget a c.in_ok-propagator.ensures.conditions c.in_ok-first.ensures.value c.in_ok-order.ensures.value
     c.in_ok-search.ensures.walk c.in_ok-search.ensures.budget c.in_ok-search.ensures.walked in
     let h = first-answer a b _ c.in_ok-search.ensures.over c.in-Ended.ensures.steps in
     ended-finds p cs well (state-is p well) c.requires.conditions c.args.budget a b f h.0 h.1
@@ -105,7 +106,7 @@ returns-in-Budget-clause-walk g c =
     let a = c.in_ok-search.search in
     let b = c.next.new.self in
     let well = c.requires.problem in
-    let f = fresh-search p cs c.in_ok-propagator.propagator.list.items c.in_ok-first.first c.in_ok-order.order c.args.budget a c.in_ok-propagator.ensures.conditions c.in_ok-first.ensures.value c.in_ok-order.ensures.value
+    let f = fresh-search p cs (map (λ (x : AnyIndexical g.row.K). x.cond) c.in_ok-propagator.propagator.list.items) c.in_ok-first.first c.in_ok-order.order c.args.budget a c.in_ok-propagator.ensures.conditions c.in_ok-first.ensures.value c.in_ok-order.ensures.value
     c.in_ok-search.ensures.walk c.in_ok-search.ensures.budget c.in_ok-search.ensures.walked in
     let h = first-answer a b _ c.in_ok-search.ensures.over c.in-Budget.ensures.steps in
     budget-lists p cs well (state-is p well) c.requires.conditions c.args.budget a b f h.0 h.1
