@@ -1,25 +1,21 @@
-ghost use Rattle.std.specs.Prelude.{◌≡◌, ◌≤◌, map};
-ghost use Rattle.geo_base.specs.declared.TheConstants.{MAX_DIMS};
+ghost use Rattle.std.specs.Prelude.{map};
 ghost use Rattle.rule_expand.specs.Rules.{plain_rule_data};
 ghost use Rattle.propagator_tests.specs.Ready.{IsReady};
 
 mod answers;
+mod cubes;
+mod propagators;
 mod task;
 mod tuples;
 
-use answers::{Answers, BUDGET, MOST_LAYOUTS, has_tuple, is_same_state, search_on, settled};
-use derivation::NoRecord;
-use fixpoint::PlainPropagate;
-use geo_base::MAX_DIMS;
+use answers::{Answers, MOST_LAYOUTS, has_tuple, is_same_state};
 use geo_tokens::fault::TextFault;
 use problem_text::problem::Problem;
+use propagators::{plain_answers, queued_in_1, queued_in_2, queued_in_3};
 use rule_expand::plain::PlainRule;
-use rule_ground::order::search_order;
-use rule_ground::start::start_state;
 use std::alloc::Global;
 use std::test::Fail;
-use task::{conditions, read_task};
-use trail_search::Search;
+use task::read_task;
 use tuples::{Put, keys_of, layouts, number_of_tuples};
 
 /// How many tuples a problem may have whose layouts are listed.
@@ -62,56 +58,31 @@ const LONGER_LINE: &[u8] =
 const TWO_CUBES: &[u8] =
     b"geost 1 dims 3 shape s box 0 0 0 size 3 3 3 ; object a as s at 0..3 0..3 0..1 ; object b as s at 0..3 0..3 0..1 ; rule r : apart ; end";
 
-/// What the plain propagator answers.
-fn plain_answers<const K: usize>(
-    alloc: Global,
-    problem: &Problem,
-    rules: &[PlainRule],
-) -> Result<Answers, TextFault>
-    requires k { K ≤ MAX_DIMS }
-    requires dims { problem.now.dims ≡ K }
-    requires ready { IsReady problem.now (map plain_rule_data rules.now) }
-{
-    let objects = problem.objects().len();
-    let list = conditions(alloc, problem, rules)?;
-    let mut plain = PlainPropagate::start(alloc, list, objects)?;
-    let state = settled(alloc, problem, &mut plain)?;
-    let first = start_state::<K>(alloc, problem)?;
-    let order = search_order(alloc, problem)?;
-    let record = NoRecord::new();
-    let mut search = Search::start(alloc, first, order, None, BUDGET, plain, record)?;
-    Ok(search_on(alloc, &mut search, objects, state)?)
-}
-
-/// What each propagator answers.
-fn all_answers<const K: usize>(
+/// What each propagator answers, in as many dimensions as the problem has.
+fn all_answers(
     alloc: Global,
     problem: &Problem,
     rules: &[PlainRule],
 ) -> Result<Vec<Answers>, TextFault>
-    requires k { K ≤ MAX_DIMS }
-    requires dims { problem.now.dims ≡ K }
     requires ready { IsReady problem.now (map plain_rule_data rules.now) }
 {
     let mut all = Vec::new(alloc);
-    all.push(plain_answers::<K>(alloc, problem, rules)?)?;
-    Ok(all)
-}
-
-/// The same in as many dimensions as the problem has.
-fn answers_in_its_dimensions(
-    alloc: Global,
-    problem: &Problem,
-    rules: &[PlainRule],
-) -> Result<Vec<Answers>, TextFault>
-    requires ready { IsReady problem.now (map plain_rule_data rules.now) }
-{
     match problem.dims() {
-        1 => all_answers::<1>(alloc, problem, rules),
-        2 => all_answers::<2>(alloc, problem, rules),
-        3 => all_answers::<3>(alloc, problem, rules),
-        _ => Ok(Vec::new(alloc)),
+        1 => {
+            all.push(plain_answers::<1>(alloc, problem, rules)?)?;
+            all.push(queued_in_1(alloc, problem, rules)?)?;
+        }
+        2 => {
+            all.push(plain_answers::<2>(alloc, problem, rules)?)?;
+            all.push(queued_in_2(alloc, problem, rules)?)?;
+        }
+        3 => {
+            all.push(plain_answers::<3>(alloc, problem, rules)?)?;
+            all.push(queued_in_3(alloc, problem, rules)?)?;
+        }
+        _ => {}
     }
+    Ok(all)
 }
 
 /// Whether the lists have the same keys.
@@ -186,7 +157,7 @@ fn verdict(alloc: Global, text: &[u8], number: usize) -> Result<&'static str, Te
     }
     let mut keys = keys_of(alloc, problem, layouts.as_slice())?;
     keys.sort()?;
-    let all = answers_in_its_dimensions(alloc, problem, rules)?;
+    let all = all_answers(alloc, problem, rules)?;
     judge_all(
         alloc,
         problem,

@@ -136,7 +136,7 @@ fn layout_text(alloc: Global, problem: &Problem, puts: &[Put]) -> Result<Vec<u8>
 }
 
 /// Whether the tuple is a layout.
-fn is_layout(
+pub fn is_layout(
     alloc: Global,
     problem: &Problem,
     rules: &[PlainRule],
