@@ -2,6 +2,7 @@ pub mod Disjunctions
 pub mod Widening
 pub mod Forbidden
 pub mod Names
+pub mod Free
 pub mod Limits
 pub mod Listed
 pub mod Apart

@@ -1,4 +1,4 @@
-ghost use Rattle.std.specs.Prelude.{◌≡◌, ◌==◌, ◌<◌, ◌≤◌, not, is_some, true, length, MatchOption};
+ghost use Rattle.std.specs.Prelude.{◌≡◌, ◌==◌, ◌<◌, ◌≤◌, not, is_some, true, length, IsTrue, MatchOption};
 ghost use Rattle.std.specs.List.{list_any};
 ghost use Rattle.std.specs.Option.{ForSome};
 ghost use Rattle.geo_base.specs.Boxes.{Has};
@@ -7,6 +7,7 @@ ghost use Rattle.geo_conditions.specs.Regions.{region_of};
 ghost use Rattle.geo_conditions.specs.Conditions.{possible, FitsIn};
 ghost use Rattle.indexical.specs.Apart.{SaysApart};
 ghost use Rattle.indexical.specs.Forbidden.{IsForbiddenBox};
+ghost use Rattle.indexical.specs.Free.{LeavesFree};
 ghost use Rattle.indexical.specs.Names.{names};
 
 use super::apart::ApartIndexical;
@@ -49,6 +50,18 @@ impl<const K: usize> AnyIndexical<K> {
         match &self.boxes {
             Some(boxes) => boxes.is_of(o),
             None => is_named(&self.cond, o),
+        }
+    }
+
+    /// Whether the object u, as the state has it, leaves the others free: the condition is possible wherever one of the others that it
+    /// names is put. It is told of conditions that are met by two boxes, and is false for each other one.
+    pub fn leaves_free(&self, s: &State<K>, u: ObjId) -> bool
+        requires fits { FitsIn self.now.cond s.now }
+        ensures { IsTrue result → LeavesFree self.now.cond s.now u.0 }
+    {
+        match &self.boxes {
+            Some(boxes) => boxes.leaves_free(s, u),
+            None => false,
         }
     }
 

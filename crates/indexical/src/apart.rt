@@ -2,7 +2,7 @@ ghost use Rattle.std.specs.Prelude.{ℕ, ◌<◌, ◌≤◌, ◌^◌, length};
 ghost use Rattle.geo_base.specs.declared.TheConstants.{MAX_DIMS};
 ghost use Rattle.indexical.specs.Apart.{apart_parts};
 
-use super::overlap::{must_overlap, overlap_beside};
+use super::overlap::{covers_some, must_overlap, overlap_beside};
 use super::placed::PlacedBox;
 use geo_base::{KBox, MAX_DIMS, Point};
 use geo_conditions::{ObjId, State};
@@ -21,7 +21,7 @@ pub struct ApartIndexical<const K: usize> {
 }
 
 impl<const K: usize> ApartIndexical<K> {
-    ghost use Rattle.std.specs.Prelude.{◌≡◌, ◌≢◌, ◌↔◌, ◌||◌, ◌==◌, IsTrue, nat_lt, if◌then◌else◌, MatchOption};
+    ghost use Rattle.std.specs.Prelude.{◌≡◌, ◌≢◌, ◌↔◌, ◌||◌, ◌==◌, IsTrue, true, nat_lt, if◌then◌else◌, List, ℤ, MatchOption};
     ghost use Rattle.geo_base.specs.Boxes.{Has};
     ghost use Rattle.geo_conditions.specs.Reach.{with_at, just};
     ghost use Rattle.geo_conditions.specs.Conditions.{FitsIn};
@@ -67,6 +67,24 @@ impl<const K: usize> ApartIndexical<K> {
         ensures { result ≡ (self.now.first.object.0 == o.0) || (self.now.second.object.0 == o.0) }
     {
         self.first.object().0 == o.0 || self.second.object().0 == o.0
+    }
+
+    /// Whether the object u, as the state has it, leaves the other object free: the boxes need not overlap wherever that one is
+    /// put. It is false where neither box is u's.
+    pub fn leaves_free(&self, s: &State<K>, u: ObjId) -> bool
+        requires first { self.now.first.object.0 < length s.now }
+        requires second { self.now.second.object.0 < length s.now }
+        ensures { IsTrue result → (o place : ℕ) (p : List ℤ) → o ≢ u.0
+            → ((self.now.first.object.0 == o) || (self.now.second.object.0 == o)) ≡ true
+            → MustOverlap self.now.first self.now.second (with_at s.now o place (just p)) → ⊥ }
+    {
+        if self.first.object().0 == u.0 {
+            !covers_some(&self.second, &self.first, s)
+        } else if self.second.object().0 == u.0 {
+            !covers_some(&self.first, &self.second, s)
+        } else {
+            false
+        }
     }
 
     /// The part of the region in which the boxes must overlap, where they must at c.

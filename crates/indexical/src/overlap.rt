@@ -1,6 +1,6 @@
 //! Where two boxes must overlap: the origins of one of them, beside the origins of the other.
 
-ghost use Rattle.std.specs.Prelude.{◌≡◌, ◌≢◌, ◌↔◌, ℕ, ◌^◌, ◌<◌, ◌≤◌, IsTrue, true, length, pos, neg_ℤ, ◌*◌, ℤ, ◌≤ℤ◌, ◌<ℤ◌, MatchOption};
+ghost use Rattle.std.specs.Prelude.{◌≡◌, ◌≢◌, ◌↔◌, ℕ, ◌^◌, ◌<◌, ◌≤◌, IsTrue, true, length, pos, neg_ℤ, ◌*◌, List, ℤ, ◌≤ℤ◌, ◌<ℤ◌, MatchOption};
 ghost use Rattle.std.specs.Int.{int_min, int_max};
 ghost use Rattle.geo_base.specs.Boxes.{coordinate, Has};
 ghost use Rattle.geo_conditions.specs.Reach.{reach, is_only, only, with_at, just};
@@ -154,6 +154,42 @@ fn has_shape<const K: usize>(b: &PlacedBox<K>, s: &State<K>) -> bool
         → is_only (reach s.now b.now.object.0).places b.now.place ≡ true) }
 {
     !b.leaf() || s.is_only_shape(b.object(), b.place())
+}
+
+/// Whether in the dimension d an origin of a is left at which a and b overlap wherever b's is held.
+#[inline(always)]
+fn clashes_somewhere<const K: usize>(
+    a: &PlacedBox<K>,
+    b: &PlacedBox<K>,
+    held: &KBox<K>,
+    d: usize,
+) -> bool
+    requires { d < K }
+    ensures { IsTrue result ↔ (first a.now b.now (region_of held.now) d ≤ℤ last a.now b.now (region_of held.now) d) }
+{
+    at_most(first_at(a, b, held, d), last_at(a, b, held, d))
+}
+
+/// Whether b covers an origin of a: b's object has b's shape for certain, where that is asked, and in each dimension an origin
+/// of a is left at which they overlap wherever b's object is. Else the boxes need not overlap wherever a's object is put.
+pub fn covers_some<const K: usize>(a: &PlacedBox<K>, b: &PlacedBox<K>, s: &State<K>) -> bool
+    requires k { K ≤ MAX_DIMS }
+    requires first { a.now.object.0 < length s.now }
+    requires second { b.now.object.0 < length s.now }
+    requires objects { b.now.object.0 ≢ a.now.object.0 }
+    ensures { (place : ℕ) (p : List ℤ)
+        → MustOverlap a.now b.now (with_at s.now a.now.object.0 place (just p)) → IsTrue result }
+{
+    if !has_shape(b, s) {
+        return false;
+    }
+    let held = s.region(b.object());
+    for d in 0..K {
+        if !clashes_somewhere(a, b, &held, d) {
+            return false;
+        }
+    }
+    true
 }
 
 /// Whether the boxes must overlap on the state.

@@ -15,7 +15,6 @@ use Rattle.sweep.proofs.PickedConditions.{picks-map, pick_in}
 use Rattle.object_pruning.specs.declared.kept.Placed.{Placed}
 use Rattle.object_pruning.specs.Same.{SameBut}
 use Rattle.object_pruning.specs.Pruning.{CanBe}
-use Rattle.object_pruning.specs.Ends.{IsOutermostPoint}
 use Rattle.object_pruning.specs.Kept.{AllSupport, placed}
 
 -- where the object is put, its own places and region do not show
@@ -56,10 +55,10 @@ set_alone S o r = record { objects = sym (length-set S o r); each = λ u ne. sym
 pub supports_set : {K : ℕ} (cs : List Cond) (S T : State) (o : ℕ) (r : Reach) (kept : List (Option (Placed K))) → o < length S → T ≡ set S o r → AllSupport cs S o kept → AllSupport cs T o kept
 supports_set cs S T o r kept h e a = supports_stay cs S T o kept h (subst (SameBut o S) (sym e) (set_alone S o r)) a
 
--- a point that was sought is kept
-pub supports_found : {K : ℕ} (cs : List Cond) (R S : State) (o d : ℕ) (up : Bool) (kept now : List (Option (Placed K))) (i : ℕ) (q : Placed K) → R ≡ S → IsOutermostPoint cs R o d up q → AllSupport cs R o kept → now ≡ set kept i (Some q) → AllSupport cs S o now
-supports_found cs R S o d up kept now i q e out a f =
-    subst (λ (X : State). AllSupport cs X o now) e (subst (AllSupport cs R o) (sym f) (supports_more cs R o kept i q a out.0.point.unrefuted))
+-- a point at which no condition is refuted is kept
+pub supports_found : {K : ℕ} (cs : List Cond) (R S : State) (o : ℕ) (kept now : List (Option (Placed K))) (i : ℕ) (q : Placed K) → R ≡ S → NoneRefuted cs (placed R o q) → AllSupport cs R o kept → now ≡ set kept i (Some q) → AllSupport cs S o now
+supports_found cs R S o kept now i q e n a f =
+    subst (λ (X : State). AllSupport cs X o now) e (subst (AllSupport cs R o) (sym f) (supports_more cs R o kept i q a n))
 
 -- said of the same values
 pub supports_as : {K : ℕ} (cs : List Cond) (S T : State) (o : ℕ) (xs ys : List (Option (Placed K))) → T ≡ S → ys ≡ xs → AllSupport cs S o xs → AllSupport cs T o ys

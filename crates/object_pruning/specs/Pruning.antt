@@ -1,6 +1,8 @@
 -- What the pruning of one object leaves.
 use Rattle.std.specs.Prelude.{◌≡◌, ℕ, ◌<◌, ◌↔◌, true, List, ℤ}
 use Rattle.geo_base.specs.Boxes.{coordinate}
+use Rattle.geo_base.specs.Ways.{IsSmall}
+use Rattle.geo_base.specs.declared.kbox.KBox.{KBox}
 use Rattle.geo_conditions.specs.declared.cond.Cond.{Cond}
 use Rattle.geo_conditions.specs.Reach.{State, reach, has, low, high, dims, Inside}
 use Rattle.geo_conditions.specs.Supported.{CanBeAt}
@@ -30,3 +32,7 @@ abbrev pub PrunesTo : List Cond → ℕ → State → Pruned → State → Type 
 PrunesTo cs o S Same T = (T ≡ S) × IsTight cs S o
 PrunesTo cs o S Changed T = HasSamePoints cs o S T × IsTight cs T o × Inside T S × (size T < size S)
 PrunesTo cs o S Empty T = ((s : ℕ) (p : List ℤ) → CanBe cs S o s p → ⊥) × Inside T S
+
+-- the coordinates of both corners lie within the limits
+abbrev pub IsSmallBox : {K : ℕ} → KBox K → Type 0
+IsSmallBox {K} b = IsSmall K b.lo.coordinates × IsSmall K b.hi.coordinates

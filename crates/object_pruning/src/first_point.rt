@@ -9,58 +9,12 @@ ghost use Rattle.derivation.specs.Events.{Continues};
 ghost use Rattle.sweep.specs.Picks.{ArePicks, picked};
 ghost use Rattle.sweep.specs.Sweep.{IsCovered, part_before};
 
-use super::counted::{Counted, answer};
+use super::region_sweep::first_point_in;
 use derivation::Recorder;
-use geo_base::{MAX_DIMS, Point, Steps, Way};
+use geo_base::{MAX_DIMS, Point, Way};
 use geo_conditions::{ObjId, State};
 use indexical::Indexical;
 use std::alloc::AllocError;
-use std::sync::ledger::Ledger;
-use sweep::sweep;
-
-// A sweep over the region of an object at a place.
-#[derive(Drop)]
-struct RegionSweep<'a, const K: usize, I: Indexical<K> + 'a> {
-    s: &'a State<K>,
-    o: ObjId,
-    place: u8,
-    list: &'a [I],
-    picks: &'a [u32],
-    way: &'a Way<K>,
-}
-
-impl<'a, const K: usize, I: Indexical<K> + 'a, R: Recorder> Counted<
-    R,
-    Result<Option<Point<K>>, AllocError>,
-> for RegionSweep<'a, K, I> {
-    ghost use Rattle.geo_base.specs.declared.TheConstants.{MAX_DIMS};
-
-    ghost ready = { λ x. (K ≤ MAX_DIMS) × AllFit (map I.cond x.list.now) x.s.now
-        × (x.o.0 < length x.s.now) × ArePicks (length x.list.now) x.picks.now × IsSmall x.s.now };
-
-    ghost right = { λ x old new result.
-        IfOk result (λ r. MatchOption r (HasNoPoint (picked (map I.cond x.list.now) x.picks.now) x.s.now x.o.0 x.place (reach x.s.now x.o.0).region)
-        (λ p. IsFirstPoint K x.way.now.lead x.way.now.up (picked (map I.cond x.list.now) x.picks.now) x.s.now x.o.0 x.place (reach x.s.now x.o.0).region p.coordinates))
-        × IfOk result (λ r. R.keeps ≡ true → MatchOption r
-        (IsCovered K (map I.cond x.list.now) x.picks.now x.s.now x.o.0 x.place (reach x.s.now x.o.0).region (R.list old) (R.list new))
-        (λ p. IsCovered K (map I.cond x.list.now) x.picks.now x.s.now x.o.0 x.place
-        (part_before x.way.now.lead x.way.now.up p.coordinates (reach x.s.now x.o.0).region) (R.list old) (R.list new)))
-        × OnErr result (R.keeps ≡ true → Continues (R.list old) (R.list new))
-        × OnErr result (min (R.refusals old + 1) (2 ^ 64 - 1) ≤ R.refusals new)
-        × (R.refusals old ≤ R.refusals new)
-        × (R.keeps ≡ false → IsOk result) };
-
-    fn answer<L: Ledger>(
-        &self,
-        to: &mut R,
-        steps: &mut Steps<L>,
-    ) -> Result<Option<Point<K>>, AllocError> {
-        let region = self.s.region(self.o);
-        sweep(
-            self.s, self.o, self.place, &region, self.list, self.picks, self.way, to, steps,
-        )
-    }
-}
 
 /// The first point of the object's region, in the way's order, at which no picked condition is refuted with the object at
 /// that place. None where there is no such point. The events that are added are a cover of the region, or of the part of it
@@ -95,15 +49,6 @@ pub fn first_point<const K: usize, I: Indexical<K>, R: Recorder>(
     ensures refusals { R.refusals rec.old ≤ R.refusals rec.new }
     ensures no_record { R.keeps ≡ false → IsOk result }
 {
-    answer(
-        &RegionSweep {
-            s,
-            o,
-            place,
-            list,
-            picks,
-            way,
-        },
-        rec,
-    )
+    let region = s.region(o);
+    first_point_in(s, o, place, &region, list, picks, way, rec)
 }

@@ -3,7 +3,6 @@
 ghost use Rattle.std.specs.Prelude.{◌≡◌, true, ◌<◌, ◌≤◌, ◌↔◌, ℤ, List, length, map, IfSome, IsTrue};
 ghost use Rattle.geo_conditions.specs.declared.cond.Cond.{Cond};
 ghost use Rattle.geo_conditions.specs.Conditions.{AllFit, possible};
-ghost use Rattle.geo_conditions.specs.Reach.{InBox, has, reach};
 ghost use Rattle.geo_conditions.specs.Supported.{NoneRefuted};
 ghost use Rattle.sweep.specs.Picks.{ArePicks, PicksAt, picked};
 ghost use Rattle.object_pruning.specs.Ends.{IsEndPoint, IsTightEnd};
@@ -11,7 +10,8 @@ ghost use Rattle.object_pruning.specs.Kept.{AllSupport, placed};
 ghost use Rattle.object_pruning.specs.Pruning.{CanBe};
 
 use super::kept::{
-    Placed, end_of, end_slot, end_stands, is_possible_at, keep, kept_in, place_slot, place_stands,
+    Placed, end_of, end_slot, end_stands, is_possible_at, is_there, keep, kept_in, place_slot,
+    place_stands,
 };
 use geo_base::MAX_DIMS;
 use geo_conditions::{ObjId, State};
@@ -57,18 +57,6 @@ fn is_unrefuted<const K: usize, I: Indexical<K>>(
         }
     }
     true
-}
-
-// Whether the object has that place and that point.
-fn is_there<const K: usize>(s: &State<K>, o: ObjId, q: &Placed<K>) -> bool
-    requires k { K ≤ MAX_DIMS }
-    requires object { o.0 < length s.now }
-    ensures place { IsTrue result → has s.now o.0 q.now.place ≡ true }
-    ensures point { IsTrue result → InBox q.now.point.coordinates (reach s.now o.0).region }
-{
-    let _objects = s.objects();
-    let _coordinates = q.point.dimensions();
-    s.has_shape(o, q.place) && s.region(o).has(&q.point)
 }
 
 // Whether the object can be there: it has the place and the point, and no picked condition is refuted.

@@ -1,9 +1,10 @@
 //! Supports of an object that are kept.
 
-ghost use Rattle.std.specs.Prelude.{◌≡◌, ℕ, ◌+◌, ◌*◌, ◌<◌, ◌≤◌, List, ℤ, length, map, slice_index_or, slice_set, IfSome, IsTrue};
+ghost use Rattle.std.specs.Prelude.{◌≡◌, ℕ, ◌+◌, ◌*◌, ◌<◌, ◌≤◌, List, ℤ, length, map, slice_index_or, slice_set, true, IfSome, IsTrue};
 ghost use Rattle.geo_base.specs.Boxes.{coordinate};
 ghost use Rattle.geo_conditions.specs.declared.cond.Cond.{Cond};
 ghost use Rattle.geo_conditions.specs.Conditions.{possible, FitsIn};
+ghost use Rattle.geo_conditions.specs.Reach.{InBox, has, reach};
 ghost use Rattle.object_pruning.specs.Ends.{IsTightEnd, end};
 ghost use Rattle.object_pruning.specs.Kept.{AllSupport, placed, retried};
 ghost use Rattle.object_pruning.specs.Pruning.{CanBe};
@@ -158,6 +159,18 @@ pub fn kept_in<const K: usize>(kept: &[Option<Placed<K>>], slot: usize) -> Optio
     }
 }
 
+/// Whether the object has that place and that point.
+pub fn is_there<const K: usize>(s: &State<K>, o: ObjId, q: &Placed<K>) -> bool
+    requires k { K ≤ MAX_DIMS }
+    requires object { o.0 < length s.now }
+    ensures place { IsTrue result → has s.now o.0 q.now.place ≡ true }
+    ensures point { IsTrue result → InBox q.now.point.coordinates (reach s.now o.0).region }
+{
+    let _objects = s.objects();
+    let _coordinates = q.point.dimensions();
+    s.has_shape(o, q.place) && s.region(o).has(&q.point)
+}
+
 // The support in a slot, if the object still has its place and its point.
 fn kept_at<const K: usize>(
     s: &State<K>,
@@ -170,14 +183,8 @@ fn kept_at<const K: usize>(
     ensures { IfSome result (λ q. (cs : List Cond) → AllSupport cs s.now o.0 kept.now
         → CanBe cs s.now o.0 q.place q.point.coordinates) }
 {
-    let _objects = s.objects();
     let q = kept_in(kept, slot)?;
-    let _coordinates = q.point.dimensions();
-    if s.has_shape(o, q.place) && s.region(o).has(&q.point) {
-        Some(q)
-    } else {
-        None
-    }
+    if is_there(s, o, &q) { Some(q) } else { None }
 }
 
 /// Whether a point is kept at which the object still has that place.

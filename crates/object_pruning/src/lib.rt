@@ -5,10 +5,12 @@ mod counted;
 mod first_point;
 mod hints;
 mod kept;
+mod lasting;
 mod move_ends;
 mod outer_points;
 mod places;
 mod prune;
+mod region_sweep;
 
 pub use kept::{Placed, retry, slots};
 pub use prune::{Pruned, prune_kept, prune_object};

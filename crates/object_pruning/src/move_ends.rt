@@ -13,6 +13,7 @@ ghost use Rattle.object_pruning.specs.Same.{SameBut};
 
 use super::hints::knows_end;
 use super::kept::{Placed, end_of, end_slot, keep_found};
+use super::lasting::lasting_point;
 use super::outer_points::sought_end;
 use derivation::Recorder;
 use geo_base::MAX_DIMS;
@@ -39,7 +40,7 @@ fn set_end<const K: usize>(t: &mut Trailed<K>, o: ObjId, d: usize, up: bool, v: 
 }
 
 // Moves one end of an interval to the outermost coordinate of the object's points, where no known point has it, records it,
-// and says whether it moved. The point that is sought is kept from then on, and a hint.
+// and says whether it moved. A point with that coordinate that lasts is kept from then on, and a hint.
 fn move_end<const K: usize, I: Indexical<K>, R: Recorder>(
     t: &mut Trailed<K>,
     o: ObjId,
@@ -77,7 +78,8 @@ fn move_end<const K: usize, I: Indexical<K>, R: Recorder>(
     }
     let q = sought_end(state, o, d, up, list, picks, rec)?;
     let v = q.point.get(d);
-    keep_found(kept, hints, end_slot(d, up), &q);
+    let lasting = lasting_point(state, o, d, up, &q, list, picks);
+    keep_found(kept, hints, end_slot(d, up), &lasting);
     if v == end_of(state, o, d, up) {
         return Ok(false);
     }

@@ -12,6 +12,7 @@ use Rattle.geo_conditions.specs.Reach.{State, reach, nowhere, just}
 use Rattle.geo_conditions.specs.Supported.{NoneRefuted}
 use Rattle.geo_conditions.proofs.Points.{reach_same, reach_other}
 use Rattle.indexical.specs.Names.{names}
+use Rattle.indexical.specs.Free.{LeavesFree}
 use Rattle.sweep.specs.Picks.{picked}
 use Rattle.sweep.proofs.PickedConditions.{picked_all, pick_in}
 use Rattle.object_pruning.specs.declared.kept.Placed.{Placed}
@@ -19,7 +20,7 @@ use Rattle.object_pruning.specs.Kept.{AllSupport, placed, retried}
 use Rattle.object_pruning.specs.Same.{SameBut}
 use Rattle.object_pruning.proofs.Supports.{supports_at}
 use Rattle.queued_fixpoint.specs.declared.links.Links.{Links}
-use Rattle.queued_fixpoint.specs.Links.{PicksOf, is_among, row, AreLinks}
+use Rattle.queued_fixpoint.specs.Links.{PicksOf, NamedBy, is_among, row, AreLinks}
 use Rattle.queued_fixpoint.specs.Near.{NearUnrefuted}
 use Rattle.queued_fixpoint.specs.Kept.{Slots, kept_at, IsBlank, AllStand, StayFrom, Retries, BothUnrefuted, RetriesNear, StandsAlone}
 use Rattle.queued_fixpoint.proofs.Names.{same_answer}
@@ -85,6 +86,20 @@ retries_skip c S u list o old xs s r = record {
         | inl t ↦ r.tried p i q ne t e
         | inr t ↦ absurd (ne (sym (eqb-true o.0 p t) ∙ s))
       ];
+}
+
+among_below : (o n : ℕ) (list : List ObjId) → All (λ u. u.0 < n) list → is_among o list ≡ true → o < n
+among_below o n [] a t = absurd (false≢true t)
+among_below o n (u ∷ us) a t = elim (or_cases (nat_eq u.0 o) (is_among o us) t) [
+  | inl e ↦ let here : u.0 < n = a 0 u (omega arith) in omega (arith, here, eqb-true u.0 o e)
+  | inr e ↦ among_below o n us (λ k d b. a (suc k) d (omega (arith, b))) e
+]
+
+-- where u leaves the others free there is nothing to ask
+pub retries_free : {K : ℕ} (c : Cond) (S : State) (u : ℕ) (list : List ObjId) (xs : Slots K) → NamedBy c (length S) list → LeavesFree c S u → Retries c S u list xs xs
+retries_free c S u list xs n f = record {
+  stay = λ o i q e. e;
+  tried = λ o i q ne a e. f o q.place q.point.coordinates ne (sym (n.each o (among_below o (length S) list n.below a)) ∙ a);
 }
 
 -- ---- the conditions that name u ask again

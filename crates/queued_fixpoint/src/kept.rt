@@ -1,9 +1,8 @@
 //! Points that are kept of the objects, and asked again where something changed.
 
 ghost use Rattle.std.specs.Prelude.{◌≡◌, ℕ, ◌<◌, ◌≤◌, None, List, length, map, slice_index_or, IfOk};
-ghost use Rattle.std.specs.List.{All};
 ghost use Rattle.geo_conditions.specs.Conditions.{AllFit, FitsIn};
-ghost use Rattle.queued_fixpoint.specs.Links.{AreLinks};
+ghost use Rattle.queued_fixpoint.specs.Links.{AreLinks, NamedBy};
 ghost use Rattle.queued_fixpoint.specs.Kept.{IsBlank, Retries, RetriesNear};
 
 use super::links::Links;
@@ -40,24 +39,27 @@ pub fn all_blank<const K: usize>(
     Ok(kept)
 }
 
-// Asks the condition again at what is kept of the objects of the list, but of u, and forgets where it is refuted.
+// Asks the condition again at what is kept of the objects that it names, but of u, and forgets where it is refuted. Where u
+// leaves them free, there is nothing to ask.
 fn retry_named<const K: usize>(
     x: &AnyIndexical<K>,
     named: &[ObjId],
-    u: usize,
+    u: ObjId,
     s: &State<K>,
     kept: &mut [Vec<Option<Placed<K>>>],
 )
     requires k { (0 < K) × (K ≤ MAX_DIMS) }
     requires fits { FitsIn x.now.cond s.now }
     requires objects { length kept.old ≡ length s.now }
-    requires named { All (λ o. o.0 < length s.now) named.now }
-    ensures { Retries x.now.cond s.now u named.now kept.old kept.new }
+    requires named { NamedBy x.now.cond (length s.now) named.now }
+    ensures { Retries x.now.cond s.now u.0 named.now kept.old kept.new }
 {
+    if x.leaves_free(s, u) {
+        return;
+    }
     for o in named {
-        let object = o.0 as usize;
-        if object != u {
-            retry(&mut kept[object], s, *o, x);
+        if o.0 != u.0 {
+            retry(&mut kept[o.0 as usize], s, *o, x);
         }
     }
 }
@@ -77,8 +79,10 @@ pub fn retry_near<const K: usize>(
     requires object { u < length s.now }
     ensures { RetriesNear (map (λ x. x.cond) list.now) s.now u kept.old kept.new }
 {
+    let _objects = s.objects();
+    let changed = ObjId(u as u16);
     for number in &links.picks[u] {
         let i = *number as usize - 1;
-        retry_named(&list[i], &links.named[i], u, s, kept);
+        retry_named(&list[i], &links.named[i], changed, s, kept);
     }
 }

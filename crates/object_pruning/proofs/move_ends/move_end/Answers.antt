@@ -51,8 +51,8 @@ returns-then-v-end_of-clause-led g c = λ kept.
 pub returns-then-v-end_of-clause-kept : goal.returns-then-v-end_of-clause-kept
 returns-then-v-end_of-clause-kept g c =
     let cs = picked (map g.I.Indexical.cond c.args.list.now) c.args.picks.now in
-    supports_found cs c.state-state.result.now c.args.t.now.state c.args.o.0 c.args.d c.args.up c.knows_end.new.kept c.keep_found.new.kept c.end_slot.result c.in_ok-q.q
-    c.state-state.ensures.value c.in_ok-q.ensures.point c.knows_end.ensures.kept c.keep_found.ensures
+    supports_found cs c.state-state.result.now c.args.t.now.state c.args.o.0 c.knows_end.new.kept c.keep_found.new.kept c.end_slot.result c.lasting_point-lasting.result
+    c.state-state.ensures.value c.lasting_point-lasting.ensures c.knows_end.ensures.kept c.keep_found.ensures
 
 pub set_end-requires : goal.set_end-requires
 set_end-requires g c =
@@ -114,5 +114,5 @@ returns-clause-kept g c =
     let o = c.args.o.0 in
     let v = coordinate c.in_ok-q.q.point.coordinates c.args.d in
     let kept : AllSupport cs S o c.keep_found.new.kept =
-    supports_found cs c.state-state.result.now S o c.args.d c.args.up c.knows_end.new.kept c.keep_found.new.kept c.end_slot.result c.in_ok-q.q c.state-state.ensures.value c.in_ok-q.ensures.point c.knows_end.ensures.kept c.keep_found.ensures in
+    supports_found cs c.state-state.result.now S o c.knows_end.new.kept c.keep_found.new.kept c.end_slot.result c.lasting_point-lasting.result c.state-state.ensures.value c.lasting_point-lasting.ensures c.knows_end.ensures.kept c.keep_found.ensures in
     supports_set cs S c.set_end.new.t.state o (moved (end_side c.args.up c.args.d v) (reach S o)) c.keep_found.new.kept c.requires.object (moved_there g c) kept

@@ -7,9 +7,9 @@ use Rattle.object_pruning.specs.Kept.{retried}
 use Rattle.queued_fixpoint.specs.Links.{row}
 use Rattle.queued_fixpoint.specs.Kept.{Slots, Retries}
 use Rattle.queued_fixpoint.proofs.Linking.{row_get}
-use Rattle.queued_fixpoint.proofs.Standing.{retries_put, retries_skip}
+use Rattle.queued_fixpoint.proofs.Standing.{retries_free, retries_put, retries_skip}
 use Rattle.queued_fixpoint.proofs.kept.retry_named.Goals as goal
-use Rattle.queued_fixpoint.proofs.kept.retry_named.Goals.{then-object-u, else-object-u}
+use Rattle.queued_fixpoint.proofs.kept.retry_named.Goals.{then-o-u, else-o-u}
 
 pub loop-o-preserved : goal.loop-o-preserved
 loop-o-preserved g c =
@@ -20,13 +20,13 @@ loop-o-preserved g c =
     let xs = c.loop-o.kept in
     let x = c.args.x.now.cond in
     let S = c.args.s.now in
-    let u = c.args.u in
+    let u = c.args.u.0 in
     let more : take (i + 1) list ≡ take i list ++ o ∷ [] = take_more list i (record { 0 = 0 }) c.loop-o-test.true in
-    subst (λ (l : List ObjId). Retries x S u l old c.if-object-u.kept) (sym more) (elim c.if-object-u.branch [
-      | then-object-u w ↦
-          let there = c.requires.named i (record { 0 = 0 }) c.loop-o-test.true in
+    subst (λ (l : List ObjId). Retries x S u l old c.if-o-u.kept) (sym more) (elim c.if-o-u.branch [
+      | then-o-u w ↦
+          let there = c.requires.named.below i (record { 0 = 0 }) c.loop-o-test.true in
           let h : o.0 < length xs = omega (arith, there, c.requires.objects, c.loop-o.auto.kept) in
-          let r = w.index-kept-object.result in
+          let r = w.index-kept-o.result in
           let was : Vec (Option (Placed g.row.K)) Global = get_or xs o.0 r in
           let now = w.retry.new.kept in
           let value : w.deref_mut.result.now ≡ row xs o.0 = w.deref_mut.ensures.value ∙ sym (row_get xs o.0 r h) in
@@ -34,5 +34,8 @@ loop-o-preserved g c =
           let long : length now ≡ length was.items = w.retry.auto.kept ∙ ap length w.deref_mut.ensures.value in
           let back : (with_items was now).items ≡ now = with_items_is was now (omega (arith, long, was.ok)) in
           subst (λ (vs : Slots g.row.K). Retries x S u (take i list ++ o ∷ []) old vs) (sym w.kept-is) (retries_put x S u (take i list) o old xs (with_items was now) h (back ∙ items) c.loop-o.invariant)
-      | else-object-u w ↦ subst (λ (vs : Slots g.row.K). Retries x S u (take i list ++ o ∷ []) old vs) (sym w.kept-is) (retries_skip x S u (take i list) o old xs w.if-object-u.false c.loop-o.invariant)
+      | else-o-u w ↦ subst (λ (vs : Slots g.row.K). Retries x S u (take i list ++ o ∷ []) old vs) (sym w.kept-is) (retries_skip x S u (take i list) o old xs w.if-o-u.false c.loop-o.invariant)
     ])
+
+pub returns-then-leaves_free : goal.returns-then-leaves_free
+returns-then-leaves_free g c = retries_free c.args.x.now.cond c.args.s.now c.args.u.0 c.args.named.now c.args.kept.now c.requires.named (c.leaves_free.ensures c.if-leaves_free.true)

@@ -1,11 +1,10 @@
 use Rattle.std.proofs.Common.{◌≡◌, ◌<◌, ◌-◌, ℕ, List, length, map, get_or, slice_index, ap, sym, ◌∙◌, subst, arith, rules, Vec, Global}
-use Rattle.std.specs.List.{All}
 use Rattle.std.proofs.lemmas.List.{length-map, get_or-map}
 use Rattle.geo_conditions.specs.declared.cond.Cond.{Cond}
 use Rattle.geo_conditions.specs.declared.object.ObjId.{ObjId}
 use Rattle.geo_conditions.specs.Conditions.{FitsIn}
 use Rattle.indexical.specs.declared.any.AnyIndexical.{AnyIndexical}
-use Rattle.queued_fixpoint.specs.Links.{row}
+use Rattle.queued_fixpoint.specs.Links.{NamedBy, row}
 use Rattle.queued_fixpoint.proofs.Linking.{row_get, number_in}
 use Rattle.queued_fixpoint.proofs.Standing.{retried_start, retried_more, retried_end}
 use Rattle.queued_fixpoint.proofs.kept.retry_near.Goals as goal
@@ -106,7 +105,7 @@ retry_named-requires g c =
     let q : c.deref.result.now ≡ row l.named.items i = c.deref.ensures.value ∙ ap (λ (v : Vec ObjId Global). v.items) c.index-in-loop-number.ensures ∙ sym (row_get l.named.items i c.index-in-loop-number.result.now b.1) in
     let fits : FitsIn x.cond S = subst (λ (y : Cond). FitsIn y S) (at x.cond) (c.requires.fits i x.cond (omega (arith, m, n))) in
     let objects : length c.loop-number.kept ≡ length S = c.loop-number.auto.kept ∙ c.requires.objects in
-    let named : All (λ o. o.0 < length S) c.deref.result.now = subst (All (λ o. o.0 < length S)) (sym q) b.2 in
+    let named : NamedBy x.cond (length S) c.deref.result.now = subst (λ (y : Cond). NamedBy y (length S) c.deref.result.now) (at x.cond) (subst (NamedBy (get_or cs i x.cond) (length S)) (sym q) (a.named i x.cond (omega (arith, m, n)))) in
     search rules
 
 pub loop-number-preserved : goal.loop-number-preserved

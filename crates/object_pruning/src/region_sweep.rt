@@ -1,0 +1,120 @@
+//! The first point of a region of an object.
+
+ghost use Rattle.std.specs.Prelude.{◌≡◌, ◌+◌, ◌-◌, ◌^◌, ◌<◌, ◌≤◌, false, true, length, map, min, IfOk, IsOk, MatchOption, OnErr};
+ghost use Rattle.geo_conditions.specs.Conditions.{AllFit};
+ghost use Rattle.geo_conditions.specs.Regions.{region_of};
+ghost use Rattle.geo_conditions.specs.Supported.{HasNoPoint, IsFirstPoint};
+ghost use Rattle.derivation.specs.Events.{Continues};
+ghost use Rattle.sweep.specs.Picks.{ArePicks, picked};
+ghost use Rattle.sweep.specs.Sweep.{IsCovered, part_before};
+ghost use Rattle.object_pruning.specs.Pruning.{IsSmallBox};
+
+use super::counted::{Counted, answer};
+use derivation::Recorder;
+use geo_base::{KBox, MAX_DIMS, Point, Steps, Way};
+use geo_conditions::{ObjId, State};
+use indexical::Indexical;
+use std::alloc::AllocError;
+use std::sync::ledger::Ledger;
+use sweep::sweep;
+
+// A sweep over a region of an object at a place.
+#[derive(Drop)]
+struct RegionSweep<'a, const K: usize, I: Indexical<K> + 'a> {
+    s: &'a State<K>,
+    o: ObjId,
+    place: u8,
+    region: &'a KBox<K>,
+    list: &'a [I],
+    picks: &'a [u32],
+    way: &'a Way<K>,
+}
+
+impl<'a, const K: usize, I: Indexical<K> + 'a, R: Recorder> Counted<
+    R,
+    Result<Option<Point<K>>, AllocError>,
+> for RegionSweep<'a, K, I> {
+    ghost use Rattle.geo_base.specs.declared.TheConstants.{MAX_DIMS};
+
+    ghost ready = { λ x. (K ≤ MAX_DIMS) × AllFit (map I.cond x.list.now) x.s.now
+        × (x.o.0 < length x.s.now) × ArePicks (length x.list.now) x.picks.now
+        × IsSmallBox x.region.now };
+
+    ghost right = { λ x old new result.
+        IfOk result (λ r. MatchOption r (HasNoPoint (picked (map I.cond x.list.now) x.picks.now) x.s.now x.o.0 x.place (region_of x.region.now))
+        (λ p. IsFirstPoint K x.way.now.lead x.way.now.up (picked (map I.cond x.list.now) x.picks.now) x.s.now x.o.0 x.place (region_of x.region.now) p.coordinates))
+        × IfOk result (λ r. R.keeps ≡ true → MatchOption r
+        (IsCovered K (map I.cond x.list.now) x.picks.now x.s.now x.o.0 x.place (region_of x.region.now) (R.list old) (R.list new))
+        (λ p. IsCovered K (map I.cond x.list.now) x.picks.now x.s.now x.o.0 x.place
+        (part_before x.way.now.lead x.way.now.up p.coordinates (region_of x.region.now)) (R.list old) (R.list new)))
+        × OnErr result (R.keeps ≡ true → Continues (R.list old) (R.list new))
+        × OnErr result (min (R.refusals old + 1) (2 ^ 64 - 1) ≤ R.refusals new)
+        × (R.refusals old ≤ R.refusals new)
+        × (R.keeps ≡ false → IsOk result) };
+
+    fn answer<L: Ledger>(
+        &self,
+        to: &mut R,
+        steps: &mut Steps<L>,
+    ) -> Result<Option<Point<K>>, AllocError> {
+        sweep(
+            self.s,
+            self.o,
+            self.place,
+            self.region,
+            self.list,
+            self.picks,
+            self.way,
+            to,
+            steps,
+        )
+    }
+}
+
+/// The first point of a region, in the way's order, at which no picked condition is refuted with the object at
+/// that place. None where there is no such point. The events that are added are a cover of the region, or of the part of it
+/// that comes before the point in the lead dimension. The only error is want of memory, and then a refusal was counted.
+pub fn first_point_in<const K: usize, I: Indexical<K>, R: Recorder>(
+    s: &State<K>,
+    o: ObjId,
+    place: u8,
+    region: &KBox<K>,
+    list: &[I],
+    picks: &[u32],
+    way: &Way<K>,
+    rec: &mut R,
+) -> Result<Option<Point<K>>, AllocError>
+    requires k { K ≤ MAX_DIMS }
+    requires fits { AllFit (map I.cond list.now) s.now }
+    requires object { o.0 < length s.now }
+    requires picks { ArePicks (length list.now) picks.now }
+    requires small { IsSmallBox region.now }
+    ensures point { let cs = picked (map I.cond list.now) picks.now in
+        let b = region_of region.now in
+        IfOk result (λ r. MatchOption r (HasNoPoint cs s.now o.0 place b)
+        (λ p. IsFirstPoint K way.now.lead way.now.up cs s.now o.0 place b p.coordinates)) }
+    ensures covered { let cs = map I.cond list.now in
+        let b = region_of region.now in
+        IfOk result (λ r. R.keeps ≡ true → MatchOption r
+        (IsCovered K cs picks.now s.now o.0 place b (R.list rec.old) (R.list rec.new))
+        (λ p. IsCovered K cs picks.now s.now o.0 place
+        (part_before way.now.lead way.now.up p.coordinates b) (R.list rec.old) (R.list rec.new))) }
+    ensures err { OnErr result (R.keeps ≡ true → Continues (R.list rec.old) (R.list rec.new)) }
+    ensures refused { OnErr result
+        (min (R.refusals rec.old + 1) (2 ^ 64 - 1) ≤ R.refusals rec.new) }
+    ensures refusals { R.refusals rec.old ≤ R.refusals rec.new }
+    ensures no_record { R.keeps ≡ false → IsOk result }
+{
+    answer(
+        &RegionSweep {
+            s,
+            o,
+            place,
+            region,
+            list,
+            picks,
+            way,
+        },
+        rec,
+    )
+}
