@@ -1,6 +1,7 @@
 -- The objects that a condition names.
-use Rattle.std.specs.Prelude.{◌==◌, ◌||◌, ℕ, Bool, false}
+use Rattle.std.specs.Prelude.{◌≡◌, ◌==◌, ◌||◌, ℕ, ◌<◌, ◌≤◌, Bool, true, false, Option, None, Some}
 use Rattle.std.specs.List.{list_any}
+use Rattle.geo_conditions.specs.declared.object.ObjId.{ObjId}
 use Rattle.geo_conditions.specs.declared.cond.Cond.{Cond, Lin, Shape, NotShape, AtLeast', Row_of-Cond, end_of-Cond, more_of-Cond}
 
 abbrev mutual
@@ -14,3 +15,17 @@ abbrev mutual
   pub any_names : {m : _} → ℕ → Row_of-Cond m → Bool
   any_names o end_of-Cond = false
   any_names o (more_of-Cond c cs) = names o c || any_names o cs
+
+-- the test is met by no object from `from` on and before `end`
+abbrev pub MeetNone : (ℕ → Bool) → ℕ → ℕ → Type 0
+MeetNone test from end = (o : ℕ) → from ≤ o → o < end → test o ≡ false
+
+-- u is the first object that meets the test, of those from `from` on; none where none meets it
+abbrev pub IsFirst : (ℕ → Bool) → ℕ → Option ObjId → Type 0
+IsFirst test from None = (o : ℕ) → from ≤ o → test o ≡ false
+IsFirst test from (Some u) = (from ≤ u.0) × (test u.0 ≡ true) × MeetNone test from u.0
+
+-- the same of those before `end`
+abbrev pub IsFirstBefore : (ℕ → Bool) → ℕ → ℕ → Option ObjId → Type 0
+IsFirstBefore test from end None = MeetNone test from end
+IsFirstBefore test from end (Some u) = (u.0 < end) × (from ≤ u.0) × (test u.0 ≡ true) × MeetNone test from u.0

@@ -8,14 +8,14 @@ ghost use Rattle.geo_conditions.specs.Conditions.{possible, FitsIn};
 ghost use Rattle.indexical.specs.Apart.{SaysApart};
 ghost use Rattle.indexical.specs.Forbidden.{IsForbiddenBox};
 ghost use Rattle.indexical.specs.Free.{LeavesFree};
-ghost use Rattle.indexical.specs.Names.{names};
+ghost use Rattle.indexical.specs.Names.{IsFirstBefore, names};
 
 use super::apart::ApartIndexical;
 use super::indexical::Indexical;
 use super::tree::forbid_tree;
 use super::two_boxes::two_boxes;
 use geo_base::{KBox, MAX_DIMS, Point, Steps, Way};
-use geo_conditions::{Cond, Form, ObjId, State, refuted};
+use geo_conditions::{Cond, Form, MAX_OBJECTS, ObjId, State, refuted};
 use std::sync::ledger::Ledger;
 
 /// A condition of any kind. One that says that two boxes do not overlap is met by its boxes, each
@@ -43,13 +43,21 @@ impl<const K: usize> AnyIndexical<K> {
         self.boxes.is_some()
     }
 
-    /// Whether the condition names the object.
-    pub fn names(&self, o: ObjId) -> bool
-        ensures { result ≡ names o.0 self.now.cond }
+    /// The first object that the condition names, of those from `from` on and before `end`.
+    pub fn first_named(&self, from: usize, end: usize) -> Option<ObjId>
+        requires { end ≤ MAX_OBJECTS }
+        ensures { IsFirstBefore (λ o. names o self.now.cond) from end result }
     {
         match &self.boxes {
-            Some(boxes) => boxes.is_of(o),
-            None => is_named(&self.cond, o),
+            Some(boxes) => {
+                let o = boxes.first_from(from)?;
+                if usize::from(o.0) < end {
+                    Some(o)
+                } else {
+                    None
+                }
+            }
+            None => first_in_tree(&self.cond, from, end),
         }
     }
 
@@ -103,6 +111,20 @@ fn is_named(c: &Cond, o: ObjId) -> bool
             false
         }
     }
+}
+
+/// The first object that the condition names, of those from `from` on and before `end`.
+fn first_in_tree(c: &Cond, from: usize, end: usize) -> Option<ObjId>
+    requires { end ≤ MAX_OBJECTS }
+    ensures { IsFirstBefore (λ o. names o c.now) from end result }
+{
+    for o in from..end {
+        let object = ObjId(o as u16);
+        if is_named(c, object) {
+            return Some(object);
+        }
+    }
+    None
 }
 
 /// The forbidden box of a condition of any kind.

@@ -28,6 +28,7 @@ impl<const K: usize> ApartIndexical<K> {
     ghost use Rattle.geo_conditions.specs.Regions.{region_of};
     ghost use Rattle.indexical.specs.Apart.{apart, MustOverlap, IsOverlapBox};
     ghost use Rattle.indexical.specs.Disjunctions.{IsDisjunction};
+    ghost use Rattle.indexical.specs.Names.{IsFirst};
 
     /// The condition for two boxes of different objects. It takes no memory.
     pub fn new(a: PlacedBox<K>, b: PlacedBox<K>) -> ApartIndexical<K>
@@ -62,11 +63,19 @@ impl<const K: usize> ApartIndexical<K> {
         first < objects && second < objects
     }
 
-    /// Whether the condition names the object.
-    pub fn is_of(&self, o: ObjId) -> bool
-        ensures { result ≡ (self.now.first.object.0 == o.0) || (self.now.second.object.0 == o.0) }
+    /// The first of the two objects, of those from `from` on.
+    pub fn first_from(&self, from: usize) -> Option<ObjId>
+        ensures { IsFirst (λ o. (self.now.first.object.0 == o) || (self.now.second.object.0 == o)) from result }
     {
-        self.first.object().0 == o.0 || self.second.object().0 == o.0
+        let first = self.first.object();
+        let second = self.second.object();
+        if from <= usize::from(first.0) {
+            Some(first)
+        } else if from <= usize::from(second.0) {
+            Some(second)
+        } else {
+            None
+        }
     }
 
     /// Whether the object u, as the state has it, leaves the other object free: the boxes need not overlap wherever that one is

@@ -101,8 +101,9 @@ fn any_condition_names_its_objects(rt: HostRuntime) -> Result<(), Fail> {
     assert!(rt; fits(&cond, &s));
     let x = AnyIndexical::<2>::from_cond(cond);
     assert!(rt; !x.has_boxes());
-    assert!(rt; x.names(A));
-    assert!(rt; !x.names(ObjId(1)));
+    assert_eq!(rt; x.first_named(0, 2), Some(A));
+    assert!(rt; x.first_named(1, 2).is_none());
+    assert!(rt; x.first_named(0, 0).is_none());
     assert!(rt; x.refuted(&s));
     Ok(())
 }

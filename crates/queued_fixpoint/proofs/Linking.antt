@@ -217,6 +217,18 @@ linked_skip c k o named old new l f = record {
   left = λ u h. l.left u (omega arith);
 }
 
+-- the next objects are not named
+pub linked_on : (c : Cond) (k o m : ℕ) (named : List ObjId) (old new : List (Vec ℕ Global)) → LinkedBelow c k o named old new → ((u : ℕ) → o ≤ u → u < o + m → names u c ≡ false) → LinkedBelow c k (o + m) named old new
+linked_on c k o zero named old new l f = let e : o ≡ o + 0 = omega arith in subst (λ (n : ℕ). LinkedBelow c k n named old new) e l
+linked_on c k o (suc m) named old new l f =
+    let e : o + m + 1 ≡ o + suc m = omega arith in
+    subst (λ (n : ℕ). LinkedBelow c k n named old new) e (linked_skip c k (o + m) named old new (linked_on c k o m named old new l (λ u a b. f u a (omega (arith, b)))) (f (o + m) (omega arith) (omega arith)))
+
+pub linked_upto : (c : Cond) (k o n : ℕ) (named : List ObjId) (old new : List (Vec ℕ Global)) → LinkedBelow c k o named old new → o ≤ n → ((u : ℕ) → o ≤ u → u < n → names u c ≡ false) → LinkedBelow c k n named old new
+linked_upto c k o n named old new l h f =
+    let e : o + (n - o) ≡ n = omega (arith, h) in
+    subst (λ (m : ℕ). LinkedBelow c k m named old new) e (linked_on c k o (n - o) named old new l (λ u a b. f u a (omega (arith, b, h))))
+
 pub linked_more : (c : Cond) (k o : ℕ) (named : List ObjId) (old new : List (Vec ℕ Global)) (u : ObjId) (v : Vec ℕ Global) → LinkedBelow c k o named old new → names o c ≡ true → u.0 ≡ o → o < length new → v.items ≡ row new o ++ k ∷ [] → LinkedBelow c k (o + 1) (named ++ u ∷ []) old (set new o v)
 linked_more c k o named old new u v l t q h e = record {
   named = named_more c o named u q l.named t;

@@ -29,14 +29,14 @@ fn link<const K: usize>(
     ensures named { IfOk result (λ v. NamedBy x.now.cond (length picks.old) v.items) }
     ensures numbers { IfOk result (λ v. Numbers x.now.cond number picks.old picks.new) }
 {
+    let objects = picks.len();
     let mut named = Vec::new(alloc);
-    for o in 0..picks.len() {
-        let object = ObjId(o as u16);
-        if x.names(object) {
-            named.push(object)?;
-            let numbers = &mut picks[o];
-            numbers.push(number)?;
-        }
+    let mut next = 0;
+    while let Some(o) = x.first_named(next, objects) {
+        named.push(o)?;
+        let numbers = &mut picks[o.0 as usize];
+        numbers.push(number)?;
+        next = o.0 as usize + 1;
     }
     Ok(named)
 }
