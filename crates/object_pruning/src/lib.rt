@@ -11,6 +11,8 @@ mod outer_points;
 mod places;
 mod prune;
 mod region_sweep;
+#[cfg(test)]
+mod tests;
 
 pub use kept::{Placed, retry, slots};
 pub use prune::{Pruned, prune_kept, prune_object};

@@ -2,7 +2,7 @@ ghost use Rattle.std.specs.Prelude.{◌+◌, ◌<◌, ◌≤◌, length, map};
 ghost use Rattle.geo_conditions.specs.Conditions.{AllFit};
 
 use super::Fixpoint;
-use derivation::NoRecord;
+use derivation::{Event, Log, NoRecord, Recorder};
 use fixpoint::PlainPropagate;
 use geo_base::{KBox, Point};
 use geo_conditions::{Cond, Conds, Form, ObjId, State, all_fit, fits};
@@ -40,8 +40,13 @@ fn add(list: &mut Vec<AnyIndexical<1>>, c: Cond, s: &State<1>) -> Result<(), All
     Ok(())
 }
 
-/// What the queue leaves of the state; none where it is dead.
-fn queued(alloc: Global, s: State<1>, conds: Vec<Cond>) -> Result<Option<State<1>>, AllocError> {
+/// What the queue leaves of the state; none where it is dead. The conditions count from the last one.
+fn recorded<R: Recorder>(
+    alloc: Global,
+    s: State<1>,
+    conds: Vec<Cond>,
+    rec: &mut R,
+) -> Result<Option<State<1>>, AllocError> {
     let mut conds = conds;
     let mut list = Vec::new(alloc);
     for _ in 0..10u32 {
@@ -55,10 +60,15 @@ fn queued(alloc: Global, s: State<1>, conds: Vec<Cond>) -> Result<Option<State<1
     let objects = s.objects();
     let mut prop = Fixpoint::start(alloc, list, objects)?;
     let mut t = Trailed::start(alloc, s, 0)?;
-    match prop.settle(&mut t, &mut NoRecord::new())? {
+    match prop.settle(&mut t, rec)? {
         Settled::Dead => Ok(None),
         Settled::Kept => Ok(Some(t.state().copy()?)),
     }
+}
+
+/// The same without a record.
+fn queued(alloc: Global, s: State<1>, conds: Vec<Cond>) -> Result<Option<State<1>>, AllocError> {
+    recorded(alloc, s, conds, &mut NoRecord::new())
 }
 
 /// The same point by point.
@@ -165,5 +175,58 @@ fn a_false_rule_without_objects(rt: HostRuntime) -> Result<(), Fail> {
     assert!(rt; queued(rt.alloc(), none, list)?.is_none());
     let none = line(rt.alloc(), &[])?;
     assert!(rt; queued(rt.alloc(), none, Vec::new(rt.alloc()))?.is_some());
+    Ok(())
+}
+
+#[test]
+fn what_moves_is_recorded(rt: HostRuntime) -> Result<(), Fail> {
+    // Of the conditions the first one names A and C, and the third one A and B. First B goes behind A, then C.
+    let s = line(rt.alloc(), &[(0, 0), (0, 4), (0, 4)])?;
+    let mut rec = Log::new(rt.alloc());
+    let left = recorded(rt.alloc(), s, all_apart(rt.alloc())?, &mut rec)?;
+    assert_eq!(rt;
+        ranges(rt.alloc(), left)?.as_slice(),
+        [(0, 0), (2, 4), (2, 4)].as_slice()
+    );
+    let events = rec.events();
+    assert_eq!(rt; events.len(), 12);
+    assert!(rt; matches!(events.get(0), Some(Event::Raise(B, 0, 2))));
+    assert!(rt; matches!(events.get(1), Some(Event::Cover(1))));
+    assert!(rt; matches!(events.get(2), Some(Event::Cut(0, 1))));
+    assert!(rt; matches!(events.get(3), Some(Event::By(3))));
+    assert!(rt; matches!(events.get(5), Some(Event::EndCovers)));
+    assert!(rt; matches!(events.get(6), Some(Event::Raise(C, 0, 2))));
+    assert!(rt; matches!(events.get(9), Some(Event::By(1))));
+    Ok(())
+}
+
+#[test]
+fn a_dead_end_is_recorded(rt: HostRuntime) -> Result<(), Fail> {
+    // B goes behind A. Then C has no point: in 1 to 3 by the second condition, of B and C, and at 0 by the first one, of A and C.
+    let s = line(rt.alloc(), &[(0, 0), (0, 2), (0, 3)])?;
+    let mut rec = Log::new(rt.alloc());
+    assert!(rt; recorded(rt.alloc(), s, all_apart(rt.alloc())?, &mut rec)?.is_none());
+    let events = rec.events();
+    assert_eq!(rt; events.len(), 14);
+    assert!(rt; matches!(events.get(0), Some(Event::Raise(B, 0, 2))));
+    assert!(rt; matches!(events.get(6), Some(Event::Drop(C, 1))));
+    assert!(rt; matches!(events.get(7), Some(Event::CutFrom(0, 1))));
+    assert!(rt; matches!(events.get(8), Some(Event::By(2))));
+    assert!(rt; matches!(events.get(9), Some(Event::CutFrom(0, 0))));
+    assert!(rt; matches!(events.get(10), Some(Event::By(1))));
+    assert!(rt; matches!(events.get(12), Some(Event::Gone(C))));
+    assert!(rt; matches!(events.get(13), Some(Event::EndCovers)));
+    Ok(())
+}
+
+#[test]
+fn a_false_rule_is_recorded(rt: HostRuntime) -> Result<(), Fail> {
+    let mut list = Vec::new(rt.alloc());
+    list.push(Cond::AtLeast(1, Conds::new(rt.alloc())))?;
+    let mut rec = Log::new(rt.alloc());
+    let s = line(rt.alloc(), &[(0, 4)])?;
+    assert!(rt; recorded(rt.alloc(), s, list, &mut rec)?.is_none());
+    assert_eq!(rt; rec.events().len(), 1);
+    assert!(rt; matches!(rec.events().first(), Some(Event::Dead(1))));
     Ok(())
 }
