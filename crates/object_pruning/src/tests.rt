@@ -198,6 +198,30 @@ fn a_shape_without_a_point_goes(rt: HostRuntime) -> Result<(), Fail> {
 }
 
 #[test]
+fn a_shape_goes_and_no_bound_moves(rt: HostRuntime) -> Result<(), Fail> {
+    // As above, but the range ends where the short shape's does.
+    let s = line(rt.alloc(), (0, 8), 3)?;
+    let mut rec = Log::new(rt.alloc());
+    let (answer, left) = pruned(&rt, s, &mut rec)?;
+    assert!(rt; matches!(answer, Pruned::Changed));
+    assert_eq!(rt; open_to(&left, A), (0, 8, [true, false, false]));
+    assert_others(&rt, &left, 3);
+    assert_events(
+        &rt,
+        &rec,
+        &[
+            Event::Drop(A, 2),
+            Event::CutFrom(0, 3),
+            Event::By(3),
+            Event::CutFrom(0, 0),
+            Event::By(4),
+            Event::By(1),
+        ],
+    );
+    Ok(())
+}
+
+#[test]
 fn no_shape_keeps_a_point(rt: HostRuntime) -> Result<(), Fail> {
     // Beside the cells 3 to 5 neither shape has its origin in 2 to 5.
     let s = line(rt.alloc(), (2, 5), 3)?;
