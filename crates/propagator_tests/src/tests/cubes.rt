@@ -1,13 +1,13 @@
-//! Thirty cubes in a larger one, which only the queue settles soon enough.
+//! Thirty cubes in a larger one, whose layouts are too many to be listed.
 
 ghost use Rattle.std.specs.Prelude.{map};
 ghost use Rattle.rule_expand.specs.Rules.{plain_rule_data};
 ghost use Rattle.propagator_tests.specs.Ready.{IsReady};
 
-use super::answers::MOST_LAYOUTS;
-use super::propagators::queued_in_3;
+use super::answers::{Answers, MOST_LAYOUTS};
 use super::task::read_task;
 use super::tuples::{Put, is_layout, keys_of};
+use super::{all_answers, are_same, difference};
 use geo_tokens::fault::TextFault;
 use problem_text::problem::Problem;
 use rule_expand::plain::PlainRule;
@@ -71,14 +71,15 @@ fn are_layouts(
     Ok(true)
 }
 
-/// What is wrong with the layouts of the cubes.
-fn fault(alloc: Global) -> Result<Option<&'static str>, TextFault> {
-    let text = cubes_text(alloc)?;
-    let task = read_task(alloc, text.as_slice())?;
-    if task.problem.dims() != 3 {
-        return Ok(Some("other dimensions"));
-    }
-    let given = queued_in_3(alloc, &task.problem, task.rules.as_slice())?;
+/// What is wrong with the layouts that a propagator finds.
+fn fault_of(
+    alloc: Global,
+    problem: &Problem,
+    rules: &[PlainRule],
+    given: &Answers,
+) -> Result<Option<&'static str>, TextFault>
+    requires { IsReady problem.now (map plain_rule_data rules.now) }
+{
     let found = given.layouts.as_slice();
     if found.len() != MOST_LAYOUTS {
         return Ok(Some("too few layouts"));
@@ -86,13 +87,40 @@ fn fault(alloc: Global) -> Result<Option<&'static str>, TextFault> {
     if !is_first(found[0].as_slice()) {
         return Ok(Some("another first layout"));
     }
-    if !are_in_order(keys_of(alloc, &task.problem, found)?.as_slice()) {
+    if !are_in_order(keys_of(alloc, problem, found)?.as_slice()) {
         return Ok(Some("another order"));
     }
-    if !are_layouts(alloc, &task.problem, task.rules.as_slice(), found)? {
+    if !are_layouts(alloc, problem, rules, found)? {
         return Ok(Some("no layout"));
     }
     Ok(None)
+}
+
+/// Whether two answers have the same layouts, the same state and the same end.
+fn agree(
+    alloc: Global,
+    problem: &Problem,
+    given: &Answers,
+    other: &Answers,
+) -> Result<bool, TextFault> {
+    let found = keys_of(alloc, problem, given.layouts.as_slice())?;
+    let others = keys_of(alloc, problem, other.layouts.as_slice())?;
+    Ok(are_same(found.as_slice(), others.as_slice()) && difference(given, other).is_none())
+}
+
+/// What is wrong with the answers of the propagators.
+fn fault(alloc: Global) -> Result<Option<&'static str>, TextFault> {
+    let text = cubes_text(alloc)?;
+    let task = read_task(alloc, text.as_slice())?;
+    let rules = task.rules.as_slice();
+    let all = all_answers(alloc, &task.problem, rules)?;
+    if all.len() != 2 {
+        return Ok(Some("other dimensions"));
+    }
+    if !agree(alloc, &task.problem, &all[0], &all[1])? {
+        return Ok(Some("the propagators differ"));
+    }
+    fault_of(alloc, &task.problem, rules, &all[0])
 }
 
 #[test]
