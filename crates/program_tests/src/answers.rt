@@ -1,0 +1,135 @@
+// What words and an input are answered with, against texts that were worked out by hand.
+use geo_chan::{CleanSink, CleanSource, Source};
+use geost_run::{Status, run};
+use std::alloc::{AllocError, Global};
+use std::test::Fail;
+
+// Two boxes of size 2 on the cells 0 to 4.
+pub const TWO_BOXES: &[u8] =
+    b"geost 1 dims 1 shape s box 0 size 2 ; object a as s at 0..3 ; object b as s at 0..3 ; rule r : apart ; end";
+
+pub const FIRST_OF_TWO_BOXES: &[u8] = b"layout\na as s at 0\nb as s at 2\ntoken 1,0/1,2\n";
+
+pub fn words(alloc: Global, list: &[&str]) -> Result<Vec<String>, AllocError> {
+    let mut all = Vec::new(alloc);
+    for word in list {
+        all.push(String::from_str(alloc, word)?)?;
+    }
+    Ok(all)
+}
+
+// The status and the text that the words have for an input, and how many of the first 200 bytes were left.
+fn answer(
+    alloc: Global,
+    list: &[&str],
+    input: &[u8],
+) -> Result<(Status, Vec<u8>, usize), AllocError> {
+    let words = words(alloc, list)?;
+    let mut source = CleanSource::new(Vec::from_slice(alloc, input)?);
+    let mut sink = CleanSink::new(alloc);
+    let status = run(alloc, &words, &mut source, &mut sink);
+    let left = source.take(&mut [0; 200]).unwrap_or(0);
+    Ok((status, Vec::from_slice(alloc, sink.bytes())?, left))
+}
+
+#[test]
+fn words_have_their_answers(rt: HostRuntime) -> Result<(), Fail> {
+    let narrow =
+        b"geost 1 dims 1 shape s box 0 size 2 ; object a as s at 0..1 ; object b as s at 0..1 ; rule r : apart ; end";
+    let two_shapes =
+        b"geost 1 dims 2 shape flat box 0 0 size 2 1 ; shape tall box 0 0 size 1 2 ; object a as flat, tall at 0..5 0..5 ; rule w : within 0..0 0..9 ; end";
+    let from_above =
+        b"geost 1 dims 1 shape s box 0 size 2 ; object a as s at 0..3 ; object b as s at 0..3 ; sides high ; rule r : apart ; end";
+    let formula =
+        b"geost 1 dims 1 shape s box 0 size 1 ; object a as s at 0..9 ; rule r : a.x1 > 3 ; end";
+    let fitting =
+        b"geost 1 dims 1 shape s box 0 size 2 ; object a as s at 0..3 ; object b as s at 0..3 ; rule r : apart ; end layout a as s at 0 b as s at 2";
+    let overlapping =
+        b"geost 1 dims 1 shape s box 0 size 2 ; object a as s at 0..3 ; object b as s at 0..3 ; rule r : apart ; end layout a as s at 0 b as s at 1";
+    let outside =
+        b"geost 1 dims 1 shape s box 0 size 2 ; object a as s at 0..3 ; object b as s at 0..3 ; rule r : apart ; end layout a as s at 0 b as s at 4";
+    let rows: &[(&[&str], &[u8], Status, &[u8])] = &[
+        (
+            &["first", "4"],
+            TWO_BOXES,
+            Status::Answered,
+            FIRST_OF_TWO_BOXES,
+        ),
+        (&["first", "3"], TWO_BOXES, Status::Budget, b"budget 3\n"),
+        (&["first", "1"], narrow, Status::No, b"none\n"),
+        (&["first", "1"], b"", Status::Refused, b"refused 0 syntax\n"),
+        (
+            &["first", "3"],
+            two_shapes,
+            Status::Answered,
+            b"layout\na as tall at 0 0\ntoken 2,0,0\n",
+        ),
+        (
+            &["first", "4"],
+            from_above,
+            Status::Answered,
+            b"layout\na as s at 3\nb as s at 1\ntoken 1,3/1,1\n",
+        ),
+        (&["first", "1"], formula, Status::Budget, b"budget 1\n"),
+        (
+            &["first", "2"],
+            formula,
+            Status::Answered,
+            b"layout\na as s at 4\ntoken 1,4\n",
+        ),
+        (
+            &["show"],
+            TWO_BOXES,
+            Status::Answered,
+            b"geost 1 dims 1\nshape s box 0 size 2 ;\nobject a as s at 0..3 ;\nobject b as s at 0..3 ;\nrule r : apart ;\nend\n",
+        ),
+        (&["judge"], fitting, Status::Answered, b"good\n"),
+        (&["judge"], overlapping, Status::No, b"broken r\n"),
+        (&["judge"], outside, Status::Refused, b"refused 136 range\n"),
+    ];
+    for (list, input, status, text) in rows {
+        let (ended, wrote, _) = answer(rt.alloc(), list, input)?;
+        assert_eq!(rt; ended, *status);
+        assert_eq!(rt; wrote.as_slice(), *text);
+    }
+    Ok(())
+}
+
+#[test]
+fn wrong_rules_are_refused_by_every_command(rt: HostRuntime) -> Result<(), Fail> {
+    let kind =
+        b"geost 1 dims 1 shape s box 0 size 1 ; object a as s at 0..9 ; rule r : 3 < a ; end";
+    let product =
+        b"geost 1 dims 1 shape s box 0 size 1 ; object a as s at 0..9 ; rule r : a.x1 * 0 * a.x1 <= 4 ; end";
+    let commands: &[&[&str]] = &[&["first", "1"], &["show"], &["judge"]];
+    let rows: &[(&[u8], &[u8])] = &[
+        (kind, b"refused 75 kind\n"),
+        (product, b"refused 67 product\n"),
+    ];
+    for command in commands {
+        for (input, text) in rows {
+            let (ended, wrote, _) = answer(rt.alloc(), command, input)?;
+            assert_eq!(rt; ended, Status::Refused);
+            assert_eq!(rt; wrote.as_slice(), *text);
+        }
+    }
+    Ok(())
+}
+
+#[test]
+fn bad_words_take_nothing(rt: HostRuntime) -> Result<(), Fail> {
+    let rows: &[&[&str]] = &[
+        &["first", "0"],
+        &["first", "01"],
+        &["first", "x"],
+        &["first"],
+        &[],
+    ];
+    for list in rows {
+        let (ended, wrote, left) = answer(rt.alloc(), list, TWO_BOXES)?;
+        assert_eq!(rt; ended, Status::BadWords);
+        assert_eq!(rt; wrote.as_slice(), b"bad words\n".as_slice());
+        assert_eq!(rt; left, TWO_BOXES.len());
+    }
+    Ok(())
+}

@@ -1,0 +1,7 @@
+// Tests of the program: its answers to words and inputs, over sources and sinks of every kind.
+#![tactic(auto)]
+
+#[cfg(test)]
+mod answers;
+#[cfg(test)]
+mod ends;
