@@ -63,22 +63,12 @@ lifts_first n input text out Answered h (p, t, cs, a, are, l, f, e) = (p, t, cs,
 lifts_first n input text out No h (p, cs, a, are, l, f, e) = (p, cs, accepted_input input text p h a, are, l, f, e)
 lifts_first n input text out Budget h (p, cs, a, are, l, e) = (p, cs, accepted_input input text p h a, are, l, e)
 lifts_first n input text out Refused h r = refused_input input text out h r
-lifts_first n input text out BadWords h a = a
-lifts_first n input text out BadToken h a = a
-lifts_first n input text out ReadFault h a = a
-lifts_first n input text out WriteFault h a = a
-lifts_first n input text out Memory h a = a
+lifts_first n input text out _ h a = a
 
 pub lifts_show : Lifts IsFirstText ShowAnswer
 lifts_show input text out Answered h (p, a, e) = (p, accepted_input input text p h a, e)
 lifts_show input text out Refused h r = refused_input input text out h r
-lifts_show input text out No h a = a
-lifts_show input text out Budget h a = a
-lifts_show input text out BadWords h a = a
-lifts_show input text out BadToken h a = a
-lifts_show input text out ReadFault h a = a
-lifts_show input text out WriteFault h a = a
-lifts_show input text out Memory h a = a
+lifts_show input text out _ h a = a
 
 began : (R : List ℕ → List ℕ → Type 0) (answer : List ℕ → List ℕ → Status → Type 0) (left w0 w1 : Option (List ℕ)) (text out : List ℕ) (status : Status) → Lifts R answer → WasRead R left text → answer text out status → AppendsFront w0 w1 out → WroteFront (FrontOf answer) left w0 w1
 began R answer left w0 w1 text out status lifts (input, told, h) a (front, back, is, bytes) =
@@ -92,15 +82,10 @@ IsAnswered Memory = ⊥
 IsAnswered status = Unit {0}
 
 pub ends_given : (answer : List ℕ → List ℕ → Status → Type 0) (begins : List ℕ → List ℕ → Type 0) (left : Option (List ℕ)) (r0 r1 : ℕ) (w0 w1 : Option (List ℕ)) (f0 f1 : ℕ) (status : Status) → IsAnswered status → Gave answer left w0 w1 status → Ends answer begins left r0 r1 w0 w1 f0 f1 status
-ends_given answer begins left r0 r1 w0 w1 f0 f1 Answered i g = g
-ends_given answer begins left r0 r1 w0 w1 f0 f1 No i g = g
-ends_given answer begins left r0 r1 w0 w1 f0 f1 Refused i g = g
-ends_given answer begins left r0 r1 w0 w1 f0 f1 Budget i g = g
-ends_given answer begins left r0 r1 w0 w1 f0 f1 BadWords i g = g
-ends_given answer begins left r0 r1 w0 w1 f0 f1 BadToken i g = g
 ends_given answer begins left r0 r1 w0 w1 f0 f1 ReadFault i g = absurd i
 ends_given answer begins left r0 r1 w0 w1 f0 f1 WriteFault i g = absurd i
 ends_given answer begins left r0 r1 w0 w1 f0 f1 Memory i g = absurd i
+ends_given answer begins left r0 r1 w0 w1 f0 f1 _ i g = g
 
 -- A command's way to end is one of the program's, since its answers are.
 front_as : (a b : List ℕ → List ℕ → Type 0) (left w0 w1 : Option (List ℕ)) → ((i t : List ℕ) → a i t → b i t) → WroteFront a left w0 w1 → WroteFront b left w0 w1
@@ -112,24 +97,15 @@ gave_as a b left w0 w1 s f h = record { input = h.input; text = h.text; told = h
 
 pub ends_as : (a b : List ℕ → List ℕ → Status → Type 0) (p q : List ℕ → List ℕ → Type 0) (left : Option (List ℕ)) (r0 r1 : ℕ) (w0 w1 : Option (List ℕ)) (f0 f1 : ℕ) (status : Status) → ((i t : List ℕ) (s : Status) → a i t s → b i t s) → ((i t : List ℕ) → p i t → q i t) →
     Ends a p left r0 r1 w0 w1 f0 f1 status → Ends b q left r0 r1 w0 w1 f0 f1 status
-ends_as a b p q left r0 r1 w0 w1 f0 f1 Answered f g h = gave_as a b left w0 w1 Answered f h
-ends_as a b p q left r0 r1 w0 w1 f0 f1 No f g h = gave_as a b left w0 w1 No f h
-ends_as a b p q left r0 r1 w0 w1 f0 f1 Refused f g h = gave_as a b left w0 w1 Refused f h
-ends_as a b p q left r0 r1 w0 w1 f0 f1 Budget f g h = gave_as a b left w0 w1 Budget f h
-ends_as a b p q left r0 r1 w0 w1 f0 f1 BadWords f g h = gave_as a b left w0 w1 BadWords f h
-ends_as a b p q left r0 r1 w0 w1 f0 f1 BadToken f g h = gave_as a b left w0 w1 BadToken f h
 ends_as a b p q left r0 r1 w0 w1 f0 f1 ReadFault f g h = h
 ends_as a b p q left r0 r1 w0 w1 f0 f1 WriteFault f g h = (h.0, front_as p q left w0 w1 g h.1)
 ends_as a b p q left r0 r1 w0 w1 f0 f1 Memory f g h = front_as p q left w0 w1 g h
+ends_as a b p q left r0 r1 w0 w1 f0 f1 status f g h = gave_as a b left w0 w1 status f h
 
-ends_command : (words : List (List ℕ)) (command : Command) (left : Option (List ℕ)) (r0 r1 : ℕ) (w0 w1 : Option (List ℕ)) (f0 f1 : ℕ) (status : Status) → HasForm words command →
+pub ends_command : (words : List (List ℕ)) (command : Command) (left : Option (List ℕ)) (r0 r1 : ℕ) (w0 w1 : Option (List ℕ)) (f0 f1 : ℕ) (status : Status) → HasForm words command →
     Ends (AnswerTo command) (BeginsOf command) left r0 r1 w0 w1 f0 f1 status → Ends (Answer words) (Begins words) left r0 r1 w0 w1 f0 f1 status
 ends_command words command left r0 r1 w0 w1 f0 f1 status form h =
     ends_as (AnswerTo command) (Answer words) (BeginsOf command) (Begins words) left r0 r1 w0 w1 f0 f1 status (λ i t s a. inl (command, form, a)) (λ i t a. inl (command, form, a)) h
-
-pub ends_of : (words : List (List ℕ)) (command other : Command) (left : Option (List ℕ)) (r0 r1 : ℕ) (w0 w1 : Option (List ℕ)) (f0 f1 : ℕ) (status : Status) → command ≡ other → HasForm words command →
-    Ends (AnswerTo other) (BeginsOf other) left r0 r1 w0 w1 f0 f1 status → Ends (Answer words) (Begins words) left r0 r1 w0 w1 f0 f1 status
-ends_of words command other left r0 r1 w0 w1 f0 f1 status same form h = ends_command words other left r0 r1 w0 w1 f0 f1 status (subst (λ (x : Command). HasForm words x) same form) h
 
 some_input : (left : Option (List ℕ)) → (input : List ℕ) × Tells left input
 some_input None = ([], tt)
@@ -152,12 +128,7 @@ pub ends_unread : (words : List (List ℕ)) (left : Option (List ℕ)) (r : ℕ)
 ends_unread words left r w0 w1 f0 f1 BadWords none h = record { input = (some_input left).0; text = codes "bad words\n"; told = (some_input left).1; answers = inr (no_form words none); bytes = h }
 ends_unread words left r w0 w1 f0 f1 WriteFault none (rose, h) = (rose, began_bad words left w0 w1 none h)
 ends_unread words left r w0 w1 f0 f1 Memory none h = began_bad words left w0 w1 none h
-ends_unread words left r w0 w1 f0 f1 Answered none h = absurd h
-ends_unread words left r w0 w1 f0 f1 No none h = absurd h
-ends_unread words left r w0 w1 f0 f1 Refused none h = absurd h
-ends_unread words left r w0 w1 f0 f1 Budget none h = absurd h
-ends_unread words left r w0 w1 f0 f1 BadToken none h = absurd h
-ends_unread words left r w0 w1 f0 f1 ReadFault none h = absurd h
+ends_unread words left r w0 w1 f0 f1 _ none h = absurd h
 
 is_answered : (d : Decision) → IsAnswered (decision_status d)
 is_answered (Refuse place word) = tt
@@ -182,13 +153,7 @@ pub ends_text : (R : List ℕ → List ℕ → Type 0) (answer : List ℕ → Li
     → answer seen (decision_text d) (decision_status d) → Finishes (decision_text d) (decision_status d) w0 w1 f0 f1 result → Ends answer (FrontOf answer) left r0 r1 w0 w1 f0 f1 result
 ends_text R answer left r0 r1 w0 w1 f0 f1 text seen d WriteFault lifts h e a f = (f.0, began R answer left w0 w1 text (decision_text d) (decision_status d) lifts h (subst (λ (t : List ℕ). answer t (decision_text d) (decision_status d)) e a) f.1)
 ends_text R answer left r0 r1 w0 w1 f0 f1 text seen d Memory lifts h e a f = began R answer left w0 w1 text (decision_text d) (decision_status d) lifts h (subst (λ (t : List ℕ). answer t (decision_text d) (decision_status d)) e a) f
-ends_text R answer left r0 r1 w0 w1 f0 f1 text seen d Answered lifts h e a f = given R answer left r0 r1 w0 w1 f0 f1 text d Answered lifts h (subst (λ (t : List ℕ). answer t (decision_text d) (decision_status d)) e a) f
-ends_text R answer left r0 r1 w0 w1 f0 f1 text seen d No lifts h e a f = given R answer left r0 r1 w0 w1 f0 f1 text d No lifts h (subst (λ (t : List ℕ). answer t (decision_text d) (decision_status d)) e a) f
-ends_text R answer left r0 r1 w0 w1 f0 f1 text seen d Refused lifts h e a f = given R answer left r0 r1 w0 w1 f0 f1 text d Refused lifts h (subst (λ (t : List ℕ). answer t (decision_text d) (decision_status d)) e a) f
-ends_text R answer left r0 r1 w0 w1 f0 f1 text seen d Budget lifts h e a f = given R answer left r0 r1 w0 w1 f0 f1 text d Budget lifts h (subst (λ (t : List ℕ). answer t (decision_text d) (decision_status d)) e a) f
-ends_text R answer left r0 r1 w0 w1 f0 f1 text seen d BadWords lifts h e a f = given R answer left r0 r1 w0 w1 f0 f1 text d BadWords lifts h (subst (λ (t : List ℕ). answer t (decision_text d) (decision_status d)) e a) f
-ends_text R answer left r0 r1 w0 w1 f0 f1 text seen d BadToken lifts h e a f = given R answer left r0 r1 w0 w1 f0 f1 text d BadToken lifts h (subst (λ (t : List ℕ). answer t (decision_text d) (decision_status d)) e a) f
-ends_text R answer left r0 r1 w0 w1 f0 f1 text seen d ReadFault lifts h e a f = given R answer left r0 r1 w0 w1 f0 f1 text d ReadFault lifts h (subst (λ (t : List ℕ). answer t (decision_text d) (decision_status d)) e a) f
+ends_text R answer left r0 r1 w0 w1 f0 f1 text seen d status lifts h e a f = given R answer left r0 r1 w0 w1 f0 f1 text d status lifts h (subst (λ (t : List ℕ). answer t (decision_text d) (decision_status d)) e a) f
 
 -- a tuple has the form of one
 pub shaped_tuple : (p : ProblemData) (t : Tuple) → IsTuple p t → IsShaped p t

@@ -74,11 +74,7 @@ first_status n input t u BadToken r a b = absurd a
 first_status n input t u ReadFault r a b = absurd a
 first_status n input t u WriteFault r a b = absurd a
 first_status n input t u Memory r a b = absurd a
-first_status n input t u s BadWords a b = absurd b
-first_status n input t u s BadToken a b = absurd b
-first_status n input t u s ReadFault a b = absurd b
-first_status n input t u s WriteFault a b = absurd b
-first_status n input t u s Memory a b = absurd b
+first_status n input t u s _ a b = absurd b
 
 show_status : (input t u : List ℕ) (s r : Status) → ShowAnswer input t s → ShowAnswer input u r → s ≡ r
 show_status input t u Answered Answered a b = refl
@@ -92,18 +88,12 @@ show_status input t u BadToken r a b = absurd a
 show_status input t u ReadFault r a b = absurd a
 show_status input t u WriteFault r a b = absurd a
 show_status input t u Memory r a b = absurd a
-show_status input t u s No a b = absurd b
-show_status input t u s Budget a b = absurd b
-show_status input t u s BadWords a b = absurd b
-show_status input t u s BadToken a b = absurd b
-show_status input t u s ReadFault a b = absurd b
-show_status input t u s WriteFault a b = absurd b
-show_status input t u s Memory a b = absurd b
+show_status input t u s _ a b = absurd b
 
 -- ---- judge
 
 -- both ways of reading the two texts give the same problem and tuple
-given_once : (input : List ℕ) (p q : ProblemData) (t u : Tuple) → Gives input p t → Gives input q u → (q ≡ p) × (u ≡ t)
+pub given_once : (input : List ℕ) (p q : ProblemData) (t u : Tuple) → Gives input p t → Gives input q u → (q ≡ p) × (u ≡ t)
 given_once input p q t u (a, b, cut, acc, lay) (c, d, cut', acc', lay') =
     let e = one-cut input a b c d cut cut' in
     let same : q ≡ p = same_problem a q p (subst (λ (z : List ℕ). IsAccepted z q) (sym e.0) acc') acc in
@@ -147,12 +137,7 @@ judge_status input t u BadToken r a b = absurd a
 judge_status input t u ReadFault r a b = absurd a
 judge_status input t u WriteFault r a b = absurd a
 judge_status input t u Memory r a b = absurd a
-judge_status input t u s Budget a b = absurd b
-judge_status input t u s BadWords a b = absurd b
-judge_status input t u s BadToken a b = absurd b
-judge_status input t u s ReadFault a b = absurd b
-judge_status input t u s WriteFault a b = absurd b
-judge_status input t u s Memory a b = absurd b
+judge_status input t u s _ a b = absurd b
 
 -- words have one number
 pub same_number : (words : List (List ℕ)) (n m : ℕ) → HasForm words (First n) → HasForm words (First m) → n ≡ m

@@ -10,10 +10,11 @@ use Rattle.geost_run.specs.declared.command.Status.{Status}
 use Rattle.geost_run.specs.declared.command.Status.TheVariants.{Answered, No, Refused, Budget, BadWords, BadToken, ReadFault, WriteFault, Memory}
 use Rattle.geost_run.specs.Words.{HasForm}
 use Rattle.geost_run.specs.Accepted.{IsAccepted}
-use Rattle.geost_run.specs.Answer.{FirstAnswer, JudgeAnswer, Gives, Answer, Begins}
+use Rattle.geost_run.specs.Answer.{FirstAnswer, JudgeAnswer, Gives, Answer, Begins, FrontOf}
 use Rattle.geost_run.specs.Reading.{Tells}
 use Rattle.geost_run.specs.Ends.{Gave, Ends}
 use Rattle.geost_run.specs.Headline.{Promises, IsFaultless, IsComplete}
+use Rattle.geost_run.proofs.Ending.{ends_as}
 use Rattle.geost_run.proofs.Only.{same_number, first_or_show, first_or_judge, show_or_judge, refused_too, given_or_refused}
 
 promised : (n : ℕ) (input text : List ℕ) (s : Status) → FirstAnswer n input text s → Promises n input text s
@@ -21,11 +22,7 @@ promised n input text Answered (p, t, cs, a, are, l, f, e) = (p, t, a, f.layout,
 promised n input text No (p, cs, a, are, l, none, e) = (p, a, none, e)
 promised n input text Budget (p, cs, a, are, l, e) = (p, cs, l.walked, a, are, l.front, l.ends.1, sym l.full, l.ends.2, e)
 promised n input text Refused r = r
-promised n input text BadWords a = a
-promised n input text BadToken a = a
-promised n input text ReadFault a = a
-promised n input text WriteFault a = a
-promised n input text Memory a = a
+promised n input text _ a = a
 
 -- a command's answer that is not to bad words
 pub headline : (words : List (List ℕ)) (n : ℕ) → HasForm words (First n) → (input text : List ℕ) (s : Status) → Answer words input text s → Promises n input text s
@@ -86,3 +83,13 @@ complete words c input left r0 r1 w0 w1 f0 f1 BadToken form told a no_read no_wr
 complete words c input left r0 r1 w0 w1 f0 f1 Refused form told a no_read no_write h =
     let same : h.input ≡ input = subst (λ (o : Option (List ℕ)). Tells o h.input) told h.told in
     absurd (not-refused-by words c input h.text form a (subst (λ (i : List ℕ). Answer words i h.text Refused) same h.answers))
+
+front_promised : (words : List (List ℕ)) (n : ℕ) → HasForm words (First n) → (input front : List ℕ) → Begins words input front → FrontOf (Promises n) input front
+front_promised words n form input front (inl (c, f, (text, s, back, a, is))) = (text, s, back, headline words n form input text s (inl (c, f, a)), is)
+front_promised words n form input front (inr (text, s, back, a, is)) = (text, s, back, headline words n form input text s (inr a), is)
+
+-- what this run took and wrote is as promised
+pub run_promised : (words : List (List ℕ)) (n : ℕ) (left : Option (List ℕ)) (r0 r1 : ℕ) (w0 w1 : Option (List ℕ)) (f0 f1 : ℕ) (s : Status) → HasForm words (First n)
+    → Ends (Answer words) (Begins words) left r0 r1 w0 w1 f0 f1 s → Ends (Promises n) (FrontOf (Promises n)) left r0 r1 w0 w1 f0 f1 s
+run_promised words n left r0 r1 w0 w1 f0 f1 s form h =
+    ends_as (Answer words) (Promises n) (Begins words) (FrontOf (Promises n)) left r0 r1 w0 w1 f0 f1 s (headline words n form) (front_promised words n form) h

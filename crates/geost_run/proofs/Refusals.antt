@@ -20,10 +20,10 @@ use Rattle.geost_run.specs.Accepted.{IsAccepted, IsRefused, unread, misnamed, un
 pub same_problem : (text : List ℕ) (p q : ProblemData) → IsAccepted text p → IsAccepted text q → p ≡ q
 same_problem text p q a b = accepted_once text p q a.spells b.spells
 
-right_or_wrong : (p : ProblemData) (place : ℕ) (word : FaultWord) → AreNamesRight p → HasFirstMistake p place word → ⊥
+pub right_or_wrong : (p : ProblemData) (place : ℕ) (word : FaultWord) → AreNamesRight p → HasFirstMistake p place word → ⊥
 right_or_wrong p place word right h = right h.mistake h.first.there
 
-within_or_large : (o : Option TextFault) (f : TextFault) → o ≡ None → o ≡ Some f → ⊥
+pub within_or_large : (o : Option TextFault) (f : TextFault) → o ≡ None → o ≡ Some f → ⊥
 within_or_large o f e g = let none : None ≡ Some f = sym e ∙ g in absurd cc
 
 pub not_refused : (text : List ℕ) (p : ProblemData) (place : ℕ) (word : FaultWord) → IsAccepted text p → IsRefused text place word → ⊥

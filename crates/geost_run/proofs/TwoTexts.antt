@@ -29,10 +29,10 @@ long-fault text place word l (no_token s f) = absurd (omega (arith, l, s))
 long-fault text place word l (no_statements s list t f) = absurd (omega (arith, l, s))
 long-fault text place word l (in_statements t says f) = absurd (let s : length text ≤ 1048576 = says.short in omega (arith, l, s))
 
-spelled-short : (text : List ℕ) (p : ProblemData) → Accepts text p → length text ≤ 1048576
+pub spelled-short : (text : List ℕ) (p : ProblemData) → Accepts text p → length text ≤ 1048576
 spelled-short text p a = a.says.short
 
-long-refusal : (text : List ℕ) (place : ℕ) (word : FaultWord) → 1048576 < length text → IsRefused text place word → (place ≡ 1048576) × (word ≡ words.Long)
+pub long-refusal : (text : List ℕ) (place : ℕ) (word : FaultWord) → 1048576 < length text → IsRefused text place word → (place ≡ 1048576) × (word ≡ words.Long)
 long-refusal text place word l (unread f) = long-fault text place word l f
 long-refusal text place word l (misnamed p a h) = absurd (omega (arith, l, spelled-short text p a))
 long-refusal text place word l (unexpanded p a r h) = absurd (omega (arith, l, spelled-short text p a))
@@ -145,12 +145,7 @@ pub lifts_judge : (input bytes out : List ℕ) (status : Status) → AreFirstTex
 lifts_judge input bytes out Answered h (p, t, g, l, e) = (p, t, lift-gives input bytes h p t g, l, e)
 lifts_judge input bytes out No h (p, t, n, g, b, e) = (p, t, n, lift-gives input bytes h p t g, b, e)
 lifts_judge input bytes out Refused h (place, word, r, e) = (place, word, lift-refused input bytes h place word r, e)
-lifts_judge input bytes out Budget h a = a
-lifts_judge input bytes out BadWords h a = a
-lifts_judge input bytes out BadToken h a = a
-lifts_judge input bytes out ReadFault h a = a
-lifts_judge input bytes out WriteFault h a = a
-lifts_judge input bytes out Memory h a = a
+lifts_judge input bytes out _ h a = a
 
 -- ---- where the program cuts
 

@@ -41,23 +41,13 @@ FirstAnswer n input text Answered = (p : ProblemData) × (t : Tuple) × (cs : Li
 FirstAnswer n input text No = (p : ProblemData) × (cs : List Cond) × IsAccepted input p × AreConditions p cs × IsListing (walk_of p cs) 1 n [] End × HasNoLayout p × (text ≡ codes "none\n")
 FirstAnswer n input text Budget = (p : ProblemData) × (cs : List Cond) × IsAccepted input p × AreConditions p cs × IsListing (walk_of p cs) 1 n [] OutOfBudget × (text ≡ out_of_budget n)
 FirstAnswer n input text Refused = RefusedAnswer input text
-FirstAnswer n input text BadWords = ⊥
-FirstAnswer n input text BadToken = ⊥
-FirstAnswer n input text ReadFault = ⊥
-FirstAnswer n input text WriteFault = ⊥
-FirstAnswer n input text Memory = ⊥
+FirstAnswer n input text _ = ⊥
 
 -- `show`. The problem in its canonical spelling; any other text is refused at its first fault.
 abbrev pub ShowAnswer : List ℕ → List ℕ → Status → Type 0
 ShowAnswer input text Answered = (p : ProblemData) × IsAccepted input p × (text ≡ problem_text p)
 ShowAnswer input text Refused = RefusedAnswer input text
-ShowAnswer input text No = ⊥
-ShowAnswer input text Budget = ⊥
-ShowAnswer input text BadWords = ⊥
-ShowAnswer input text BadToken = ⊥
-ShowAnswer input text ReadFault = ⊥
-ShowAnswer input text WriteFault = ⊥
-ShowAnswer input text Memory = ⊥
+ShowAnswer input text _ = ⊥
 
 -- the name of the rule with this number, from 1
 abbrev pub rule_name : ProblemData → ℕ → List ℕ
@@ -77,12 +67,7 @@ abbrev pub JudgeAnswer : List ℕ → List ℕ → Status → Type 0
 JudgeAnswer input text Answered = (p : ProblemData) × (t : Tuple) × Gives input p t × IsLayout p t × (text ≡ codes "good\n")
 JudgeAnswer input text No = (p : ProblemData) × (t : Tuple) × (n : ℕ) × Gives input p t × IsFirstBroken p t n × (text ≡ broken_rule (rule_name p n))
 JudgeAnswer input text Refused = (place : ℕ) × (word : FaultWord) × IsRefusedPair input place word × (text ≡ refusal place word)
-JudgeAnswer input text Budget = ⊥
-JudgeAnswer input text BadWords = ⊥
-JudgeAnswer input text BadToken = ⊥
-JudgeAnswer input text ReadFault = ⊥
-JudgeAnswer input text WriteFault = ⊥
-JudgeAnswer input text Memory = ⊥
+JudgeAnswer input text _ = ⊥
 
 -- The answer to each command: one line a command.
 abbrev pub AnswerTo : Command → List ℕ → List ℕ → Status → Type 0
@@ -94,11 +79,9 @@ AnswerTo Judge input text status = JudgeAnswer input text status
 abbrev pub FrontOf : (List ℕ → List ℕ → Status → Type 0) → List ℕ → List ℕ → Type 0
 FrontOf answer input front = (text : List ℕ) × (status : Status) × (back : List ℕ) × answer input text status × (text ≡ front ++ back)
 
--- What a command may have written when it was cut off: one line a command.
+-- What a command may have written when it was cut off.
 abbrev pub BeginsOf : Command → List ℕ → List ℕ → Type 0
-BeginsOf (First n) input front = FrontOf (FirstAnswer n) input front
-BeginsOf Show input front = FrontOf ShowAnswer input front
-BeginsOf Judge input front = FrontOf JudgeAnswer input front
+BeginsOf command = FrontOf (AnswerTo command)
 
 -- The answer to words that have no form.
 pub record BadWordsAnswer (words : List (List ℕ)) (text : List ℕ) (status : Status) : Type 0 where

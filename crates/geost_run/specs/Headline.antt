@@ -26,11 +26,7 @@ Promises n input text Budget =
     (p : ProblemData) × (cs : List Cond) × (w : List (List ℤ)) × IsAccepted input p × AreConditions p cs × IsFront (walk_of p cs) w
     × (length w ≡ n) × (filter (is_full (walk_of p cs)) w ≡ []) × GoesOn (walk_of p cs) w × (text ≡ out_of_budget n)
 Promises n input text Refused = (place : ℕ) × (word : FaultWord) × IsRefused input place word × (text ≡ refusal place word)
-Promises n input text BadWords = ⊥
-Promises n input text BadToken = ⊥
-Promises n input text ReadFault = ⊥
-Promises n input text WriteFault = ⊥
-Promises n input text Memory = ⊥
+Promises n input text _ = ⊥
 
 -- the texts of the input are without a fault
 abbrev pub IsFaultless : Command → List ℕ → Type 0

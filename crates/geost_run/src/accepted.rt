@@ -26,23 +26,13 @@ pub struct Accepted {
 pub fn read_accepted(alloc: Global, text: &[u8]) -> Result<Accepted, TextFault>
     ensures { AnswersAccepted result text.now }
 {
-    let problem = match read_problem(alloc, text) {
-        Ok(problem) => problem,
-        Err(fault) => return Err(fault),
-    };
-    if let Err(fault) = check_names(alloc, &problem) {
-        return Err(fault);
-    }
-    let rules = match expand_all(alloc, &problem) {
-        Ok(rules) => rules,
-        Err(fault) => return Err(fault),
-    };
-    match ground_rules(alloc, &problem, rules.as_slice()) {
-        Ok(conditions) => Ok(Accepted {
-            problem,
-            rules,
-            conditions,
-        }),
-        Err(fault) => Err(fault),
-    }
+    let problem = read_problem(alloc, text)?;
+    check_names(alloc, &problem)?;
+    let rules = expand_all(alloc, &problem)?;
+    let conditions = ground_rules(alloc, &problem, rules.as_slice())?;
+    Ok(Accepted {
+        problem,
+        rules,
+        conditions,
+    })
 }

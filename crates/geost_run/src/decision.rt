@@ -1,4 +1,8 @@
 // What is to be answered, decided before anything is written.
+ghost use Rattle.std.specs.Prelude.{◌≡◌};
+ghost use Rattle.geost_run.specs.Decision.{decision_status};
+
+use crate::Status;
 use geo_conditions::Layout;
 use geo_tokens::fault::FaultWord;
 use problem_text::problem::Problem;
@@ -20,4 +24,18 @@ pub enum Decision {
     Good,
     /// The rule of this number, from 1 in file order, is the first that does not hold.
     Broken(Problem, usize),
+}
+
+impl Decision {
+    /// The status of a run that has written this answer.
+    pub fn status(&self) -> Status
+        ensures { result ≡ decision_status self.now }
+    {
+        match self {
+            Decision::Refuse(_, _) => Status::Refused,
+            Decision::Budget(_) => Status::Budget,
+            Decision::Layout(_, _) | Decision::Shown(_) | Decision::Good => Status::Answered,
+            Decision::Nothing | Decision::Broken(_, _) => Status::No,
+        }
+    }
 }

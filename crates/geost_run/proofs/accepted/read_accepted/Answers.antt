@@ -1,4 +1,5 @@
 use Rattle.std.proofs.Common.{List, map, subst}
+use Rattle.std.proofs.lemmas.Result.{err_from_is_err_and}
 use Rattle.geo_base.specs.Tuple.{Tuple}
 use Rattle.problem_text.specs.Cells.{IsTuple}
 use Rattle.rule_expand.specs.declared.plain.PlainRule.{PlainRule}
@@ -7,25 +8,29 @@ use Rattle.rule_values.specs.Calm.{AreCalm}
 use Rattle.geost_run.proofs.Refusals.{refused_unread, refused_misnamed, refused_unexpanded, refused_ungrounded}
 use Rattle.geost_run.proofs.accepted.read_accepted.Goals as goal
 
-pub returns-in-Err : goal.returns-in-Err
-returns-in-Err c = refused_unread c.args.text.now c.in-Err.fault c.in-Err.ensures.answer
+pub returns-in_err-problem : goal.returns-in_err-problem
+returns-in_err-problem c = let p = err_from_is_err_and c.from_residual.result c.from_residual.ensures.1 in
+    rw (p.1, p.2) (refused_unread c.args.text.now _ c.in_err-problem.ensures.answer)
 
-pub returns-in-Err-check_names : goal.returns-in-Err-check_names
-returns-in-Err-check_names c = refused_misnamed (Unit {0}) c.args.text.now c.in-Ok.problem c.in-Err-check_names.fault c.in-Ok.ensures.answer c.in-Err-check_names.ensures.answers
+pub returns-in_err-check_names : goal.returns-in_err-check_names
+returns-in_err-check_names c = let p = err_from_is_err_and c.from_residual-in_err-check_names.result c.from_residual-in_err-check_names.ensures.1 in
+    rw (p.1, p.2) (refused_misnamed (Unit {0}) c.args.text.now c.in_ok-problem.problem _ c.in_ok-problem.ensures.answer c.in_err-check_names.ensures.answers)
 
-pub returns-in-Err-expand_all : goal.returns-in-Err-expand_all
-returns-in-Err-expand_all c = refused_unexpanded c.args.text.now c.in-Ok.problem c.in-Err-expand_all.fault c.in-Ok.ensures.answer c.in_default.ensures.answers c.in-Err-expand_all.ensures.expanded
+pub returns-in_err-rules : goal.returns-in_err-rules
+returns-in_err-rules c = let p = err_from_is_err_and c.from_residual-in_err-rules.result c.from_residual-in_err-rules.ensures.1 in
+    rw (p.1, p.2) (refused_unexpanded c.args.text.now c.in_ok-problem.problem _ c.in_ok-problem.ensures.answer c.in_ok-check_names.ensures.answers c.in_err-rules.ensures.expanded)
 
-pub returns-in-Err-ground_rules : goal.returns-in-Err-ground_rules
-returns-in-Err-ground_rules c =
-    refused_ungrounded c.args.text.now c.in-Ok.problem c.in-Err-ground_rules.fault c.in-Ok.ensures.answer c.in_default.ensures.answers c.in-Ok-expand_all.ensures.expanded.1 c.in-Err-ground_rules.ensures.conditions
+pub returns-in_err-conditions : goal.returns-in_err-conditions
+returns-in_err-conditions c = let p = err_from_is_err_and c.from_residual-in_err-conditions.result c.from_residual-in_err-conditions.ensures.1 in
+    rw (p.1, p.2)
+    (refused_ungrounded c.args.text.now c.in_ok-problem.problem _ c.in_ok-problem.ensures.answer c.in_ok-check_names.ensures.answers c.in_ok-rules.ensures.expanded.1 c.in_err-conditions.ensures.conditions)
 
-pub returns-in-Ok-ground_rules : goal.returns-in-Ok-ground_rules
-returns-in-Ok-ground_rules c = record {
-  accepted = record { spells = c.in-Ok.ensures.answer; names = c.in_default.ensures.answers; expands = c.in-Ok-expand_all.ensures.expanded.1; grounds = c.in-Ok-ground_rules.ensures.conditions.1 };
-  rules = c.in-Ok-expand_all.ensures.expanded.0;
-  are = c.in-Ok-ground_rules.ensures.conditions.0;
-  meaning = record { fit = c.in-Ok-ground_rules.ensures.fit; meaning = c.in-Ok-ground_rules.ensures.meaning };
-  asks = c.in-Ok-expand_all.ensures.meaning;
-  calm = subst (λ (rs : List PlainRule). (t : Tuple) → IsTuple c.in-Ok.problem t → AreCalm c.in-Ok.problem t (map plain_rule_data rs)) c.as_slice.ensures.value c.in-Ok-ground_rules.ensures.calm;
+pub returns : goal.returns
+returns c = record {
+  accepted = record { spells = c.in_ok-problem.ensures.answer; names = c.in_ok-check_names.ensures.answers; expands = c.in_ok-rules.ensures.expanded.1; grounds = c.in_ok-conditions.ensures.conditions.1 };
+  rules = c.in_ok-rules.ensures.expanded.0;
+  are = c.in_ok-conditions.ensures.conditions.0;
+  meaning = record { fit = c.in_ok-conditions.ensures.fit; meaning = c.in_ok-conditions.ensures.meaning };
+  asks = c.in_ok-rules.ensures.meaning;
+  calm = subst (λ (rs : List PlainRule). (t : Tuple) → IsTuple c.in_ok-problem.problem t → AreCalm c.in_ok-problem.problem t (map plain_rule_data rs)) c.as_slice.ensures.value c.in_ok-conditions.ensures.calm;
 }

@@ -5,8 +5,8 @@ use Rattle.geost_run.proofs.Taking.{nothing_on, read_on}
 use Rattle.geost_run.proofs.read.read_second_text.Goals as goal
 use Rattle.geost_run.proofs.read.read_second_text.Goals.{in_default-via-in-Some+then-end-lt-MOST+else-len-eq-MOST, in_default-via-in-Some+else-end-lt-MOST, in_default-via-in_default}
 
-pub returns-in-Ok-clause-texts : goal.returns-in-Ok-clause-texts
-returns-in-Ok-clause-texts g c = read_on _ _ c.args.text.items c.read_up_to.new.text.items c.deref.result.now c.in-Some.end c.deref.ensures.value c.in-Some.ensures.only.1 c.in-Ok.ensures.text
+pub returns-in_ok-read_up_to-in-Some-clause-texts : goal.returns-in_ok-read_up_to-in-Some-clause-texts
+returns-in_ok-read_up_to-in-Some-clause-texts g c = read_on _ _ c.args.text.items c.read_up_to.new.text.items c.deref.result.now c.in-Some.end c.deref.ensures.value c.in-Some.ensures.only.1 c.in_ok-read_up_to-in-Some.ensures.text
 
 pub returns-in_default-clause-texts : goal.returns-in_default-clause-texts
 returns-in_default-clause-texts g c = nothing_on _ c.args.text.items (elim c.in_default.branch [

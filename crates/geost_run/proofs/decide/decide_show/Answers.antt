@@ -4,7 +4,7 @@ use Rattle.geo_tokens.specs.declared.fault.TextFault.{TextFault}
 use Rattle.geost_run.specs.Accepted.{AnswersAccepted}
 use Rattle.geost_run.specs.Decision.{decision_text, decision_status, IsDecided}
 use Rattle.geost_run.proofs.Refusals.{refused_as}
-use Rattle.geost_run.proofs.answer.decide_show.Goals as goal
+use Rattle.geost_run.proofs.decide.decide_show.Goals as goal
 
 pub returns-in-Err-clause-answer : goal.returns-in-Err-clause-answer
 returns-in-Err-clause-answer c =

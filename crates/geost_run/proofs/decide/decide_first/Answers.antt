@@ -8,7 +8,7 @@ use Rattle.problem_text.proofs.OneProblem.{accepted_well_formed}
 use Rattle.layout_search.specs.FirstLayout.{Finds}
 use Rattle.layout_search.specs.declared.first.Outcome.{Outcome}
 use Rattle.geost_run.proofs.Ending.{shaped_tuple}
-use Rattle.geost_run.proofs.answer.decide_first.Goals as goal
+use Rattle.geost_run.proofs.decide.decide_first.Goals as goal
 
 pub search_first-requires-clause-problem : goal.search_first-requires-clause-problem
 search_first-requires-clause-problem c = accepted_well_formed c.args.text.now c.in-Ok.accepted.problem c.in-Ok.ensures.accepted.spells

@@ -8,7 +8,7 @@ use Rattle.geost_run.specs.Accepted.{AnswersAccepted}
 use Rattle.geost_run.specs.Answer.{JudgeAnswer}
 use Rattle.geost_run.specs.Decision.{decision_text, decision_status, IsDecided}
 use Rattle.geost_run.proofs.Refusals.{refused_as}
-use Rattle.geost_run.proofs.judging.decide_judge.Goals as goal
+use Rattle.geost_run.proofs.decide.decide_judge.Goals as goal
 
 pub returns-in-Err-clause-answer : goal.returns-in-Err-clause-answer
 returns-in-Err-clause-answer c =

@@ -1,0 +1,83 @@
+-- The same words and the same input have one text, where the status is the same.
+use Rattle.std.proofs.Common.{◌≡◌, inl, inr, ℕ, ◌+◌, ◌<◌, ◌≤◌, List, refl, sym, ◌∙◌, ap, subst, arith}
+use Rattle.std.specs.Prelude.{codes}
+use Rattle.std.proofs.lemmas.Bool.{cases_lt}
+use Rattle.geo_base.specs.Tuple.{Tuple}
+use Rattle.geo_tokens.specs.declared.fault.FaultWord.{FaultWord}
+use Rattle.geo_conditions.specs.Walk.{values}
+use Rattle.geo_conditions.proofs.Fronts.{precedes_once}
+use Rattle.geo_meaning.specs.Judged.{IsFirstBroken}
+use Rattle.layout_text.specs.Block.{block_of}
+use Rattle.problem_text.specs.Problem.{ProblemData}
+use Rattle.problem_text.specs.Canonical.{problem_text}
+use Rattle.rule_ground.specs.Order.{variables_for}
+use Rattle.layout_search.specs.FirstLayout.{IsFirstLayout}
+use Rattle.geost_run.specs.declared.command.Command.TheVariants.{First, Show, Judge}
+use Rattle.geost_run.specs.declared.command.Status.{Status}
+use Rattle.geost_run.specs.declared.command.Status.TheVariants.{Answered, No, Refused, Budget}
+use Rattle.geost_run.specs.Answer.{refusal, broken_rule, rule_name, FirstAnswer, ShowAnswer, JudgeAnswer, Answer}
+use Rattle.geost_run.proofs.Refusals.{same_problem}
+use Rattle.geost_run.proofs.Only.{given_once, same_number, first_or_show, first_or_judge, show_or_judge}
+use Rattle.geost_run.proofs.OneRefusal.{one_refusal, one_pair_refusal}
+
+-- two first layouts are one
+one_layout : (p : ProblemData) (t u : Tuple) → IsFirstLayout p t → IsFirstLayout p u → u ≡ t
+one_layout p t u f g = elim (f.first u g.layout) [
+  | inl e ↦ e
+  | inr b ↦ elim (g.first t f.layout) [
+    | inl e ↦ sym e
+    | inr a ↦ absurd (precedes_once (variables_for p) (values (variables_for p) t) (values (variables_for p) u) b a)
+  ]
+]
+
+same_refusal : (k q : ℕ) (v w : FaultWord) → (q ≡ k) × (w ≡ v) → refusal q w ≡ refusal k v
+same_refusal k q v w e = ap (λ (n : ℕ). refusal n w) e.0 ∙ ap (λ (x : FaultWord). refusal k x) e.1
+
+first_text : (n : ℕ) (input t u : List ℕ) (s : Status) → FirstAnswer n input t s → FirstAnswer n input u s → t ≡ u
+first_text n input t u Answered (p, x, cs, a, are, l, f, e) (q, y, ds, b, is, m, g, h) =
+    let same : q ≡ p = same_problem input q p b a in
+    let other : u ≡ block_of p y = subst (λ (z : ProblemData). u ≡ block_of z y) same h in
+    e ∙ sym (other ∙ ap (λ (z : Tuple). block_of p z) (one_layout p x y f (subst (λ (z : ProblemData). IsFirstLayout z y) same g)))
+first_text n input t u No (p, cs, a, are, l, none, e) (q, ds, b, is, m, neither, g) = e ∙ sym g
+first_text n input t u Budget (p, cs, a, are, l, e) (q, ds, b, is, m, g) = e ∙ sym g
+first_text n input t u Refused (k, v, f, e) (q, w, g, h) = e ∙ sym (h ∙ same_refusal k q v w (one_refusal input k q v w f g))
+first_text n input t u _ a b = absurd a
+
+show_text : (input t u : List ℕ) (s : Status) → ShowAnswer input t s → ShowAnswer input u s → t ≡ u
+show_text input t u Answered (p, a, e) (q, b, h) = e ∙ sym (h ∙ ap problem_text (same_problem input q p b a))
+show_text input t u Refused (k, v, f, e) (q, w, g, h) = e ∙ sym (h ∙ same_refusal k q v w (one_refusal input k q v w f g))
+show_text input t u _ a b = absurd a
+
+-- two rules that are the first broken one are one
+one_broken : (p : ProblemData) (t : Tuple) (n m : ℕ) → IsFirstBroken p t n → IsFirstBroken p t m → m ≡ n
+one_broken p t n m f g = elim (cases_lt f.position g.position) [
+  | inl l ↦ absurd (f.broken (g.before f.position l))
+  | inr l ↦ elim (cases_lt g.position f.position) [
+    | inl k ↦ absurd (g.broken (f.before g.position k))
+    | inr k ↦ omega (arith, l, k, f.number, g.number)
+  ]
+]
+
+judge_text : (input t u : List ℕ) (s : Status) → JudgeAnswer input t s → JudgeAnswer input u s → t ≡ u
+judge_text input t u Answered (p, x, g, l, e) (q, y, k, m, h) = e ∙ sym h
+judge_text input t u No (p, x, n, g, b, e) (q, y, m, k, c, h) =
+    let same = given_once input p q x y g k in
+    let broken : IsFirstBroken p x m = subst (λ (z : Tuple). IsFirstBroken p z m) same.1 (subst (λ (z : ProblemData). IsFirstBroken z y m) same.0 c) in
+    let other : u ≡ broken_rule (rule_name p m) = subst (λ (z : ProblemData). u ≡ broken_rule (rule_name z m)) same.0 h in
+    e ∙ sym (other ∙ ap (λ (z : ℕ). broken_rule (rule_name p z)) (one_broken p x n m b broken))
+judge_text input t u Refused (k, v, f, e) (q, w, g, h) = e ∙ sym (h ∙ same_refusal k q v w (one_pair_refusal input k q v w f g))
+judge_text input t u _ a b = absurd a
+
+pub one_text : (words : List (List ℕ)) (input t u : List ℕ) (s : Status) → Answer words input t s → Answer words input u s → t ≡ u
+one_text words input t u s (inl (First n, f, a)) (inl (First m, g, b)) = first_text m input t u s (subst (λ (k : ℕ). FirstAnswer k input t s) (same_number words n m f g) a) b
+one_text words input t u s (inl (Show, f, a)) (inl (Show, g, b)) = show_text input t u s a b
+one_text words input t u s (inl (Judge, f, a)) (inl (Judge, g, b)) = judge_text input t u s a b
+one_text words input t u s (inl (First n, f, a)) (inl (Show, g, b)) = absurd (first_or_show words n f g)
+one_text words input t u s (inl (Show, f, a)) (inl (First n, g, b)) = absurd (first_or_show words n g f)
+one_text words input t u s (inl (First n, f, a)) (inl (Judge, g, b)) = absurd (first_or_judge words n f g)
+one_text words input t u s (inl (Judge, f, a)) (inl (First n, g, b)) = absurd (first_or_judge words n g f)
+one_text words input t u s (inl (Show, f, a)) (inl (Judge, g, b)) = absurd (show_or_judge words f g)
+one_text words input t u s (inl (Judge, f, a)) (inl (Show, g, b)) = absurd (show_or_judge words g f)
+one_text words input t u s (inl (c, f, a)) (inr h) = absurd (h.none c f)
+one_text words input t u s (inr h) (inl (c, f, a)) = absurd (h.none c f)
+one_text words input t u s (inr h) (inr k) = h.says ∙ sym k.says
