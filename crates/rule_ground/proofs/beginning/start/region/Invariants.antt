@@ -2,7 +2,7 @@ use Rattle.std.proofs.Common.{◌≡◌, ℕ, ◌<◌, length, map}
 use Rattle.geo_base.specs.Boxes.{coordinate}
 use Rattle.problem_text.specs.ProblemView.{range_data}
 use Rattle.problem_text.specs.Cells.{range_at}
-use Rattle.rule_ground.proofs.start.region.Given as goal
+use Rattle.rule_ground.proofs.beginning.start.region.Given as goal
 
 -- the ends so far
 abbrev pub invariant-loop-d : goal.invariant-loop-d

@@ -4,7 +4,7 @@ use Rattle.geo_conditions.specs.Reach.{State, TupleIn}
 use Rattle.problem_text.specs.Cells.{IsTuple}
 use Rattle.rule_ground.specs.Start.{HasSmallEnds}
 use Rattle.rule_ground.proofs.Starts.{tuples-are, ends-small, state-end}
-use Rattle.rule_ground.proofs.start.first_state.Goals as goal
+use Rattle.rule_ground.proofs.beginning.start.first_state.Goals as goal
 
 pub returns-clause-tuples : goal.returns-clause-tuples
 returns-clause-tuples g c =

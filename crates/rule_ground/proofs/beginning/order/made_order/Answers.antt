@@ -3,7 +3,7 @@ use Rattle.std.proofs.lemmas.Result.{IfOk-weaker}
 use Rattle.geo_conditions.specs.Walk.{Order, NamesEach}
 use Rattle.rule_ground.specs.Start.{first_state}
 use Rattle.rule_ground.proofs.Starts.{names-each, order-is}
-use Rattle.rule_ground.proofs.order.made_order.Goals as goal
+use Rattle.rule_ground.proofs.beginning.order.made_order.Goals as goal
 
 pub returns-clause-names : goal.returns-clause-names
 returns-clause-names c =

@@ -25,7 +25,8 @@ fn is_downwards(side: Side) -> bool
 fn made_order(alloc: Global, problem: &Problem) -> Result<SearchOrder, AllocError>
     requires problem { IsWellFormed problem.now }
     ensures value { IfOk result (λ order. order ≡ order_of problem.now) }
-    ensures names { IfOk result (λ order. NamesEach problem.now.dims (first_state problem.now) order) }
+    ensures names { IfOk result
+        (λ order. NamesEach problem.now.dims (first_state problem.now) order) }
 {
     let mut objects = Vec::new(alloc);
     for o in problem.search_order() {
@@ -42,7 +43,8 @@ fn made_order(alloc: Global, problem: &Problem) -> Result<SearchOrder, AllocErro
 /// the high end down. It names each object once.
 pub fn search_order(alloc: Global, problem: &Problem) -> Result<SearchOrder, AllocError>
     ensures value { IfOk result (λ order. order ≡ order_of problem.now) }
-    ensures names { IfOk result (λ order. NamesEach problem.now.dims (first_state problem.now) order) }
+    ensures names { IfOk result
+        (λ order. NamesEach problem.now.dims (first_state problem.now) order) }
 {
     problem.is_said();
     made_order(alloc, problem)
