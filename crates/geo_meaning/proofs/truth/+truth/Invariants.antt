@@ -4,9 +4,9 @@ use Rattle.rule_expand.specs.PlainTruth.{plain_all, plain_some}
 use Rattle.rule_expand.specs.PlainView.{plain_formula_view, plain_formulas_view}
 use Rattle.rule_values.specs.Elements.{elements_view}
 use Rattle.rule_values.specs.View.{env_view}
-use Rattle.rule_truth.specs.Quantified.{holds_for}
-use Rattle.rule_truth.proofs.Left.{AllLeft, SomeLeft}
-use Rattle.rule_truth.proofs.truth.+truth.Given as goal
+use Rattle.geo_meaning.specs.Quantified.{holds_for}
+use Rattle.geo_meaning.proofs.Left.{AllLeft, SomeLeft}
+use Rattle.geo_meaning.proofs.truth.+truth.Given as goal
 
 abbrev pub invariant-all_hold-loop-f : goal.invariant-all_hold-loop-f
 invariant-all_hold-loop-f l = AllLeft l.problem l.layout (env_view l.env) (plain_formulas_view (drop l.f-index l.fs)) (plain_all l.problem l.layout (plain_formulas_view l.fs) (env_view l.env))

@@ -4,10 +4,9 @@ ghost use Rattle.std.specs.Prelude.{◌≡◌};
 ghost use Rattle.std.specs.List.{count_by, list_all, list_any};
 ghost use Rattle.problem_text.specs.Cells.{IsShaped};
 ghost use Rattle.problem_text.specs.Truth.{compare, quantify};
-ghost use Rattle.problem_text.specs.WellFormed.{IsWellFormed};
 ghost use Rattle.rule_expand.specs.PlainTruth.{plain_all, plain_elements, plain_holds, plain_some, plain_value, set_variable};
 ghost use Rattle.rule_expand.specs.PlainView.{plain_coll_view, plain_expr_view, plain_formula_view, plain_formulas_view};
-ghost use Rattle.rule_truth.specs.Quantified.{AreCalm, holds_for};
+ghost use Rattle.geo_meaning.specs.Quantified.{AreCalm, holds_for};
 ghost use Rattle.rule_values.specs.Calm.{AllCalm, IsCalm, IsTame, SomeCalm};
 ghost use Rattle.rule_values.specs.Elements.{element_at, elements_view};
 ghost use Rattle.rule_values.specs.View.{env_view};
@@ -44,11 +43,13 @@ fn comparison(
     b: &PlainExpr,
     env: &Env,
 ) -> bool
-    requires problem { IsWellFormed problem.now }
     requires layout { IsShaped problem.now layout.now }
     requires left { IsTame problem.now layout.now (plain_expr_view a.now) (env_view env.now) }
     requires right { IsTame problem.now layout.now (plain_expr_view b.now) (env_view env.now) }
-    ensures { result ≡ compare rel (plain_value problem.now layout.now (plain_expr_view a.now) (env_view env.now)) (plain_value problem.now layout.now (plain_expr_view b.now) (env_view env.now)) }
+    ensures { result
+        ≡ compare rel
+        (plain_value problem.now layout.now (plain_expr_view a.now) (env_view env.now))
+        (plain_value problem.now layout.now (plain_expr_view b.now) (env_view env.now)) }
 {
     let left = number(problem, layout, a, env);
     compared(left, rel, number(problem, layout, b, env))
@@ -61,9 +62,9 @@ fn ranged<'a>(
     coll: &'a PlainColl,
     env: &'a Env<'a>,
 ) -> Elements<'a>
-    requires problem { IsWellFormed problem.now }
     requires layout { IsShaped problem.now layout.now }
-    ensures { elements_view result ≡ plain_elements problem.now layout.now (plain_coll_view coll.now) (env_view env.now) }
+    ensures { elements_view result
+        ≡ plain_elements problem.now layout.now (plain_coll_view coll.now) (env_view env.now) }
 {
     let at = match owner(coll, env) {
         Some(o) => place(problem, layout, o),
@@ -75,10 +76,10 @@ fn ranged<'a>(
 /// Whether a formula holds on the tuple.
 #[cycle(truth)]
 pub fn holds(problem: &Problem, layout: &Layout, f: &PlainFormula, env: &Env) -> bool
-    requires problem { IsWellFormed problem.now }
     requires layout { IsShaped problem.now layout.now }
     requires calm { IsCalm problem.now layout.now (plain_formula_view f.now) (env_view env.now) }
-    ensures { result ≡ plain_holds problem.now layout.now (plain_formula_view f.now) (env_view env.now) }
+    ensures { result
+        ≡ plain_holds problem.now layout.now (plain_formula_view f.now) (env_view env.now) }
 {
     match f {
         PlainFormula::True => true,
@@ -104,10 +105,10 @@ pub fn holds(problem: &Problem, layout: &Layout, f: &PlainFormula, env: &Env) ->
 /// Whether all formulas hold; those behind one that fails are left out.
 #[cycle(truth)]
 fn all_hold(problem: &Problem, layout: &Layout, fs: &[PlainFormula], env: &Env) -> bool
-    requires problem { IsWellFormed problem.now }
     requires layout { IsShaped problem.now layout.now }
     requires calm { AllCalm problem.now layout.now (plain_formulas_view fs.now) (env_view env.now) }
-    ensures { result ≡ plain_all problem.now layout.now (plain_formulas_view fs.now) (env_view env.now) }
+    ensures { result
+        ≡ plain_all problem.now layout.now (plain_formulas_view fs.now) (env_view env.now) }
 {
     for f in fs {
         if !holds(problem, layout, f, &*env) {
@@ -120,10 +121,11 @@ fn all_hold(problem: &Problem, layout: &Layout, fs: &[PlainFormula], env: &Env) 
 /// Whether some formula holds; those behind it are left out.
 #[cycle(truth)]
 fn some_holds(problem: &Problem, layout: &Layout, fs: &[PlainFormula], env: &Env) -> bool
-    requires problem { IsWellFormed problem.now }
     requires layout { IsShaped problem.now layout.now }
-    requires calm { SomeCalm problem.now layout.now (plain_formulas_view fs.now) (env_view env.now) }
-    ensures { result ≡ plain_some problem.now layout.now (plain_formulas_view fs.now) (env_view env.now) }
+    requires calm { SomeCalm problem.now layout.now (plain_formulas_view fs.now)
+        (env_view env.now) }
+    ensures { result
+        ≡ plain_some problem.now layout.now (plain_formulas_view fs.now) (env_view env.now) }
 {
     for f in fs {
         if holds(problem, layout, f, &*env) {
@@ -144,10 +146,13 @@ fn quantified(
     f: &PlainFormula,
     env: &Env,
 ) -> bool
-    requires problem { IsWellFormed problem.now }
     requires layout { IsShaped problem.now layout.now }
-    requires calm { AreCalm problem.now layout.now (plain_formula_view f.now) v (elements_view elements.now) (env_view env.now) }
-    ensures { result ≡ quantify kind (holds_for problem.now layout.now (plain_formula_view f.now) v (env_view env.now)) (elements_view elements.now) }
+    requires calm { AreCalm problem.now layout.now (plain_formula_view f.now) v
+        (elements_view elements.now) (env_view env.now) }
+    ensures { result
+        ≡ quantify kind
+        (holds_for problem.now layout.now (plain_formula_view f.now) v (env_view env.now))
+        (elements_view elements.now) }
 {
     match kind {
         QuantKind::ForAll => for_all(problem, layout, v, &*elements, f, &*env),
@@ -167,10 +172,13 @@ fn for_all(
     f: &PlainFormula,
     env: &Env,
 ) -> bool
-    requires problem { IsWellFormed problem.now }
     requires layout { IsShaped problem.now layout.now }
-    requires calm { AreCalm problem.now layout.now (plain_formula_view f.now) v (elements_view elements.now) (env_view env.now) }
-    ensures { result ≡ list_all (holds_for problem.now layout.now (plain_formula_view f.now) v (env_view env.now)) (elements_view elements.now) }
+    requires calm { AreCalm problem.now layout.now (plain_formula_view f.now) v
+        (elements_view elements.now) (env_view env.now) }
+    ensures { result
+        ≡ list_all
+        (holds_for problem.now layout.now (plain_formula_view f.now) v (env_view env.now))
+        (elements_view elements.now) }
 {
     for i in 0..elements.len() {
         if !holds_at(problem, layout, v, &*elements, i, f, &*env) {
@@ -190,10 +198,13 @@ fn for_some(
     f: &PlainFormula,
     env: &Env,
 ) -> bool
-    requires problem { IsWellFormed problem.now }
     requires layout { IsShaped problem.now layout.now }
-    requires calm { AreCalm problem.now layout.now (plain_formula_view f.now) v (elements_view elements.now) (env_view env.now) }
-    ensures { result ≡ list_any (holds_for problem.now layout.now (plain_formula_view f.now) v (env_view env.now)) (elements_view elements.now) }
+    requires calm { AreCalm problem.now layout.now (plain_formula_view f.now) v
+        (elements_view elements.now) (env_view env.now) }
+    ensures { result
+        ≡ list_any
+        (holds_for problem.now layout.now (plain_formula_view f.now) v (env_view env.now))
+        (elements_view elements.now) }
 {
     for i in 0..elements.len() {
         if holds_at(problem, layout, v, &*elements, i, f, &*env) {
@@ -213,10 +224,13 @@ fn how_many(
     f: &PlainFormula,
     env: &Env,
 ) -> usize
-    requires problem { IsWellFormed problem.now }
     requires layout { IsShaped problem.now layout.now }
-    requires calm { AreCalm problem.now layout.now (plain_formula_view f.now) v (elements_view elements.now) (env_view env.now) }
-    ensures { result ≡ count_by (holds_for problem.now layout.now (plain_formula_view f.now) v (env_view env.now)) (elements_view elements.now) }
+    requires calm { AreCalm problem.now layout.now (plain_formula_view f.now) v
+        (elements_view elements.now) (env_view env.now) }
+    ensures { result
+        ≡ count_by
+        (holds_for problem.now layout.now (plain_formula_view f.now) v (env_view env.now))
+        (elements_view elements.now) }
 {
     let mut count = 0;
     for i in 0..elements.len() {
@@ -238,10 +252,12 @@ fn holds_at(
     f: &PlainFormula,
     env: &Env,
 ) -> bool
-    requires problem { IsWellFormed problem.now }
     requires layout { IsShaped problem.now layout.now }
-    requires calm { IsCalm problem.now layout.now (plain_formula_view f.now) (set_variable v (element_at (elements_view elements.now) i) (env_view env.now)) }
-    ensures { result ≡ holds_for problem.now layout.now (plain_formula_view f.now) v (env_view env.now) (element_at (elements_view elements.now) i) }
+    requires calm { IsCalm problem.now layout.now (plain_formula_view f.now)
+        (set_variable v (element_at (elements_view elements.now) i) (env_view env.now)) }
+    ensures { result
+        ≡ holds_for problem.now layout.now (plain_formula_view f.now) v (env_view env.now)
+        (element_at (elements_view elements.now) i) }
 {
     let thing = elements.at(i);
     holds(problem, layout, f, &Env::More(&*env, v, thing))

@@ -5,7 +5,6 @@ ghost use Rattle.std.specs.Int.{w128};
 ghost use Rattle.std.specs.Int.RustNames.{FitsSigned};
 ghost use Rattle.problem_text.specs.Cells.{IsShaped};
 ghost use Rattle.problem_text.specs.Value.{field_value, object_field};
-ghost use Rattle.problem_text.specs.WellFormed.{IsWellFormed};
 ghost use Rattle.rule_expand.specs.PlainTruth.{plain_product, plain_products, plain_sum, plain_sums, plain_value};
 ghost use Rattle.rule_expand.specs.PlainView.{plain_expr_view, plain_product_view, plain_products_view, plain_sum_view, plain_sums_view};
 ghost use Rattle.rule_values.specs.Calm.{AreTameProducts, AreTameSums, IsTame, IsTameProduct, IsTameSum};
@@ -23,7 +22,6 @@ use rule_values::shapes::shape_number;
 
 /// A field of an object.
 fn field_of_object(problem: &Problem, layout: &Layout, o: usize, name: &Name) -> i128
-    requires problem { IsWellFormed problem.now }
     requires layout { IsShaped problem.now layout.now }
     ensures { result ≡ object_field problem.now layout.now o name.now }
 {
@@ -36,7 +34,6 @@ fn field_of_object(problem: &Problem, layout: &Layout, o: usize, name: &Name) ->
 
 /// A field of what a variable stands for.
 fn field(problem: &Problem, layout: &Layout, thing: Thing, name: &Name) -> i128
-    requires problem { IsWellFormed problem.now }
     requires layout { IsShaped problem.now layout.now }
     ensures { result ≡ field_value problem.now layout.now (thing_view thing.entry) name.now }
 {
@@ -50,10 +47,10 @@ fn field(problem: &Problem, layout: &Layout, thing: Thing, name: &Name) -> i128
 /// The number of an expression.
 #[cycle(number)]
 pub fn number(problem: &Problem, layout: &Layout, e: &PlainExpr, env: &Env) -> i128
-    requires problem { IsWellFormed problem.now }
     requires layout { IsShaped problem.now layout.now }
     requires tame { IsTame problem.now layout.now (plain_expr_view e.now) (env_view env.now) }
-    ensures { result ≡ plain_value problem.now layout.now (plain_expr_view e.now) (env_view env.now) }
+    ensures { result
+        ≡ plain_value problem.now layout.now (plain_expr_view e.now) (env_view env.now) }
 {
     match e {
         PlainExpr::Num(n) => i128::from(*n),
@@ -82,10 +79,11 @@ pub fn number(problem: &Problem, layout: &Layout, e: &PlainExpr, env: &Env) -> i
 /// What the steps of a sum give, from the left.
 #[cycle(number)]
 fn sum(problem: &Problem, layout: &Layout, first: i128, steps: &[PlainSum], env: &Env) -> i128
-    requires problem { IsWellFormed problem.now }
     requires layout { IsShaped problem.now layout.now }
-    requires tame { AreTameSums problem.now layout.now (plain_sums_view steps.now) (env_view env.now) first }
-    ensures { result ≡ first +ℤ plain_sums problem.now layout.now (plain_sums_view steps.now) (env_view env.now) }
+    requires tame { AreTameSums problem.now layout.now (plain_sums_view steps.now)
+        (env_view env.now) first }
+    ensures { result ≡ first
+        +ℤ plain_sums problem.now layout.now (plain_sums_view steps.now) (env_view env.now) }
 {
     let mut so_far = first;
     for step in steps {
@@ -97,11 +95,12 @@ fn sum(problem: &Problem, layout: &Layout, first: i128, steps: &[PlainSum], env:
 /// What one more step of a sum gives.
 #[cycle(number)]
 fn sum_step(problem: &Problem, layout: &Layout, so_far: i128, step: &PlainSum, env: &Env) -> i128
-    requires problem { IsWellFormed problem.now }
     requires layout { IsShaped problem.now layout.now }
     requires tame { IsTameSum problem.now layout.now (plain_sum_view step.now) (env_view env.now) }
-    requires fits { FitsSigned w128 (so_far +ℤ plain_sum problem.now layout.now (plain_sum_view step.now) (env_view env.now)) }
-    ensures { result ≡ so_far +ℤ plain_sum problem.now layout.now (plain_sum_view step.now) (env_view env.now) }
+    requires fits { FitsSigned w128 (so_far
+        +ℤ plain_sum problem.now layout.now (plain_sum_view step.now) (env_view env.now)) }
+    ensures { result ≡ so_far
+        +ℤ plain_sum problem.now layout.now (plain_sum_view step.now) (env_view env.now) }
 {
     match step {
         PlainSum::Plus(e) => so_far + number(problem, layout, e, &*env),
@@ -112,10 +111,11 @@ fn sum_step(problem: &Problem, layout: &Layout, so_far: i128, step: &PlainSum, e
 /// What the steps of a product give, from the left.
 #[cycle(number)]
 fn product(problem: &Problem, layout: &Layout, first: i128, steps: &[PlainProd], env: &Env) -> i128
-    requires problem { IsWellFormed problem.now }
     requires layout { IsShaped problem.now layout.now }
-    requires tame { AreTameProducts problem.now layout.now (plain_products_view steps.now) (env_view env.now) first }
-    ensures { result ≡ plain_products problem.now layout.now first (plain_products_view steps.now) (env_view env.now) }
+    requires tame { AreTameProducts problem.now layout.now (plain_products_view steps.now)
+        (env_view env.now) first }
+    ensures { result ≡ plain_products problem.now layout.now first (plain_products_view steps.now)
+        (env_view env.now) }
 {
     let mut so_far = first;
     for step in steps {
@@ -133,11 +133,14 @@ fn product_step(
     step: &PlainProd,
     env: &Env,
 ) -> i128
-    requires problem { IsWellFormed problem.now }
     requires layout { IsShaped problem.now layout.now }
-    requires tame { IsTameProduct problem.now layout.now (plain_product_view step.now) (env_view env.now) }
-    requires fits { FitsSigned w128 (plain_product problem.now layout.now so_far (plain_product_view step.now) (env_view env.now)) }
-    ensures { result ≡ plain_product problem.now layout.now so_far (plain_product_view step.now) (env_view env.now) }
+    requires tame { IsTameProduct problem.now layout.now (plain_product_view step.now)
+        (env_view env.now) }
+    requires fits { FitsSigned w128
+        (plain_product problem.now layout.now so_far (plain_product_view step.now)
+        (env_view env.now)) }
+    ensures { result ≡ plain_product problem.now layout.now so_far (plain_product_view step.now)
+        (env_view env.now) }
 {
     match step {
         PlainProd::Times(e) => so_far * number(problem, layout, e, &*env),
