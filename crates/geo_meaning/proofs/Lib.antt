@@ -1,3 +1,5 @@
 pub mod Corners
+pub mod Said
+pub mod Left
 pub mod Pairs
 pub mod Rules

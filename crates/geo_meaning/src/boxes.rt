@@ -23,8 +23,11 @@ fn span(origin: i64, offset: i64, size: i64) -> (i128, i128)
 fn ends(layout: &Layout, o: ObjId, a: &BoxDef, d: usize) -> (i128, i128)
     requires o { (o.0 < length layout.now) × (d < length (spot layout.now o.0).origin) }
     requires a { (d < length a.now.offsets) × (d < length a.now.sizes) }
-    ensures low { result.0 ≡ coordinate (spot layout.now o.0).origin d +ℤ coordinate a.now.offsets d }
-    ensures high { result.1 ≡ (coordinate (spot layout.now o.0).origin d +ℤ coordinate a.now.offsets d) +ℤ coordinate a.now.sizes d }
+    ensures low { result.0 ≡ coordinate (spot layout.now o.0).origin d
+        +ℤ coordinate a.now.offsets d }
+    ensures high { result.1
+        ≡ (coordinate (spot layout.now o.0).origin d +ℤ coordinate a.now.offsets d)
+        +ℤ coordinate a.now.sizes d }
 {
     let origin = layout.origin(o, d);
     let offset = a.offsets()[d];
@@ -34,8 +37,10 @@ fn ends(layout: &Layout, o: ObjId, a: &BoxDef, d: usize) -> (i128, i128)
 
 // Whether no number stands from p_low on and below p_high, and from q_low on and below q_high.
 fn no_common(p_low: i128, p_high: i128, q_low: i128, q_high: i128) -> bool
-    ensures yes { OnTrue result ((c : ℤ) → p_low ≤ℤ c → c <ℤ p_high → q_low ≤ℤ c → c <ℤ q_high → ⊥) }
-    ensures no { OnFalse result ((c : ℤ) × ((p_low ≤ℤ c) × (c <ℤ p_high) × (q_low ≤ℤ c) × (c <ℤ q_high))) }
+    ensures yes { OnTrue result ((c : ℤ) → p_low ≤ℤ c → c <ℤ p_high → q_low ≤ℤ c → c <ℤ q_high
+        → ⊥) }
+    ensures no { OnFalse result ((c : ℤ)
+        × ((p_low ≤ℤ c) × (c <ℤ p_high) × (q_low ≤ℤ c) × (c <ℤ q_high))) }
 {
     p_high <= p_low || p_high <= q_low || q_high <= p_low || q_high <= q_low
 }
@@ -46,8 +51,11 @@ fn parts_in(layout: &Layout, o: ObjId, a: &BoxDef, u: ObjId, b: &BoxDef, d: usiz
     requires u { (u.0 < length layout.now) × (d < length (spot layout.now u.0).origin) }
     requires a { (d < length a.now.offsets) × (d < length a.now.sizes) }
     requires b { (d < length b.now.offsets) × (d < length b.now.sizes) }
-    ensures yes { OnTrue result ((c : ℤ) → IsIn a.now (spot layout.now o.0).origin d c → IsIn b.now (spot layout.now u.0).origin d c → ⊥) }
-    ensures no { OnFalse result ((c : ℤ) × (IsIn a.now (spot layout.now o.0).origin d c × IsIn b.now (spot layout.now u.0).origin d c)) }
+    ensures yes { OnTrue result ((c : ℤ) → IsIn a.now (spot layout.now o.0).origin d c
+        → IsIn b.now (spot layout.now u.0).origin d c → ⊥) }
+    ensures no { OnFalse result ((c : ℤ)
+        × (IsIn a.now (spot layout.now o.0).origin d c
+        × IsIn b.now (spot layout.now u.0).origin d c)) }
 {
     let (p_low, p_high) = ends(layout, o, a, d);
     let (q_low, q_high) = ends(layout, u, b, d);
@@ -67,8 +75,11 @@ pub fn box_shares_no_cell(
     requires u { (u.0 < length layout.now) × (length (spot layout.now u.0).origin ≡ dims) }
     requires a { IsBox dims a.now }
     requires b { IsBox dims b.now }
-    ensures yes { OnTrue result ((c : List ℤ) → BoxHas dims a.now (spot layout.now o.0).origin c → BoxHas dims b.now (spot layout.now u.0).origin c → ⊥) }
-    ensures no { OnFalse result ((c : List ℤ) × (BoxHas dims a.now (spot layout.now o.0).origin c × BoxHas dims b.now (spot layout.now u.0).origin c)) }
+    ensures yes { OnTrue result ((c : List ℤ) → BoxHas dims a.now (spot layout.now o.0).origin c
+        → BoxHas dims b.now (spot layout.now u.0).origin c → ⊥) }
+    ensures no { OnFalse result ((c : List ℤ)
+        × (BoxHas dims a.now (spot layout.now o.0).origin c
+        × BoxHas dims b.now (spot layout.now u.0).origin c)) }
 {
     for d in 0..dims {
         if parts_in(layout, o, a, u, b, d) {
@@ -80,10 +91,15 @@ pub fn box_shares_no_cell(
 
 /// Whether each cell of the box of the object o lies in the ranges.
 pub fn box_lies_within(ranges: &[RangeDef], layout: &Layout, o: ObjId, a: &BoxDef) -> bool
-    requires o { (o.0 < length layout.now) × (length (spot layout.now o.0).origin ≡ length ranges.now) }
+    requires o { (o.0 < length layout.now)
+        × (length (spot layout.now o.0).origin ≡ length ranges.now) }
     requires a { IsBox (length ranges.now) a.now }
-    ensures yes { OnTrue result ((c : List ℤ) → BoxHas (length ranges.now) a.now (spot layout.now o.0).origin c → IsInRanges (map range_data ranges.now) c) }
-    ensures no { OnFalse result ((c : List ℤ) × (BoxHas (length ranges.now) a.now (spot layout.now o.0).origin c × (IsInRanges (map range_data ranges.now) c → ⊥))) }
+    ensures yes { OnTrue result ((c : List ℤ)
+        → BoxHas (length ranges.now) a.now (spot layout.now o.0).origin c
+        → IsInRanges (map range_data ranges.now) c) }
+    ensures no { OnFalse result ((c : List ℤ)
+        × (BoxHas (length ranges.now) a.now (spot layout.now o.0).origin c
+        × (IsInRanges (map range_data ranges.now) c → ⊥))) }
 {
     for d in 0..ranges.len() {
         if !part_lies_in(&ranges[d], layout, o, a, d) {
@@ -98,8 +114,11 @@ fn part_lies_in(range: &RangeDef, layout: &Layout, o: ObjId, a: &BoxDef, d: usiz
     requires o { (o.0 < length layout.now) × (d < length (spot layout.now o.0).origin) }
     requires a { (d < length a.now.offsets) × (d < length a.now.sizes) }
     requires solid { pos 0 <ℤ coordinate a.now.sizes d }
-    ensures yes { OnTrue result ((c : ℤ) → IsIn a.now (spot layout.now o.0).origin d c → (range.now.low ≤ℤ c) × (c ≤ℤ range.now.high)) }
-    ensures no { OnFalse result ((c : ℤ) × (IsIn a.now (spot layout.now o.0).origin d c × ((range.now.low ≤ℤ c) → (c ≤ℤ range.now.high) → ⊥))) }
+    ensures yes { OnTrue result ((c : ℤ) → IsIn a.now (spot layout.now o.0).origin d c
+        → (range.now.low ≤ℤ c) × (c ≤ℤ range.now.high)) }
+    ensures no { OnFalse result ((c : ℤ)
+        × (IsIn a.now (spot layout.now o.0).origin d c
+        × ((range.now.low ≤ℤ c) → (c ≤ℤ range.now.high) → ⊥))) }
 {
     let (low, high) = ends(layout, o, a, d);
     all_between(low, high, range.low as i128, range.high as i128)
@@ -109,7 +128,8 @@ fn part_lies_in(range: &RangeDef, layout: &Layout, o: ObjId, a: &BoxDef, d: usiz
 fn all_between(low: i128, high: i128, lowest: i128, highest: i128) -> bool
     requires { low <ℤ high }
     ensures yes { OnTrue result ((c : ℤ) → low ≤ℤ c → c <ℤ high → (lowest ≤ℤ c) × (c ≤ℤ highest)) }
-    ensures no { OnFalse result ((c : ℤ) × ((low ≤ℤ c) × (c <ℤ high) × ((lowest ≤ℤ c) → (c ≤ℤ highest) → ⊥))) }
+    ensures no { OnFalse result ((c : ℤ)
+        × ((low ≤ℤ c) × (c <ℤ high) × ((lowest ≤ℤ c) → (c ≤ℤ highest) → ⊥))) }
 {
     lowest <= low && high - 1 <= highest
 }

@@ -1,9 +1,15 @@
-//! What placed objects cover: whether they share a cell, and whether they lie in given ranges, by the ends of their boxes. And whether
-//! a tuple of them keeps all rules of a problem.
+//! What the rules of a problem mean on a tuple, by direct evaluation: formulas from the left and no further than they have to go, in
+//! whole numbers of 128 bits; `apart` and `within` by the cells that the boxes of the objects cover. The judge names the first rule that
+//! does not hold.
 #![tactic(auto)]
 
 mod boxes;
+mod formed;
 pub mod judging;
+mod numbers;
 mod objects;
+mod places;
+mod truth;
 
+pub use judging::{Judged, judge};
 pub use objects::{lies_within, shares_no_cell};

@@ -5,20 +5,21 @@ ghost use Rattle.geo_base.specs.Tuple.{spot};
 ghost use Rattle.problem_text.specs.Cells.{BoxHas, IsShaped, IsInRanges, IsCellOf, NoCommonCell, LiesWithin};
 ghost use Rattle.problem_text.specs.Tuple.{boxes_in};
 ghost use Rattle.problem_text.specs.ProblemView.{range_data};
-ghost use Rattle.problem_text.specs.WellFormed.{IsBox, IsWellFormed};
+ghost use Rattle.problem_text.specs.WellFormed.{IsBox};
 
 use crate::boxes::{box_lies_within, box_shares_no_cell};
 use geo_conditions::{Layout, ObjId};
 use problem_text::problem::{BoxDef, Problem, RangeDef};
+use rule_values::shapes::boxes_at;
 
 /// Whether no cell belongs to both objects where the layout puts them.
 pub fn shares_no_cell(problem: &Problem, layout: &Layout, o: ObjId, u: ObjId) -> bool
-    requires problem { IsWellFormed problem.now }
     requires layout { IsShaped problem.now layout.now }
     requires o { o.0 < length problem.now.objects }
     requires u { u.0 < length problem.now.objects }
     ensures yes { OnTrue result (NoCommonCell problem.now layout.now o.0 u.0) }
-    ensures no { OnFalse result ((c : List ℤ) × (IsCellOf problem.now layout.now o.0 c × IsCellOf problem.now layout.now u.0 c)) }
+    ensures no { OnFalse result ((c : List ℤ)
+        × (IsCellOf problem.now layout.now o.0 c × IsCellOf problem.now layout.now u.0 c)) }
 {
     let own = boxes(problem, layout, o);
     for a in own {
@@ -31,13 +32,16 @@ pub fn shares_no_cell(problem: &Problem, layout: &Layout, o: ObjId, u: ObjId) ->
 
 // Whether no cell belongs to the box a of the object o and to the object u.
 fn shares_none_of(problem: &Problem, layout: &Layout, o: ObjId, a: &BoxDef, u: ObjId) -> bool
-    requires problem { IsWellFormed problem.now }
     requires layout { IsShaped problem.now layout.now }
     requires o { o.0 < length problem.now.objects }
     requires u { u.0 < length problem.now.objects }
     requires a { IsBox problem.now.dims a.now }
-    ensures yes { OnTrue result ((c : List ℤ) → BoxHas problem.now.dims a.now (spot layout.now o.0).origin c → IsCellOf problem.now layout.now u.0 c → ⊥) }
-    ensures no { OnFalse result ((c : List ℤ) × (BoxHas problem.now.dims a.now (spot layout.now o.0).origin c × IsCellOf problem.now layout.now u.0 c)) }
+    ensures yes { OnTrue result ((c : List ℤ)
+        → BoxHas problem.now.dims a.now (spot layout.now o.0).origin c
+        → IsCellOf problem.now layout.now u.0 c → ⊥) }
+    ensures no { OnFalse result ((c : List ℤ)
+        × (BoxHas problem.now.dims a.now (spot layout.now o.0).origin c
+        × IsCellOf problem.now layout.now u.0 c)) }
 {
     let others = boxes(problem, layout, u);
     for b in others {
@@ -50,12 +54,13 @@ fn shares_none_of(problem: &Problem, layout: &Layout, o: ObjId, a: &BoxDef, u: O
 
 /// Whether each cell of the object lies in the ranges.
 pub fn lies_within(problem: &Problem, ranges: &[RangeDef], layout: &Layout, o: ObjId) -> bool
-    requires problem { IsWellFormed problem.now }
     requires ranges { length ranges.now ≡ problem.now.dims }
     requires layout { IsShaped problem.now layout.now }
     requires o { o.0 < length problem.now.objects }
-    ensures yes { OnTrue result (LiesWithin problem.now (map range_data ranges.now) layout.now o.0) }
-    ensures no { OnFalse result (LiesWithin problem.now (map range_data ranges.now) layout.now o.0 → ⊥) }
+    ensures yes { OnTrue result
+        (LiesWithin problem.now (map range_data ranges.now) layout.now o.0) }
+    ensures no { OnFalse result (LiesWithin problem.now (map range_data ranges.now) layout.now o.0
+        → ⊥) }
 {
     let own = boxes(problem, layout, o);
     for a in own {
@@ -68,13 +73,10 @@ pub fn lies_within(problem: &Problem, ranges: &[RangeDef], layout: &Layout, o: O
 
 // The boxes of the object where the layout puts it.
 fn boxes<'a>(problem: &'a Problem, layout: &Layout, o: ObjId) -> &'a [BoxDef]
-    requires problem { IsWellFormed problem.now }
     requires layout { IsShaped problem.now layout.now }
     requires o { o.0 < length problem.now.objects }
     ensures same { result.now ≡ boxes_in problem.now layout.now o.0 }
     ensures boxes { All (IsBox problem.now.dims) result.now }
 {
-    let object = &problem.objects()[o.0 as usize];
-    let number = object.shapes()[layout.place(o) as usize - 1];
-    problem.shapes()[number as usize].boxes()
+    boxes_at(problem, o.0 as usize, layout.place(o))
 }

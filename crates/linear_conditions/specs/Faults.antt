@@ -6,13 +6,17 @@ use Rattle.linear_conditions.specs.Sums.{fits_sum}
 use Rattle.linear_conditions.specs.declared.wide.WideSum.{WideSum}
 use Rattle.linear_conditions.specs.declared.fault.GroundFault.{GroundFault}
 use Rattle.linear_conditions.specs.declared.fault.GroundFault.TheVariants.{Overflow, TooMany, Memory}
-use Rattle.linear_conditions.specs.Counts.{Outcome, Fault}
+use Rattle.linear_conditions.specs.Counts.{Counts, Outcome, Fault}
 use Rattle.linear_conditions.specs.Views.{wide_view}
 
 abbrev pub IsFault : (A : Type 0) → Outcome A → GroundFault → Type 0
 IsFault A o Overflow = o ≡ Fault words.Overflow
 IsFault A o TooMany = o ≡ Fault words.Ground
 IsFault A o Memory = Unit {0}
+
+-- the fault of counts: they are past the limits, and memory is never wanted
+abbrev pub IsPast : Outcome Counts → GroundFault → Type 0
+IsPast o e = (e ≡ TooMany) × (o ≡ Fault words.Ground)
 
 -- the fault of a form that does not fit
 abbrev pub IsMisfit : Bool → GroundFault → Type 0

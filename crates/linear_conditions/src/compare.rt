@@ -33,7 +33,8 @@ fn subtracted(alloc: Global, left: WideSum, right: &WideSum) -> Result<WideSum, 
     requires left { fits_sum (wide_view left) ≡ true }
     requires right { fits_sum (wide_view right.now) ≡ true }
     requires ordered { IsOrdered (wide_view right.now).terms }
-    ensures { let f = difference (wide_view left) (wide_view right.now) in Gives result f (fits_sum f) }
+    ensures { let f = difference (wide_view left) (wide_view right.now) in
+        Gives result f (fits_sum f) }
 {
     let other = negated(alloc, right)?;
     let mut total = left;
@@ -51,11 +52,14 @@ fn difference(
     fixings: &Fixings,
 ) -> Result<WideSum, GroundFault>
     ensures value { let f = difference
-        (sum_of_expr problem.now (plain_expr_view a.now) (env_view env.now) (fixings_view fixings.now))
-        (sum_of_expr problem.now (plain_expr_view b.now) (env_view env.now) (fixings_view fixings.now)) in
+        (sum_of_expr problem.now (plain_expr_view a.now) (env_view env.now)
+        (fixings_view fixings.now))
+        (sum_of_expr problem.now (plain_expr_view b.now) (env_view env.now)
+        (fixings_view fixings.now)) in
         Gives result f (
         fits_expr problem.now (plain_expr_view a.now) (env_view env.now) (fixings_view fixings.now)
-        && (fits_expr problem.now (plain_expr_view b.now) (env_view env.now) (fixings_view fixings.now) && fits_sum f)) }
+        && (fits_expr problem.now (plain_expr_view b.now) (env_view env.now)
+        (fixings_view fixings.now) && fits_sum f)) }
     ensures ordered { IfOk result (λ f. IsOrdered (wide_view f).terms) }
 {
     let left = sum_of(alloc, problem, a, &*env, &*fixings)?;
@@ -73,7 +77,8 @@ fn related_to_zero(
     requires fits { fits_sum (wide_view f) ≡ true }
     requires ordered { IsOrdered (wide_view f).terms }
     ensures { let l = leaves_of rel (wide_view f) in
-        let o = allowed CondTree (list_all leaf_fits l.forms) words.Overflow (ground_leaves l counter.old) in
+        let o = allowed CondTree (list_all leaf_fits l.forms) words.Overflow
+        (ground_leaves l counter.old) in
         MatchResult result (λ c. o ≡ Done (cond_view c) counter.new) (λ e. IsFault CondTree o e) }
 {
     let leaves = leaves_of(alloc, rel, f)?;
@@ -97,7 +102,8 @@ pub fn compare(
     fixings: &Fixings,
     counter: &mut Counter,
 ) -> Result<Cond, GroundFault>
-    ensures { let o = ground_compare problem.now (plain_expr_view a.now) rel (plain_expr_view b.now) (env_view env.now) (fixings_view fixings.now) counter.old in
+    ensures { let o = ground_compare problem.now (plain_expr_view a.now) rel (plain_expr_view b.now)
+        (env_view env.now) (fixings_view fixings.now) counter.old in
         MatchResult result (λ c. o ≡ Done (cond_view c) counter.new) (λ e. IsFault CondTree o e) }
 {
     match difference(alloc, problem, a, b, &*env, &*fixings) {

@@ -1,8 +1,8 @@
 //! What grounding counts.
 
 ghost use Rattle.std.specs.Prelude.{◌≡◌, ◌+◌, ◌∷◌, [], if◌then◌else◌, MatchResult};
-ghost use Rattle.linear_conditions.specs.Counts.{Counts, Done, are_within, count_sums, one_leaf, one_visit, visit, within_limits};
-ghost use Rattle.linear_conditions.specs.Faults.{IsFault};
+ghost use Rattle.linear_conditions.specs.Counts.{Done, are_within, count_sums, one_leaf, one_visit, visit, within_limits};
+ghost use Rattle.linear_conditions.specs.Faults.{IsPast};
 ghost use Rattle.linear_conditions.specs.Sums.{has_terms};
 ghost use Rattle.linear_conditions.specs.Views.{leaves_view, wide_view};
 
@@ -64,8 +64,9 @@ impl Counter {
 
     /// Takes new counts, if they are within the limits.
     fn take(&mut self, visits: u64, leaves: u64, terms: u128) -> Result<(), GroundFault>
-        ensures { let o = within_limits (record { visits = visits; leaves = leaves; terms = terms }) in
-            MatchResult result (λ _. o ≡ Done self.new self.new) (λ e. IsFault Counts o e) }
+        ensures { let o = within_limits
+            (record { visits = visits; leaves = leaves; terms = terms }) in
+            MatchResult result (λ _. o ≡ Done self.new self.new) (λ e. IsPast o e) }
     {
         if !are_within(visits, leaves, terms) {
             return Err(GroundFault::TooMany);
@@ -78,7 +79,8 @@ impl Counter {
 
     /// Counts one visit.
     pub fn visit(&mut self) -> Result<(), GroundFault>
-        ensures { MatchResult result (λ _. visit self.old ≡ Done self.new self.new) (λ e. IsFault Counts (visit self.old) e) }
+        ensures { MatchResult result (λ _. visit self.old ≡ Done self.new self.new)
+            (λ e. IsPast (visit self.old) e) }
     {
         self.take(self.visits + 1, self.leaves, u128::from(self.terms))
     }
@@ -86,7 +88,7 @@ impl Counter {
     /// Counts one visit, and one leaf.
     pub fn visit_split(&mut self) -> Result<(), GroundFault>
         ensures { let o = within_limits (one_leaf (one_visit self.old)) in
-            MatchResult result (λ _. o ≡ Done self.new self.new) (λ e. IsFault Counts o e) }
+            MatchResult result (λ _. o ≡ Done self.new self.new) (λ e. IsPast o e) }
     {
         self.take(self.visits + 1, self.leaves + 1, u128::from(self.terms))
     }
@@ -94,7 +96,7 @@ impl Counter {
     /// Counts leaves that have no terms of their own.
     pub fn add_leaves(&mut self, n: u32) -> Result<(), GroundFault>
         ensures { let o = within_limits (record self.old { leaves = self.old.leaves + n }) in
-            MatchResult result (λ _. o ≡ Done self.new self.new) (λ e. IsFault Counts o e) }
+            MatchResult result (λ _. o ≡ Done self.new self.new) (λ e. IsPast o e) }
     {
         self.take(
             self.visits,
@@ -105,8 +107,9 @@ impl Counter {
 
     /// Counts one visit, and the leaves of a comparison.
     pub(crate) fn visit_leaves(&mut self, leaves: &Leaves) -> Result<(), GroundFault>
-        ensures { let o = within_limits (count_sums (leaves_view leaves.now).forms (one_visit self.old)) in
-            MatchResult result (λ _. o ≡ Done self.new self.new) (λ e. IsFault Counts o e) }
+        ensures { let o = within_limits
+            (count_sums (leaves_view leaves.now).forms (one_visit self.old)) in
+            MatchResult result (λ _. o ≡ Done self.new self.new) (λ e. IsPast o e) }
     {
         match leaves {
             Leaves::One(f) => self.visit_one(f),
@@ -117,7 +120,7 @@ impl Counter {
 
     fn visit_one(&mut self, f: &WideSum) -> Result<(), GroundFault>
         ensures { let o = within_limits (count_sums (wide_view f.now ∷ []) (one_visit self.old)) in
-            MatchResult result (λ _. o ≡ Done self.new self.new) (λ e. IsFault Counts o e) }
+            MatchResult result (λ _. o ≡ Done self.new self.new) (λ e. IsPast o e) }
     {
         self.take(
             self.visits + 1,
@@ -127,8 +130,9 @@ impl Counter {
     }
 
     fn visit_two(&mut self, f: &WideSum, g: &WideSum) -> Result<(), GroundFault>
-        ensures { let o = within_limits (count_sums (wide_view f.now ∷ (wide_view g.now ∷ [])) (one_visit self.old)) in
-            MatchResult result (λ _. o ≡ Done self.new self.new) (λ e. IsFault Counts o e) }
+        ensures { let o = within_limits
+            (count_sums (wide_view f.now ∷ (wide_view g.now ∷ [])) (one_visit self.old)) in
+            MatchResult result (λ _. o ≡ Done self.new self.new) (λ e. IsPast o e) }
     {
         self.take(
             self.visits + 1,

@@ -40,7 +40,8 @@ fn object_sum(
     o: usize,
     name: &Name,
 ) -> Result<WideSum, AllocError>
-    ensures { IfOk result (λ f. wide_view f ≡ object_sum problem.now (fixings_view fixings.now) o name.now) }
+    ensures { IfOk result (λ f. wide_view f
+        ≡ object_sum problem.now (fixings_view fixings.now) o name.now) }
 {
     match object_field(problem, o, name) {
         ObjectField::Coordinate(d) => coordinate_sum(alloc, problem, o, d),
@@ -60,7 +61,8 @@ pub fn field_sum(
     name: &Name,
     thing: Thing,
 ) -> Result<WideSum, AllocError>
-    ensures { IfOk result (λ f. wide_view f ≡ field_sum problem.now (fixings_view fixings.now) name.now (thing_view thing.entry)) }
+    ensures { IfOk result (λ f. wide_view f
+        ≡ field_sum problem.now (fixings_view fixings.now) name.now (thing_view thing.entry)) }
 {
     match thing {
         Thing::Nothing => Ok(WideSum::constant_of(alloc, 0)),

@@ -35,7 +35,8 @@ pub(crate) fn checked(f: WideSum) -> Result<WideSum, GroundFault>
 /// The form with the other sign.
 pub(crate) fn negated(alloc: Global, f: &WideSum) -> Result<WideSum, GroundFault>
     requires { fits_sum (wide_view f.now) ≡ true }
-    ensures { MatchResult result (λ g. (wide_view g ≡ scale (negsuc 0) (wide_view f.now)) × (fits_sum (wide_view g) ≡ true)) (λ e. e ≡ Memory) }
+    ensures { MatchResult result (λ g. (wide_view g ≡ scale (negsuc 0) (wide_view f.now))
+        × (fits_sum (wide_view g) ≡ true)) (λ e. e ≡ Memory) }
 {
     Ok(f.scaled(alloc, -1)?)
 }
@@ -56,7 +57,8 @@ fn multiplied(alloc: Global, f: &WideSum, g: &WideSum) -> Result<WideSum, AllocE
 /// Adds a form to a partial sum.
 pub(crate) fn add_to(total: &mut WideSum, part: &WideSum) -> Result<(), GroundFault>
     requires { CanAdd (wide_view total.old) (wide_view part.now) }
-    ensures { MatchResult result (λ _. wide_view total.new ≡ add_sums (wide_view total.old) (wide_view part.now)) (λ e. e ≡ Memory) }
+    ensures { MatchResult result (λ _. wide_view total.new
+        ≡ add_sums (wide_view total.old) (wide_view part.now)) (λ e. e ≡ Memory) }
 {
     total.add(part)?;
     Ok(())
@@ -64,14 +66,16 @@ pub(crate) fn add_to(total: &mut WideSum, part: &WideSum) -> Result<(), GroundFa
 
 /// The lesser of two numbers.
 fn lesser(alloc: Global, f: &WideSum, g: &WideSum) -> Result<WideSum, GroundFault>
-    ensures { let h = constant_sum (int_min f.now.constant g.now.constant) in Gives result h (fits_sum h) }
+    ensures { let h = constant_sum (int_min f.now.constant g.now.constant) in
+        Gives result h (fits_sum h) }
 {
     checked(WideSum::constant_of(alloc, f.constant().min(g.constant())))
 }
 
 /// The greater of two numbers.
 fn greater(alloc: Global, f: &WideSum, g: &WideSum) -> Result<WideSum, GroundFault>
-    ensures { let h = constant_sum (int_max f.now.constant g.now.constant) in Gives result h (fits_sum h) }
+    ensures { let h = constant_sum (int_max f.now.constant g.now.constant) in
+        Gives result h (fits_sum h) }
 {
     checked(WideSum::constant_of(alloc, f.constant().max(g.constant())))
 }
@@ -86,8 +90,10 @@ pub fn sum_of(
     fixings: &Fixings,
 ) -> Result<WideSum, GroundFault>
     ensures { Gives result
-        (sum_of_expr problem.now (plain_expr_view e.now) (env_view env.now) (fixings_view fixings.now))
-        (fits_expr problem.now (plain_expr_view e.now) (env_view env.now) (fixings_view fixings.now)) }
+        (sum_of_expr problem.now (plain_expr_view e.now) (env_view env.now)
+        (fixings_view fixings.now))
+        (fits_expr problem.now (plain_expr_view e.now) (env_view env.now)
+        (fixings_view fixings.now)) }
 {
     match e {
         PlainExpr::Num(n) => checked(WideSum::constant_of(alloc, i128::from(*n))),
@@ -131,8 +137,10 @@ fn sum_step(
     fixings: &Fixings,
 ) -> Result<WideSum, GroundFault>
     ensures { Gives result
-        (sum_step problem.now (plain_sum_view step.now) (env_view env.now) (fixings_view fixings.now))
-        (sum_fits problem.now (plain_sum_view step.now) (env_view env.now) (fixings_view fixings.now)) }
+        (sum_step problem.now (plain_sum_view step.now) (env_view env.now)
+        (fixings_view fixings.now))
+        (sum_fits problem.now (plain_sum_view step.now) (env_view env.now)
+        (fixings_view fixings.now)) }
 {
     match step {
         PlainSum::Plus(e) => sum_of(alloc, problem, e, &*env, &*fixings),
@@ -154,8 +162,10 @@ fn sum(
     fixings: &Fixings,
 ) -> Result<WideSum, GroundFault>
     requires fits { fits_sum (wide_view first) ≡ true }
-    ensures { let f = sums_added problem.now (wide_view first) (plain_sums_view steps.now) (env_view env.now) (fixings_view fixings.now) in
-        Gives result f (sums_fit problem.now (plain_sums_view steps.now) (env_view env.now) (fixings_view fixings.now) && fits_sum f) }
+    ensures { let f = sums_added problem.now (wide_view first) (plain_sums_view steps.now)
+        (env_view env.now) (fixings_view fixings.now) in
+        Gives result f (sums_fit problem.now (plain_sums_view steps.now) (env_view env.now)
+        (fixings_view fixings.now) && fits_sum f) }
 {
     let mut total = first;
     for step in steps {
@@ -176,8 +186,10 @@ fn product_step(
     fixings: &Fixings,
 ) -> Result<WideSum, GroundFault>
     requires { fits_sum (wide_view f.now) ≡ true }
-    ensures { let g = product_step problem.now (wide_view f.now) (plain_product_view step.now) (env_view env.now) (fixings_view fixings.now) in
-        Gives result g (product_fits problem.now (plain_product_view step.now) (env_view env.now) (fixings_view fixings.now) && fits_sum g) }
+    ensures { let g = product_step problem.now (wide_view f.now) (plain_product_view step.now)
+        (env_view env.now) (fixings_view fixings.now) in
+        Gives result g (product_fits problem.now (plain_product_view step.now) (env_view env.now)
+        (fixings_view fixings.now) && fits_sum g) }
 {
     match step {
         PlainProd::Times(e) => {
@@ -204,8 +216,10 @@ fn product(
 ) -> Result<WideSum, GroundFault>
     requires fits { fits_sum (wide_view first) ≡ true }
     ensures { Gives result
-        (products_taken problem.now (wide_view first) (plain_products_view steps.now) (env_view env.now) (fixings_view fixings.now))
-        (products_fit problem.now (wide_view first) (plain_products_view steps.now) (env_view env.now) (fixings_view fixings.now)) }
+        (products_taken problem.now (wide_view first) (plain_products_view steps.now)
+        (env_view env.now) (fixings_view fixings.now))
+        (products_fit problem.now (wide_view first) (plain_products_view steps.now)
+        (env_view env.now) (fixings_view fixings.now)) }
 {
     let mut so_far = first;
     for step in steps {

@@ -77,7 +77,8 @@ impl Leaves {
 fn fold_two(alloc: Global, all: bool, f: &WideSum, g: &WideSum) -> Result<Cond, AllocError>
     requires f { IsLeaf (wide_view f.now) }
     requires g { IsLeaf (wide_view g.now) }
-    ensures { IfOk result (λ c. cond_view c ≡ joined all (fold_linear (wide_view f.now) ∷ (fold_linear (wide_view g.now) ∷ []))) }
+    ensures { IfOk result (λ c. cond_view c
+        ≡ joined all (fold_linear (wide_view f.now) ∷ (fold_linear (wide_view g.now) ∷ []))) }
 {
     let mut both = Vec::new(alloc);
     both.push(fold_linear(alloc, f)?)?;
@@ -88,7 +89,8 @@ fn fold_two(alloc: Global, all: bool, f: &WideSum, g: &WideSum) -> Result<Cond, 
 /// The condition that the leaves make together.
 pub fn fold_leaves(alloc: Global, leaves: &Leaves) -> Result<Cond, AllocError>
     requires { AreLeaves (leaves_view leaves.now).forms }
-    ensures { IfOk result (λ c. cond_view c ≡ joined (leaves_view leaves.now).all (map fold_linear (leaves_view leaves.now).forms)) }
+    ensures { IfOk result (λ c. cond_view c
+        ≡ joined (leaves_view leaves.now).all (map fold_linear (leaves_view leaves.now).forms)) }
 {
     match leaves {
         Leaves::One(f) => fold_linear(alloc, f),

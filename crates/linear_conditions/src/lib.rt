@@ -10,7 +10,5 @@ pub mod fold;
 pub mod forms;
 pub mod laws;
 mod leaves;
-#[cfg(test)]
-mod tests;
 pub mod verdict;
 pub mod wide;

@@ -45,7 +45,9 @@ fn stands_before(a: &WideTerm, t: &WideTerm) -> bool
 
 /// Whether a term stands at the place of another, or before it.
 fn belongs_at(a: &WideTerm, t: &WideTerm) -> bool
-    ensures { result ≡ (same_coordinate (wide_term a.now) (wide_term t.now) || is_before (wide_term a.now) (wide_term t.now)) }
+    ensures { result
+        ≡ (same_coordinate (wide_term a.now) (wide_term t.now) || is_before (wide_term a.now)
+        (wide_term t.now)) }
 {
     is_same(a, t) || stands_before(a, t)
 }
@@ -65,7 +67,8 @@ fn place_for(terms: &[WideTerm], a: &WideTerm) -> usize
 /// The coordinate of a term with another one's factor added.
 fn raised_term(t: &WideTerm, a: &WideTerm) -> WideTerm
     requires { FitsSigned w128 (t.now.factor +ℤ a.now.factor) }
-    ensures { wide_term result ≡ term t.now.object.0 t.now.dimension (t.now.factor +ℤ a.now.factor) }
+    ensures { wide_term result
+        ≡ term t.now.object.0 t.now.dimension (t.now.factor +ℤ a.now.factor) }
 {
     WideTerm {
         object: t.object,
@@ -102,7 +105,8 @@ fn is_zero(t: &WideTerm) -> bool
 
 /// Appends a term, unless its factor is 0.
 fn push_unless_zero(terms: &mut SmallVec<WideTerm, 4>, t: WideTerm) -> Result<(), AllocError>
-    ensures { OnOk result (wide_terms terms.new.items ≡ wide_terms terms.old.items ++ unless_zero (wide_term t) []) }
+    ensures { OnOk result (wide_terms terms.new.items ≡ wide_terms terms.old.items
+        ++ unless_zero (wide_term t) []) }
 {
     if !is_zero(&t) {
         terms.push(t)?;
@@ -130,7 +134,8 @@ impl WideSum {
 
     /// A coordinate of an object.
     pub fn coordinate(alloc: Global, object: ObjId, dimension: usize) -> Result<WideSum, AllocError>
-        ensures { IfOk result (λ f. wide_view f ≡ record { terms = term object.0 dimension (pos 1) ∷ []; constant = pos 0 }) }
+        ensures { IfOk result (λ f. wide_view f
+            ≡ record { terms = term object.0 dimension (pos 1) ∷ []; constant = pos 0 }) }
     {
         let mut terms = SmallVec::new(alloc);
         terms.push(WideTerm {
@@ -164,7 +169,10 @@ impl WideSum {
 
     /// Whether a term of the same coordinate stands at a place.
     fn has_at(&self, place: usize, a: &WideTerm) -> bool
-        ensures { result ≡ (nat_lt place (length self.now.terms.items) && same_coordinate (wide_term a.now) (wide_term (slice_index_or self.now.terms.items place a.now))) }
+        ensures { result
+            ≡ (nat_lt place (length self.now.terms.items)
+            && same_coordinate (wide_term a.now)
+            (wide_term (slice_index_or self.now.terms.items place a.now))) }
     {
         match self.terms.as_slice().get(place) {
             Some(found) => is_same(a, found),
@@ -187,7 +195,8 @@ impl WideSum {
     fn raise(&mut self, place: usize, a: &WideTerm)
         requires place { place < length self.old.terms.items }
         requires room { HasRoom (wide_view self.old).terms a.now.factor }
-        ensures terms { wide_terms self.new.terms.items ≡ raised (wide_term a.now) (wide_terms self.old.terms.items) place }
+        ensures terms { wide_terms self.new.terms.items
+            ≡ raised (wide_term a.now) (wide_terms self.old.terms.items) place }
         ensures constant { self.new.constant ≡ self.old.constant }
     {
         let changed = raised_term(&self.terms.as_slice()[place], a);
@@ -201,7 +210,8 @@ impl WideSum {
     /// Adds a term: to the factor of its coordinate, or at its place.
     fn add_at(&mut self, a: WideTerm) -> Result<(), AllocError>
         requires { HasRoom (wide_view self.old).terms a.factor }
-        ensures terms { OnOk result ((wide_view self.new).terms ≡ add_at (wide_term a) (wide_view self.old).terms) }
+        ensures terms { OnOk result ((wide_view self.new).terms
+            ≡ add_at (wide_term a) (wide_view self.old).terms) }
         ensures constant { self.new.constant ≡ self.old.constant }
     {
         let place = place_for(self.terms.as_slice(), &a);
@@ -216,7 +226,8 @@ impl WideSum {
     /// Adds a sum.
     pub fn add(&mut self, other: &WideSum) -> Result<(), AllocError>
         requires { CanAdd (wide_view self.old) (wide_view other.now) }
-        ensures { OnOk result (wide_view self.new ≡ add_sums (wide_view self.old) (wide_view other.now)) }
+        ensures { OnOk result (wide_view self.new
+            ≡ add_sums (wide_view self.old) (wide_view other.now)) }
     {
         self.constant += other.constant;
         for a in other.terms.as_slice() {

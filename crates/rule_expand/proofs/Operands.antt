@@ -17,10 +17,10 @@ use Rattle.rule_expand.specs.Plain.{PlainFormulaTree, PlainFormulas}
 use Rattle.rule_expand.specs.PlainView.{plain_formula_view, plain_formulas_view}
 use Rattle.rule_expand.specs.Expansion.{Subst, Expansions, binders, binders_in, formula_expanded, formulas_expanded}
 use Rattle.rule_expand.specs.Counts.{nodes, depth, nodes_in, depth_in}
-use Rattle.rule_expand.specs.Limits.{Lacks, FormulaMade, FormulasMade}
+use Rattle.rule_expand.specs.Limits.{IsLimitFault, FormulaMade, FormulasMade}
 use Rattle.rule_expand.specs.Costs.{formula_cost, formulas_cost}
-use Rattle.rule_expand.specs.declared.limits.Lack.{Lack}
-use Rattle.rule_expand.specs.declared.limits.Lack.TheVariants.{TooLarge, Memory}
+use Rattle.rule_expand.specs.declared.limits.ExpandFault.{ExpandFault}
+use Rattle.rule_expand.specs.declared.limits.ExpandFault.TheVariants.{TooLarge, Memory}
 use Rattle.rule_expand.specs.declared.plain.PlainFormula.{PlainFormula}
 
 abbrev pub formula_trees : List Formula → FormulaTrees
@@ -81,9 +81,9 @@ continues-end x p all sub next room deep next' room' parts k = record {
   shallow = k.shallow (omega arith);
 }
 
-continues-lacks : (x : Expansions) (p : ProblemData) (all : FormulaTrees) (r : FormulaTree) (left : FormulaTrees) (sub : Subst) (next room deep next' room' : ℕ) (parts : List PlainFormula) (e : Lack) →
-    Continues x p all (tree.a_formula r left) sub next room deep next' room' parts → Lacks (nodes (formula_expanded x p r sub next')) (depth (formula_expanded x p r sub next')) room' deep e →
-    Lacks (nodes_in (formulas_expanded x p all sub next)) (depth_in (formulas_expanded x p all sub next)) room deep e
+continues-lacks : (x : Expansions) (p : ProblemData) (all : FormulaTrees) (r : FormulaTree) (left : FormulaTrees) (sub : Subst) (next room deep next' room' : ℕ) (parts : List PlainFormula) (e : ExpandFault) →
+    Continues x p all (tree.a_formula r left) sub next room deep next' room' parts → IsLimitFault (nodes (formula_expanded x p r sub next')) (depth (formula_expanded x p r sub next')) room' deep e →
+    IsLimitFault (nodes_in (formulas_expanded x p all sub next)) (depth_in (formulas_expanded x p all sub next)) room deep e
 continues-lacks x p all r left sub next room deep next' room' parts TooLarge k (inl h) = inl (let a = k.nodes_left in omega arith)
 continues-lacks x p all r left sub next room deep next' room' parts TooLarge k (inr h) = inr (let a = k.deep_left in omega arith)
 continues-lacks x p all r left sub next room deep next' room' parts Memory k h = tt
@@ -94,10 +94,10 @@ left-at items i f h e = ap formula_trees (drop_more items i f h) ∙ ap (λ y. t
 left-end : (items : List Formula) (i : ℕ) → length items ≤ i → formula_trees (drop i items) ≡ tree.no_formulas
 left-end items i h = ap formula_trees (drop_of_length-le items h)
 
-pub operands-lack : (x : Expansions) (p : ProblemData) (items : List Formula) (i : ℕ) (f : Formula) (sub : Subst) (next room deep next' room' : ℕ) (parts : List PlainFormula) (e : Lack) → i < length items → f ≡ get_or items i f →
-    Continues x p (formula_trees items) (formula_trees (drop i items)) sub next room deep next' room' parts → Lacks (nodes (formula_expanded x p (formula_view f) sub next')) (depth (formula_expanded x p (formula_view f) sub next')) room' deep e →
-    Lacks (nodes_in (formulas_expanded x p (formula_trees items) sub next)) (depth_in (formulas_expanded x p (formula_trees items) sub next)) room deep e
-operands-lack x p items i f sub next room deep next' room' parts e h q k l =
+pub operands-fault : (x : Expansions) (p : ProblemData) (items : List Formula) (i : ℕ) (f : Formula) (sub : Subst) (next room deep next' room' : ℕ) (parts : List PlainFormula) (e : ExpandFault) → i < length items → f ≡ get_or items i f →
+    Continues x p (formula_trees items) (formula_trees (drop i items)) sub next room deep next' room' parts → IsLimitFault (nodes (formula_expanded x p (formula_view f) sub next')) (depth (formula_expanded x p (formula_view f) sub next')) room' deep e →
+    IsLimitFault (nodes_in (formulas_expanded x p (formula_trees items) sub next)) (depth_in (formulas_expanded x p (formula_trees items) sub next)) room deep e
+operands-fault x p items i f sub next room deep next' room' parts e h q k l =
     continues-lacks x p (formula_trees items) (formula_view f) (formula_trees (drop (i + 1) items)) sub next room deep next' room' parts e
     (subst (λ y. Continues x p (formula_trees items) y sub next room deep next' room' parts) (left-at items i f h q) k) l
 

@@ -11,10 +11,10 @@ use Rattle.rule_expand.specs.Plain.{PlainSumTree, PlainProductTree}
 use Rattle.rule_expand.specs.PlainView.{plain_sum_view, plain_product_view}
 use Rattle.rule_expand.specs.Expansion.{Subst, Expansions, sum_expanded, sums_expanded, product_expanded, products_expanded}
 use Rattle.rule_expand.specs.Counts.{sum_nodes, sum_depth, sums_nodes, sums_depth, product_nodes, product_depth, products_nodes, products_depth}
-use Rattle.rule_expand.specs.Limits.{Lacks, SumMade, SumsMade, ProductMade, ProductsMade}
+use Rattle.rule_expand.specs.Limits.{IsLimitFault, SumMade, SumsMade, ProductMade, ProductsMade}
 use Rattle.rule_expand.specs.Costs.{CostEnv, MacroCosts, sum_cost, sums_cost, product_cost, products_cost}
-use Rattle.rule_expand.specs.declared.limits.Lack.{Lack}
-use Rattle.rule_expand.specs.declared.limits.Lack.TheVariants.{TooLarge, Memory}
+use Rattle.rule_expand.specs.declared.limits.ExpandFault.{ExpandFault}
+use Rattle.rule_expand.specs.declared.limits.ExpandFault.TheVariants.{TooLarge, Memory}
 use Rattle.rule_expand.specs.declared.plain.PlainSum.{PlainSum}
 use Rattle.rule_expand.specs.declared.plain.PlainProd.{PlainProd}
 
@@ -60,8 +60,8 @@ sofar-step nodes depth ts i room deep left left' vs ws t s h e n d w =
       shallow = (let a = s.shallow in omega (arith, ap (deepest depth) m, deepest-push depth (take i ts) t));
     }
 
-pub sofar-lacks : {T : Type 0} (nodes depth : T → ℕ) (ts : List T) (i room deep left : ℕ) (vs : List T) (t : T) (e : Lack) → SoFar nodes depth ts i room deep left vs → i < length ts → get_or ts i t ≡ t →
-    Lacks (nodes t) (depth t) left deep e → Lacks (total nodes ts) (deepest depth ts) room deep e
+pub sofar-lacks : {T : Type 0} (nodes depth : T → ℕ) (ts : List T) (i room deep left : ℕ) (vs : List T) (t : T) (e : ExpandFault) → SoFar nodes depth ts i room deep left vs → i < length ts → get_or ts i t ≡ t →
+    IsLimitFault (nodes t) (depth t) left deep e → IsLimitFault (total nodes ts) (deepest depth ts) room deep e
 sofar-lacks nodes depth ts i room deep left vs t TooLarge s h g (inl l) = inl (let a = s.taken in omega (arith, total-at nodes ts i t h, ap nodes g))
 sofar-lacks nodes depth ts i room deep left vs t TooLarge s h g (inr l) = inr (omega (arith, deepest-at depth ts i t h, ap depth g))
 sofar-lacks nodes depth ts i room deep left vs t Memory s h g l = tt
@@ -98,12 +98,12 @@ sums-step x p sub items i room deep left left' made more s one k h e m w =
     (let n = length-map items (λ y. sum_expanded x p (sum_view y) sub) in omega arith) (part-of-sum x p sub items i s _ h e) m.taken m.shallow
     (ap (map plain_sum_view) w ∙ map-append plain_sum_view made (one ∷ []) ∙ ap (λ y. map plain_sum_view made ++ y ∷ []) m.view)
 
-pub sums-lack : (x : Expansions) (p : ProblemData) (sub : Subst) (items : List SumStep) (i room deep left : ℕ) (made : List PlainSum) (s : SumStep) (f : Lack) → SumsSoFar x p sub items i room deep left made → i < length items → s ≡ get_or items i s →
-    Lacks (sum_nodes (sum_expanded x p (sum_view s) sub)) (sum_depth (sum_expanded x p (sum_view s) sub)) left deep f →
-    Lacks (sums_nodes (sums_expanded x p (tree.sums (map sum_view items)) sub)) (sums_depth (sums_expanded x p (tree.sums (map sum_view items)) sub)) room deep f
-sums-lack x p sub items i room deep left made s f k h e l =
-    subst (λ n. Lacks n (sums_depth (sums_expanded x p (tree.sums (map sum_view items)) sub)) room deep f) (sym (ap sums_nodes (sums-parts x p sub items) ∙ sums-total (sum_parts x p sub items)))
-    (subst (λ n. Lacks (total sum_nodes (sum_parts x p sub items)) n room deep f) (sym (ap sums_depth (sums-parts x p sub items) ∙ sums-deepest (sum_parts x p sub items)))
+pub sums-fault : (x : Expansions) (p : ProblemData) (sub : Subst) (items : List SumStep) (i room deep left : ℕ) (made : List PlainSum) (s : SumStep) (f : ExpandFault) → SumsSoFar x p sub items i room deep left made → i < length items → s ≡ get_or items i s →
+    IsLimitFault (sum_nodes (sum_expanded x p (sum_view s) sub)) (sum_depth (sum_expanded x p (sum_view s) sub)) left deep f →
+    IsLimitFault (sums_nodes (sums_expanded x p (tree.sums (map sum_view items)) sub)) (sums_depth (sums_expanded x p (tree.sums (map sum_view items)) sub)) room deep f
+sums-fault x p sub items i room deep left made s f k h e l =
+    subst (λ n. IsLimitFault n (sums_depth (sums_expanded x p (tree.sums (map sum_view items)) sub)) room deep f) (sym (ap sums_nodes (sums-parts x p sub items) ∙ sums-total (sum_parts x p sub items)))
+    (subst (λ n. IsLimitFault (total sum_nodes (sum_parts x p sub items)) n room deep f) (sym (ap sums_depth (sums-parts x p sub items) ∙ sums-deepest (sum_parts x p sub items)))
     (sofar-lacks sum_nodes sum_depth (sum_parts x p sub items) i room deep left (map plain_sum_view made) (sum_expanded x p (sum_view s) sub) f k
     (let n = length-map items (λ y. sum_expanded x p (sum_view y) sub) in omega arith) (part-of-sum x p sub items i s _ h e) l))
 
@@ -158,12 +158,12 @@ products-step x p sub items i room deep left left' made more s one k h e m w =
     (let n = length-map items (λ y. product_expanded x p (product_view y) sub) in omega arith) (part-of-product x p sub items i s _ h e) m.taken m.shallow
     (ap (map plain_product_view) w ∙ map-append plain_product_view made (one ∷ []) ∙ ap (λ y. map plain_product_view made ++ y ∷ []) m.view)
 
-pub products-lack : (x : Expansions) (p : ProblemData) (sub : Subst) (items : List ProdStep) (i room deep left : ℕ) (made : List PlainProd) (s : ProdStep) (f : Lack) → ProductsSoFar x p sub items i room deep left made → i < length items → s ≡ get_or items i s →
-    Lacks (product_nodes (product_expanded x p (product_view s) sub)) (product_depth (product_expanded x p (product_view s) sub)) left deep f →
-    Lacks (products_nodes (products_expanded x p (tree.products (map product_view items)) sub)) (products_depth (products_expanded x p (tree.products (map product_view items)) sub)) room deep f
-products-lack x p sub items i room deep left made s f k h e l =
-    subst (λ n. Lacks n (products_depth (products_expanded x p (tree.products (map product_view items)) sub)) room deep f) (sym (ap products_nodes (products-parts x p sub items) ∙ products-total (product_parts x p sub items)))
-    (subst (λ n. Lacks (total product_nodes (product_parts x p sub items)) n room deep f) (sym (ap products_depth (products-parts x p sub items) ∙ products-deepest (product_parts x p sub items)))
+pub products-fault : (x : Expansions) (p : ProblemData) (sub : Subst) (items : List ProdStep) (i room deep left : ℕ) (made : List PlainProd) (s : ProdStep) (f : ExpandFault) → ProductsSoFar x p sub items i room deep left made → i < length items → s ≡ get_or items i s →
+    IsLimitFault (product_nodes (product_expanded x p (product_view s) sub)) (product_depth (product_expanded x p (product_view s) sub)) left deep f →
+    IsLimitFault (products_nodes (products_expanded x p (tree.products (map product_view items)) sub)) (products_depth (products_expanded x p (tree.products (map product_view items)) sub)) room deep f
+products-fault x p sub items i room deep left made s f k h e l =
+    subst (λ n. IsLimitFault n (products_depth (products_expanded x p (tree.products (map product_view items)) sub)) room deep f) (sym (ap products_nodes (products-parts x p sub items) ∙ products-total (product_parts x p sub items)))
+    (subst (λ n. IsLimitFault (total product_nodes (product_parts x p sub items)) n room deep f) (sym (ap products_depth (products-parts x p sub items) ∙ products-deepest (product_parts x p sub items)))
     (sofar-lacks product_nodes product_depth (product_parts x p sub items) i room deep left (map plain_product_view made) (product_expanded x p (product_view s) sub) f k
     (let n = length-map items (λ y. product_expanded x p (product_view y) sub) in omega arith) (part-of-product x p sub items i s _ h e) l))
 

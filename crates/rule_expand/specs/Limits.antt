@@ -8,13 +8,13 @@ use Rattle.rule_expand.specs.declared.plain.PlainExpr.{PlainExpr}
 use Rattle.rule_expand.specs.declared.plain.PlainSum.{PlainSum}
 use Rattle.rule_expand.specs.declared.plain.PlainProd.{PlainProd}
 use Rattle.rule_expand.specs.declared.plain.PlainFormula.{PlainFormula}
-use Rattle.rule_expand.specs.declared.limits.Lack.{Lack}
-use Rattle.rule_expand.specs.declared.limits.Lack.TheVariants.{TooLarge, Memory}
+use Rattle.rule_expand.specs.declared.limits.ExpandFault.{ExpandFault}
+use Rattle.rule_expand.specs.declared.limits.ExpandFault.TheVariants.{TooLarge, Memory}
 
 -- why there is no tree: more nodes than the room or deeper than allowed, or want of memory, which is free
-abbrev pub Lacks : ℕ → ℕ → ℕ → ℕ → Lack → Type 0
-Lacks n d room deep TooLarge = (room < n) ⊎ (deep < d)
-Lacks n d room deep Memory = Unit {0}
+abbrev pub IsLimitFault : ℕ → ℕ → ℕ → ℕ → ExpandFault → Type 0
+IsLimitFault n d room deep TooLarge = (room < n) ⊎ (deep < d)
+IsLimitFault n d room deep Memory = Unit {0}
 
 -- an expression that is this tree, which took its nodes from the room
 pub record ExprMade (t : PlainExprTree) (room deep left : ℕ) (e : PlainExpr) : Type 0 where
@@ -22,8 +22,8 @@ pub record ExprMade (t : PlainExprTree) (room deep left : ℕ) (e : PlainExpr) :
   pub taken : left + expr_nodes t ≡ room
   pub shallow : expr_depth t ≤ deep
 
-abbrev pub GivesExpr : PlainExprTree → ℕ → ℕ → ℕ → Result PlainExpr Lack → Type 0
-GivesExpr t room deep left r = MatchResult r (λ e. ExprMade t room deep left e) (λ f. Lacks (expr_nodes t) (expr_depth t) room deep f)
+abbrev pub GivesExpr : PlainExprTree → ℕ → ℕ → ℕ → Result PlainExpr ExpandFault → Type 0
+GivesExpr t room deep left r = MatchResult r (λ e. ExprMade t room deep left e) (λ f. IsLimitFault (expr_nodes t) (expr_depth t) room deep f)
 
 pub record SumMade (t : PlainSumTree) (room deep left : ℕ) (s : PlainSum) : Type 0 where
   pub view : plain_sum_view s ≡ t
@@ -53,8 +53,8 @@ pub record FormulaMade (t : PlainFormulaTree) (next room deep next' left : ℕ) 
   pub shallow : depth t ≤ deep
 
 -- a formula without quantifiers, which takes no number
-abbrev pub GivesUnbound : PlainFormulaTree → ℕ → ℕ → ℕ → Result PlainFormula Lack → Type 0
-GivesUnbound t room deep left r = (next : ℕ) → MatchResult r (λ f. FormulaMade t next room deep next left f) (λ e. Lacks (nodes t) (depth t) room deep e)
+abbrev pub GivesUnbound : PlainFormulaTree → ℕ → ℕ → ℕ → Result PlainFormula ExpandFault → Type 0
+GivesUnbound t room deep left r = (next : ℕ) → MatchResult r (λ f. FormulaMade t next room deep next left f) (λ e. IsLimitFault (nodes t) (depth t) room deep e)
 
 -- two formulas, the second of which took its numbers behind the first
 pub record PairMade (t u : PlainFormulaTree) (next room deep next' left : ℕ) (f g : PlainFormula) : Type 0 where
@@ -64,8 +64,8 @@ pub record PairMade (t u : PlainFormulaTree) (next room deep next' left : ℕ) (
   pub numbered : next' ≡ next + (binders t + binders u)
   pub shallow : max (depth t) (depth u) ≤ deep
 
-abbrev pub GivesFormula : PlainFormulaTree → ℕ → ℕ → ℕ → ℕ → ℕ → Result PlainFormula Lack → Type 0
-GivesFormula t next room deep next' left r = MatchResult r (λ f. FormulaMade t next room deep next' left f) (λ e. Lacks (nodes t) (depth t) room deep e)
+abbrev pub GivesFormula : PlainFormulaTree → ℕ → ℕ → ℕ → ℕ → ℕ → Result PlainFormula ExpandFault → Type 0
+GivesFormula t next room deep next' left r = MatchResult r (λ f. FormulaMade t next room deep next' left f) (λ e. IsLimitFault (nodes t) (depth t) room deep e)
 
 pub record FormulasMade (t : PlainFormulas) (next room deep next' left : ℕ) (fs : List PlainFormula) : Type 0 where
   pub view : plain_formulas_view fs ≡ t

@@ -18,8 +18,8 @@ use Rattle.rule_expand.specs.Degree.{formula_breaks}
 use Rattle.rule_expand.specs.declared.plain.PlainBody.{PlainBody}
 use Rattle.rule_expand.specs.declared.plain.PlainBody.TheVariants as bodies
 use Rattle.rule_expand.specs.declared.plain.PlainRule.{PlainRule}
-use Rattle.rule_expand.specs.declared.limits.Lack.{Lack}
-use Rattle.rule_expand.specs.declared.limits.Lack.TheVariants.{TooLarge, Memory}
+use Rattle.rule_expand.specs.declared.limits.ExpandFault.{ExpandFault}
+use Rattle.rule_expand.specs.declared.limits.ExpandFault.TheVariants.{TooLarge, Memory}
 
 -- what a rule without macros asks for
 pub data PlainDemand : Type 0 where
@@ -99,9 +99,9 @@ AllAskSame p t (r ∷ rs) [] = ⊥
 AllAskSame p t (r ∷ rs) (q ∷ qs) = (q.place ≡ r.place) × AsksSame p t r.demand q.demand × AllAskSame p t rs qs
 
 -- why a rule has no tree: it is too large, or want of memory, which is free
-abbrev pub RuleLacks : PlainRuleData → Lack → Type 0
-RuleLacks r TooLarge = is_large r.demand ≡ true
-RuleLacks r Memory = Unit {0}
+abbrev pub IsRuleFault : PlainRuleData → ExpandFault → Type 0
+IsRuleFault r TooLarge = is_large r.demand ≡ true
+IsRuleFault r Memory = Unit {0}
 
 -- the fault of the rules that are too large
 abbrev pub large_fault : ProblemData → Option TextFault

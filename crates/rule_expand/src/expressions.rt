@@ -9,12 +9,12 @@ ghost use Rattle.rule_expand.specs.Plain as plain;
 ghost use Rattle.rule_expand.specs.PlainView.{plain_sum_view, plain_product_view};
 ghost use Rattle.rule_expand.specs.Expansion.{as_expr, expansions_of, expr_expanded, field_of, meant_by, product_expanded, products_expanded, shape_expr, sum_expanded, sums_expanded};
 ghost use Rattle.rule_expand.specs.Counts.{expr_nodes, expr_depth, sum_nodes, sum_depth, sums_nodes, sums_depth, product_nodes, product_depth, products_nodes, products_depth};
-ghost use Rattle.rule_expand.specs.Limits.{GivesExpr, Lacks, SumMade, SumsMade, ProductMade, ProductsMade};
+ghost use Rattle.rule_expand.specs.Limits.{GivesExpr, IsLimitFault, SumMade, SumsMade, ProductMade, ProductsMade};
 ghost use Rattle.rule_expand.specs.ScopeView.{scope_view};
 ghost use Rattle.rule_expand.specs.Table.{AreTables};
 
 use crate::handed::handed_index;
-use crate::limits::Lack;
+use crate::limits::ExpandFault;
 use crate::make::{
     add_product, add_sum, field, greatest, least, negative, number, product, shape_number, sum,
     take_node,
@@ -38,9 +38,12 @@ fn expand_field(
     scope: &Scope,
     room: &mut u32,
     deep: u32,
-) -> Result<PlainExpr, Lack>
+) -> Result<PlainExpr, ExpandFault>
     requires { AreTables problem.now tables.now }
-    ensures { GivesExpr (field_of (meant_by problem.now of.now (scope_view problem.now scope.now)) name.now) room.old deep room.new result }
+    ensures { GivesExpr
+        (field_of
+        (meant_by problem.now of.now
+        (scope_view problem.now scope.now)) name.now) room.old deep room.new result }
 {
     match look_up(problem, tables, scope, of) {
         Found::Subject(subject) => field(alloc, subject, name, room, deep),
@@ -56,7 +59,7 @@ fn expand_shape(
     name: &Name,
     room: &mut u32,
     deep: u32,
-) -> Result<PlainExpr, Lack>
+) -> Result<PlainExpr, ExpandFault>
     requires { AreTables problem.now tables.now }
     ensures { GivesExpr (shape_expr problem.now name.now) room.old deep room.new result }
 {
@@ -77,9 +80,11 @@ pub fn expand_expr(
     scope: &Scope,
     room: &mut u32,
     deep: u32,
-) -> Result<PlainExpr, Lack>
+) -> Result<PlainExpr, ExpandFault>
     requires { AreTables problem.now tables.now }
-    ensures { GivesExpr (expr_expanded (expansions_of problem.now in_sight) problem.now (expr_view e.now) (scope_view problem.now scope.now)) room.old deep room.new result }
+    ensures { GivesExpr
+        (expr_expanded (expansions_of problem.now in_sight) problem.now (expr_view e.now)
+        (scope_view problem.now scope.now)) room.old deep room.new result }
 {
     match e {
         Expr::Num(_place, n) => number(*n, room, deep),
@@ -119,9 +124,11 @@ fn expand_param(
     scope: &Scope,
     room: &mut u32,
     deep: u32,
-) -> Result<PlainExpr, Lack>
+) -> Result<PlainExpr, ExpandFault>
     requires { AreTables problem.now tables.now }
-    ensures { GivesExpr (as_expr (meant_by problem.now name.now (scope_view problem.now scope.now))) room.old deep room.new result }
+    ensures { GivesExpr
+        (as_expr (meant_by problem.now name.now
+        (scope_view problem.now scope.now))) room.old deep room.new result }
 {
     match look_up(problem, tables, &*scope, name) {
         Found::Argument(e, caller, in_sight) => expand_expr(
@@ -142,17 +149,18 @@ fn expand_negative(
     scope: &Scope,
     room: &mut u32,
     deep: u32,
-) -> Result<PlainExpr, Lack>
+) -> Result<PlainExpr, ExpandFault>
     requires { AreTables problem.now tables.now }
-    ensures { GivesExpr (plain.negative (expr_expanded (expansions_of problem.now in_sight) problem.now (expr_view e.now) (scope_view problem.now scope.now))) room.old deep room.new result }
+    ensures { GivesExpr
+        (plain.negative
+        (expr_expanded (expansions_of problem.now in_sight) problem.now (expr_view e.now)
+        (scope_view problem.now scope.now))) room.old deep room.new result }
 {
     if !take_node(room, deep) {
-        return Err(Lack::TooLarge);
+        return Err(ExpandFault::TooLarge);
     }
-    match expand_expr(alloc, problem, tables, in_sight, e, &*scope, room, deep - 1) {
-        Ok(inner) => negative(alloc, inner),
-        Err(lack) => Err(lack),
-    }
+    let inner = expand_expr(alloc, problem, tables, in_sight, e, &*scope, room, deep - 1)?;
+    negative(alloc, inner)
 }
 
 #[cycle(expand)]
@@ -166,29 +174,20 @@ fn expand_least(
     scope: &Scope,
     room: &mut u32,
     deep: u32,
-) -> Result<PlainExpr, Lack>
+) -> Result<PlainExpr, ExpandFault>
     requires { AreTables problem.now tables.now }
-    ensures { let x = expansions_of problem.now in_sight in let sub = scope_view problem.now scope.now in GivesExpr (plain.least (expr_expanded x problem.now (expr_view a.now) sub) (expr_expanded x problem.now (expr_view b.now) sub)) room.old deep room.new result }
+    ensures { let x = expansions_of problem.now in_sight in
+        let sub = scope_view problem.now scope.now in
+        GivesExpr
+        (plain.least (expr_expanded x problem.now (expr_view a.now) sub)
+        (expr_expanded x problem.now (expr_view b.now) sub)) room.old deep room.new result }
 {
     if !take_node(room, deep) {
-        return Err(Lack::TooLarge);
+        return Err(ExpandFault::TooLarge);
     }
-    match expand_expr(alloc, problem, tables, in_sight, a, &*scope, room, deep - 1) {
-        Ok(left) => match expand_expr(
-            alloc,
-            problem,
-            tables,
-            in_sight,
-            b,
-            &*scope,
-            room,
-            deep - 1,
-        ) {
-            Ok(right) => least(alloc, left, right),
-            Err(lack) => Err(lack),
-        },
-        Err(lack) => Err(lack),
-    }
+    let left = expand_expr(alloc, problem, tables, in_sight, a, &*scope, room, deep - 1)?;
+    let right = expand_expr(alloc, problem, tables, in_sight, b, &*scope, room, deep - 1)?;
+    least(alloc, left, right)
 }
 
 #[cycle(expand)]
@@ -202,29 +201,19 @@ fn expand_greatest(
     scope: &Scope,
     room: &mut u32,
     deep: u32,
-) -> Result<PlainExpr, Lack>
+) -> Result<PlainExpr, ExpandFault>
     requires { AreTables problem.now tables.now }
-    ensures { let x = expansions_of problem.now in_sight in let sub = scope_view problem.now scope.now in GivesExpr (plain.greatest (expr_expanded x problem.now (expr_view a.now) sub) (expr_expanded x problem.now (expr_view b.now) sub)) room.old deep room.new result }
+    ensures { let x = expansions_of problem.now in_sight in
+        let sub = scope_view problem.now scope.now in
+        GivesExpr (plain.greatest (expr_expanded x problem.now (expr_view a.now) sub)
+        (expr_expanded x problem.now (expr_view b.now) sub)) room.old deep room.new result }
 {
     if !take_node(room, deep) {
-        return Err(Lack::TooLarge);
+        return Err(ExpandFault::TooLarge);
     }
-    match expand_expr(alloc, problem, tables, in_sight, a, &*scope, room, deep - 1) {
-        Ok(left) => match expand_expr(
-            alloc,
-            problem,
-            tables,
-            in_sight,
-            b,
-            &*scope,
-            room,
-            deep - 1,
-        ) {
-            Ok(right) => greatest(alloc, left, right),
-            Err(lack) => Err(lack),
-        },
-        Err(lack) => Err(lack),
-    }
+    let left = expand_expr(alloc, problem, tables, in_sight, a, &*scope, room, deep - 1)?;
+    let right = expand_expr(alloc, problem, tables, in_sight, b, &*scope, room, deep - 1)?;
+    greatest(alloc, left, right)
 }
 
 #[cycle(expand)]
@@ -238,14 +227,18 @@ fn expand_sum(
     scope: &Scope,
     room: &mut u32,
     deep: u32,
-) -> Result<PlainExpr, Lack>
+) -> Result<PlainExpr, ExpandFault>
     requires { AreTables problem.now tables.now }
-    ensures { let x = expansions_of problem.now in_sight in let sub = scope_view problem.now scope.now in GivesExpr (plain.sum (expr_expanded x problem.now (expr_view first.now) sub) (sums_expanded x problem.now (tree.sums (map sum_view steps.now)) sub)) room.old deep room.new result }
+    ensures { let x = expansions_of problem.now in_sight in
+        let sub = scope_view problem.now scope.now in
+        GivesExpr (plain.sum (expr_expanded x problem.now (expr_view first.now) sub)
+        (sums_expanded x problem.now
+        (tree.sums (map sum_view steps.now)) sub)) room.old deep room.new result }
 {
     if !take_node(room, deep) {
-        return Err(Lack::TooLarge);
+        return Err(ExpandFault::TooLarge);
     }
-    match expand_expr(
+    let start = expand_expr(
         alloc,
         problem,
         tables,
@@ -254,22 +247,18 @@ fn expand_sum(
         &*scope,
         room,
         deep - 1,
-    ) {
-        Ok(start) => match expand_sum_steps(
-            alloc,
-            problem,
-            tables,
-            in_sight,
-            steps,
-            &*scope,
-            room,
-            deep - 1,
-        ) {
-            Ok(others) => sum(alloc, start, others),
-            Err(lack) => Err(lack),
-        },
-        Err(lack) => Err(lack),
-    }
+    )?;
+    let others = expand_sum_steps(
+        alloc,
+        problem,
+        tables,
+        in_sight,
+        steps,
+        &*scope,
+        room,
+        deep - 1,
+    )?;
+    sum(alloc, start, others)
 }
 
 #[cycle(expand)]
@@ -282,19 +271,22 @@ fn expand_sum_steps(
     scope: &Scope,
     room: &mut u32,
     deep: u32,
-) -> Result<Vec<PlainSum>, Lack>
+) -> Result<Vec<PlainSum>, ExpandFault>
     requires { AreTables problem.now tables.now }
-    ensures { let t = sums_expanded (expansions_of problem.now in_sight) problem.now (tree.sums (map sum_view steps.now)) (scope_view problem.now scope.now) in MatchResult result (λ v. SumsMade t room.old deep room.new v.items) (λ f. Lacks (sums_nodes t) (sums_depth t) room.old deep f) }
+    ensures { let t = sums_expanded (expansions_of problem.now in_sight) problem.now
+        (tree.sums (map sum_view steps.now)) (scope_view problem.now scope.now) in
+        MatchResult result (λ v. SumsMade t room.old deep room.new v.items)
+        (λ f. IsLimitFault (sums_nodes t) (sums_depth t) room.old deep f) }
 {
     let mut made = Vec::new(alloc);
     for step in steps {
         match expand_sum_step(alloc, problem, tables, in_sight, step, &*scope, room, deep) {
             Ok(one) => {
-                if let Err(lack) = add_sum(&mut made, one) {
-                    return Err(lack);
+                if let Err(fault) = add_sum(&mut made, one) {
+                    return Err(fault);
                 }
             }
-            Err(lack) => return Err(lack),
+            Err(fault) => return Err(fault),
         }
     }
     Ok(made)
@@ -310,23 +302,20 @@ fn expand_sum_step(
     scope: &Scope,
     room: &mut u32,
     deep: u32,
-) -> Result<PlainSum, Lack>
+) -> Result<PlainSum, ExpandFault>
     requires { AreTables problem.now tables.now }
-    ensures { let t = sum_expanded (expansions_of problem.now in_sight) problem.now (sum_view step.now) (scope_view problem.now scope.now) in MatchResult result (λ s. SumMade t room.old deep room.new s) (λ f. Lacks (sum_nodes t) (sum_depth t) room.old deep f) }
+    ensures { let t = sum_expanded (expansions_of problem.now in_sight) problem.now
+        (sum_view step.now) (scope_view problem.now scope.now) in
+        MatchResult result (λ s. SumMade t room.old deep room.new s)
+        (λ f. IsLimitFault (sum_nodes t) (sum_depth t) room.old deep f) }
 {
     match step {
-        SumStep::Plus(e) => match expand_expr(
+        SumStep::Plus(e) => Ok(PlainSum::Plus(expand_expr(
             alloc, problem, tables, in_sight, e, &*scope, room, deep,
-        ) {
-            Ok(made) => Ok(PlainSum::Plus(made)),
-            Err(lack) => Err(lack),
-        },
-        SumStep::Minus(e) => match expand_expr(
+        )?)),
+        SumStep::Minus(e) => Ok(PlainSum::Minus(expand_expr(
             alloc, problem, tables, in_sight, e, &*scope, room, deep,
-        ) {
-            Ok(made) => Ok(PlainSum::Minus(made)),
-            Err(lack) => Err(lack),
-        },
+        )?)),
     }
 }
 
@@ -341,14 +330,18 @@ fn expand_product(
     scope: &Scope,
     room: &mut u32,
     deep: u32,
-) -> Result<PlainExpr, Lack>
+) -> Result<PlainExpr, ExpandFault>
     requires { AreTables problem.now tables.now }
-    ensures { let x = expansions_of problem.now in_sight in let sub = scope_view problem.now scope.now in GivesExpr (plain.product (expr_expanded x problem.now (expr_view first.now) sub) (products_expanded x problem.now (tree.products (map product_view steps.now)) sub)) room.old deep room.new result }
+    ensures { let x = expansions_of problem.now in_sight in
+        let sub = scope_view problem.now scope.now in
+        GivesExpr (plain.product (expr_expanded x problem.now (expr_view first.now) sub)
+        (products_expanded x problem.now
+        (tree.products (map product_view steps.now)) sub)) room.old deep room.new result }
 {
     if !take_node(room, deep) {
-        return Err(Lack::TooLarge);
+        return Err(ExpandFault::TooLarge);
     }
-    match expand_expr(
+    let start = expand_expr(
         alloc,
         problem,
         tables,
@@ -357,22 +350,18 @@ fn expand_product(
         &*scope,
         room,
         deep - 1,
-    ) {
-        Ok(start) => match expand_product_steps(
-            alloc,
-            problem,
-            tables,
-            in_sight,
-            steps,
-            &*scope,
-            room,
-            deep - 1,
-        ) {
-            Ok(others) => product(alloc, start, others),
-            Err(lack) => Err(lack),
-        },
-        Err(lack) => Err(lack),
-    }
+    )?;
+    let others = expand_product_steps(
+        alloc,
+        problem,
+        tables,
+        in_sight,
+        steps,
+        &*scope,
+        room,
+        deep - 1,
+    )?;
+    product(alloc, start, others)
 }
 
 #[cycle(expand)]
@@ -385,19 +374,22 @@ fn expand_product_steps(
     scope: &Scope,
     room: &mut u32,
     deep: u32,
-) -> Result<Vec<PlainProd>, Lack>
+) -> Result<Vec<PlainProd>, ExpandFault>
     requires { AreTables problem.now tables.now }
-    ensures { let t = products_expanded (expansions_of problem.now in_sight) problem.now (tree.products (map product_view steps.now)) (scope_view problem.now scope.now) in MatchResult result (λ v. ProductsMade t room.old deep room.new v.items) (λ f. Lacks (products_nodes t) (products_depth t) room.old deep f) }
+    ensures { let t = products_expanded (expansions_of problem.now in_sight) problem.now
+        (tree.products (map product_view steps.now)) (scope_view problem.now scope.now) in
+        MatchResult result (λ v. ProductsMade t room.old deep room.new v.items)
+        (λ f. IsLimitFault (products_nodes t) (products_depth t) room.old deep f) }
 {
     let mut made = Vec::new(alloc);
     for step in steps {
         match expand_product_step(alloc, problem, tables, in_sight, step, &*scope, room, deep) {
             Ok(one) => {
-                if let Err(lack) = add_product(&mut made, one) {
-                    return Err(lack);
+                if let Err(fault) = add_product(&mut made, one) {
+                    return Err(fault);
                 }
             }
-            Err(lack) => return Err(lack),
+            Err(fault) => return Err(fault),
         }
     }
     Ok(made)
@@ -413,17 +405,17 @@ fn expand_product_step(
     scope: &Scope,
     room: &mut u32,
     deep: u32,
-) -> Result<PlainProd, Lack>
+) -> Result<PlainProd, ExpandFault>
     requires { AreTables problem.now tables.now }
-    ensures { let t = product_expanded (expansions_of problem.now in_sight) problem.now (product_view step.now) (scope_view problem.now scope.now) in MatchResult result (λ s. ProductMade t room.old deep room.new s) (λ f. Lacks (product_nodes t) (product_depth t) room.old deep f) }
+    ensures { let t = product_expanded (expansions_of problem.now in_sight) problem.now
+        (product_view step.now) (scope_view problem.now scope.now) in
+        MatchResult result (λ s. ProductMade t room.old deep room.new s)
+        (λ f. IsLimitFault (product_nodes t) (product_depth t) room.old deep f) }
 {
     match step {
-        ProdStep::Times(e) => match expand_expr(
+        ProdStep::Times(e) => Ok(PlainProd::Times(expand_expr(
             alloc, problem, tables, in_sight, e, &*scope, room, deep,
-        ) {
-            Ok(made) => Ok(PlainProd::Times(made)),
-            Err(lack) => Err(lack),
-        },
+        )?)),
         ProdStep::Div(_place, n) => Ok(PlainProd::Div(*n)),
         ProdStep::Mod(_place, n) => Ok(PlainProd::Mod(*n)),
     }
@@ -441,9 +433,13 @@ fn expand_call(
     scope: &Scope,
     room: &mut u32,
     deep: u32,
-) -> Result<PlainExpr, Lack>
+) -> Result<PlainExpr, ExpandFault>
     requires { AreTables problem.now tables.now }
-    ensures { let x = expansions_of problem.now in_sight in GivesExpr (expr_expanded x problem.now (tree.value_call 0 m.now (tree.arguments (map argument_view args.now))) (scope_view problem.now scope.now)) room.old deep room.new result }
+    ensures { let x = expansions_of problem.now in_sight in
+        GivesExpr
+        (expr_expanded x problem.now
+        (tree.value_call 0 m.now (tree.arguments (map argument_view args.now)))
+        (scope_view problem.now scope.now)) room.old deep room.new result }
 {
     match value_macro(problem, tables, in_sight, &m.name) {
         Some(called) => match handed_index(tables.handed.as_slice(), called.index, args.len()) {

@@ -9,12 +9,12 @@ ghost use Rattle.rule_expand.specs.Plain as plain;
 ghost use Rattle.rule_expand.specs.PlainView.{plain_coll_view};
 ghost use Rattle.rule_expand.specs.Expansion.{binders, coll_expanded, expansions_of, expr_expanded, formula_expanded, formulas_expanded};
 ghost use Rattle.rule_expand.specs.Counts.{nodes, depth, nodes_in, depth_in};
-ghost use Rattle.rule_expand.specs.Limits.{FormulasMade, GivesFormula, GivesUnbound, Lacks, PairMade};
+ghost use Rattle.rule_expand.specs.Limits.{FormulasMade, GivesFormula, GivesUnbound, IsLimitFault, PairMade};
 ghost use Rattle.rule_expand.specs.ScopeView.{scope_view};
 ghost use Rattle.rule_expand.specs.Table.{AreTables};
 
 use crate::expressions::expand_expr;
-use crate::limits::Lack;
+use crate::limits::ExpandFault;
 use crate::make::{
     add_formula, all_of, any_of, comparison, equivalence, falsehood, implication, negation,
     quantified, take_node,
@@ -67,15 +67,17 @@ fn expand_coll(
     tables: &Tables,
     coll: &Coll,
     scope: &Scope,
-) -> Result<PlainColl, Lack>
+) -> Result<PlainColl, ExpandFault>
     requires { AreTables problem.now tables.now }
-    ensures { MatchResult result (λ q. plain_coll_view q ≡ coll_expanded problem.now (coll_view coll.now) (scope_view problem.now scope.now)) (λ e. e ≡ Lack.Memory) }
+    ensures { MatchResult result (λ q. plain_coll_view q
+        ≡ coll_expanded problem.now (coll_view coll.now) (scope_view problem.now scope.now))
+        (λ e. e ≡ ExpandFault.Memory) }
 {
     match coll {
         Coll::Objects => Ok(PlainColl::Objects),
         Coll::Listed(names) => match positions_listed(alloc, problem, tables, names) {
             Ok(positions) => Ok(PlainColl::Listed(positions)),
-            Err(_e) => Err(Lack::Memory),
+            Err(_e) => Err(ExpandFault::Memory),
         },
         Coll::BoxesOf(a) => match look_up(problem, tables, scope, &a.name) {
             Found::Subject(subject) => Ok(PlainColl::BoxesOf(subject)),
@@ -97,20 +99,19 @@ fn expand_comparison(
     scope: &Scope,
     room: &mut u32,
     deep: u32,
-) -> Result<PlainFormula, Lack>
+) -> Result<PlainFormula, ExpandFault>
     requires { AreTables problem.now tables.now }
-    ensures { let x = expansions_of problem.now in_sight in let sub = scope_view problem.now scope.now in GivesUnbound (plain.comparison (expr_expanded x problem.now (expr_view a.now) sub) rel (expr_expanded x problem.now (expr_view b.now) sub)) room.old deep room.new result }
+    ensures { let x = expansions_of problem.now in_sight in
+        let sub = scope_view problem.now scope.now in
+        GivesUnbound (plain.comparison (expr_expanded x problem.now (expr_view a.now) sub) rel
+        (expr_expanded x problem.now (expr_view b.now) sub)) room.old deep room.new result }
 {
     if !take_node(room, deep) {
-        return Err(Lack::TooLarge);
+        return Err(ExpandFault::TooLarge);
     }
-    match expand_expr(alloc, problem, tables, in_sight, a, scope, room, deep - 1) {
-        Ok(left) => match expand_expr(alloc, problem, tables, in_sight, b, scope, room, deep - 1) {
-            Ok(right) => Ok(comparison(left, rel, right)),
-            Err(lack) => Err(lack),
-        },
-        Err(lack) => Err(lack),
-    }
+    let left = expand_expr(alloc, problem, tables, in_sight, a, scope, room, deep - 1)?;
+    let right = expand_expr(alloc, problem, tables, in_sight, b, scope, room, deep - 1)?;
+    Ok(comparison(left, rel, right))
 }
 
 /// A formula without its macros, where the first macros are in sight, with numbers from `next` on for its variables, within
@@ -126,21 +127,24 @@ pub fn expand_formula(
     next: &mut u32,
     room: &mut u32,
     deep: u32,
-) -> Result<PlainFormula, Lack>
+) -> Result<PlainFormula, ExpandFault>
     requires known { AreTables problem.now tables.now }
     requires numbers { next.old + room.old < 2 ^ 32 }
-    ensures { GivesFormula (formula_expanded (expansions_of problem.now in_sight) problem.now (formula_view f.now) (scope_view problem.now scope.now) next.old) next.old room.old deep next.new room.new result }
+    ensures { GivesFormula (formula_expanded (expansions_of problem.now in_sight) problem.now
+        (formula_view f.now)
+        (scope_view problem.now scope.now) next.old) next.old room.old deep next.new room.new
+        result }
 {
     match f {
         Formula::True(_place) => {
             if !take_node(room, deep) {
-                return Err(Lack::TooLarge);
+                return Err(ExpandFault::TooLarge);
             }
             Ok(PlainFormula::True)
         }
         Formula::False(_place) => {
             if !take_node(room, deep) {
-                return Err(Lack::TooLarge);
+                return Err(ExpandFault::TooLarge);
             }
             Ok(PlainFormula::False)
         }
@@ -182,15 +186,19 @@ fn expand_negation(
     next: &mut u32,
     room: &mut u32,
     deep: u32,
-) -> Result<PlainFormula, Lack>
+) -> Result<PlainFormula, ExpandFault>
     requires known { AreTables problem.now tables.now }
     requires numbers { next.old + room.old < 2 ^ 32 }
-    ensures { GivesFormula (plain.negation (formula_expanded (expansions_of problem.now in_sight) problem.now (formula_view f.now) (scope_view problem.now scope.now) next.old)) next.old room.old deep next.new room.new result }
+    ensures { GivesFormula
+        (plain.negation (formula_expanded (expansions_of problem.now in_sight) problem.now
+        (formula_view f.now)
+        (scope_view problem.now scope.now) next.old)) next.old room.old deep next.new room.new
+        result }
 {
     if !take_node(room, deep) {
-        return Err(Lack::TooLarge);
+        return Err(ExpandFault::TooLarge);
     }
-    match expand_formula(
+    let inner = expand_formula(
         alloc,
         problem,
         tables,
@@ -200,10 +208,8 @@ fn expand_negation(
         next,
         room,
         deep - 1,
-    ) {
-        Ok(inner) => negation(alloc, inner),
-        Err(lack) => Err(lack),
-    }
+    )?;
+    negation(alloc, inner)
 }
 
 #[cycle(formula)]
@@ -217,15 +223,19 @@ fn expand_all_of(
     next: &mut u32,
     room: &mut u32,
     deep: u32,
-) -> Result<PlainFormula, Lack>
+) -> Result<PlainFormula, ExpandFault>
     requires known { AreTables problem.now tables.now }
     requires numbers { next.old + room.old < 2 ^ 32 }
-    ensures { GivesFormula (plain.all_of (formulas_expanded (expansions_of problem.now in_sight) problem.now (tree.formulas (map formula_view fs.now)) (scope_view problem.now scope.now) next.old)) next.old room.old deep next.new room.new result }
+    ensures { GivesFormula
+        (plain.all_of (formulas_expanded (expansions_of problem.now in_sight) problem.now
+        (tree.formulas (map formula_view fs.now))
+        (scope_view problem.now scope.now) next.old)) next.old room.old deep next.new room.new
+        result }
 {
     if !take_node(room, deep) {
-        return Err(Lack::TooLarge);
+        return Err(ExpandFault::TooLarge);
     }
-    match expand_each(
+    let parts = expand_each(
         alloc,
         problem,
         tables,
@@ -235,10 +245,8 @@ fn expand_all_of(
         next,
         room,
         deep - 1,
-    ) {
-        Ok(parts) => Ok(all_of(parts)),
-        Err(lack) => Err(lack),
-    }
+    )?;
+    Ok(all_of(parts))
 }
 
 #[cycle(formula)]
@@ -252,15 +260,19 @@ fn expand_any_of(
     next: &mut u32,
     room: &mut u32,
     deep: u32,
-) -> Result<PlainFormula, Lack>
+) -> Result<PlainFormula, ExpandFault>
     requires known { AreTables problem.now tables.now }
     requires numbers { next.old + room.old < 2 ^ 32 }
-    ensures { GivesFormula (plain.any_of (formulas_expanded (expansions_of problem.now in_sight) problem.now (tree.formulas (map formula_view fs.now)) (scope_view problem.now scope.now) next.old)) next.old room.old deep next.new room.new result }
+    ensures { GivesFormula
+        (plain.any_of (formulas_expanded (expansions_of problem.now in_sight) problem.now
+        (tree.formulas (map formula_view fs.now))
+        (scope_view problem.now scope.now) next.old)) next.old room.old deep next.new room.new
+        result }
 {
     if !take_node(room, deep) {
-        return Err(Lack::TooLarge);
+        return Err(ExpandFault::TooLarge);
     }
-    match expand_each(
+    let parts = expand_each(
         alloc,
         problem,
         tables,
@@ -270,10 +282,8 @@ fn expand_any_of(
         next,
         room,
         deep - 1,
-    ) {
-        Ok(parts) => Ok(any_of(parts)),
-        Err(lack) => Err(lack),
-    }
+    )?;
+    Ok(any_of(parts))
 }
 
 /// The same of each of several.
@@ -288,10 +298,13 @@ fn expand_each(
     next: &mut u32,
     room: &mut u32,
     deep: u32,
-) -> Result<Vec<PlainFormula>, Lack>
+) -> Result<Vec<PlainFormula>, ExpandFault>
     requires known { AreTables problem.now tables.now }
     requires numbers { next.old + room.old < 2 ^ 32 }
-    ensures { let t = formulas_expanded (expansions_of problem.now in_sight) problem.now (tree.formulas (map formula_view fs.now)) (scope_view problem.now scope.now) next.old in MatchResult result (λ v. FormulasMade t next.old room.old deep next.new room.new v.items) (λ e. Lacks (nodes_in t) (depth_in t) room.old deep e) }
+    ensures { let t = formulas_expanded (expansions_of problem.now in_sight) problem.now
+        (tree.formulas (map formula_view fs.now)) (scope_view problem.now scope.now) next.old in
+        MatchResult result (λ v. FormulasMade t next.old room.old deep next.new room.new v.items)
+        (λ e. IsLimitFault (nodes_in t) (depth_in t) room.old deep e) }
 {
     let mut parts = Vec::new(alloc);
     for f in fs {
@@ -299,11 +312,11 @@ fn expand_each(
             alloc, problem, tables, in_sight, f, &*scope, next, room, deep,
         ) {
             Ok(part) => {
-                if let Err(lack) = add_formula(&mut parts, part) {
-                    return Err(lack);
+                if let Err(fault) = add_formula(&mut parts, part) {
+                    return Err(fault);
                 }
             }
-            Err(lack) => return Err(lack),
+            Err(fault) => return Err(fault),
         }
     }
     Ok(parts)
@@ -322,10 +335,15 @@ fn expand_pair(
     next: &mut u32,
     room: &mut u32,
     deep: u32,
-) -> Result<(PlainFormula, PlainFormula), Lack>
+) -> Result<(PlainFormula, PlainFormula), ExpandFault>
     requires known { AreTables problem.now tables.now }
     requires numbers { next.old + room.old < 2 ^ 32 }
-    ensures { let x = expansions_of problem.now in_sight in let sub = scope_view problem.now scope.now in let t = formula_expanded x problem.now (formula_view f.now) sub next.old in let u = formula_expanded x problem.now (formula_view g.now) sub (next.old + binders t) in MatchResult result (λ r. PairMade t u next.old room.old deep next.new room.new r.0 r.1) (λ e. Lacks (nodes t + nodes u) (max (depth t) (depth u)) room.old deep e) }
+    ensures { let x = expansions_of problem.now in_sight in
+        let sub = scope_view problem.now scope.now in
+        let t = formula_expanded x problem.now (formula_view f.now) sub next.old in
+        let u = formula_expanded x problem.now (formula_view g.now) sub (next.old + binders t) in
+        MatchResult result (λ r. PairMade t u next.old room.old deep next.new room.new r.0 r.1)
+        (λ e. IsLimitFault (nodes t + nodes u) (max (depth t) (depth u)) room.old deep e) }
 {
     match expand_formula(
         alloc, problem, tables, in_sight, f, &*scope, next, room, deep,
@@ -334,9 +352,9 @@ fn expand_pair(
             alloc, problem, tables, in_sight, g, &*scope, next, room, deep,
         ) {
             Ok(right) => Ok((left, right)),
-            Err(lack) => Err(lack),
+            Err(fault) => Err(fault),
         },
-        Err(lack) => Err(lack),
+        Err(fault) => Err(fault),
     }
 }
 
@@ -352,15 +370,21 @@ fn expand_implication(
     next: &mut u32,
     room: &mut u32,
     deep: u32,
-) -> Result<PlainFormula, Lack>
+) -> Result<PlainFormula, ExpandFault>
     requires known { AreTables problem.now tables.now }
     requires numbers { next.old + room.old < 2 ^ 32 }
-    ensures { let x = expansions_of problem.now in_sight in let sub = scope_view problem.now scope.now in let t = formula_expanded x problem.now (formula_view f.now) sub next.old in GivesFormula (plain.implication t (formula_expanded x problem.now (formula_view g.now) sub (next.old + binders t))) next.old room.old deep next.new room.new result }
+    ensures { let x = expansions_of problem.now in_sight in
+        let sub = scope_view problem.now scope.now in
+        let t = formula_expanded x problem.now (formula_view f.now) sub next.old in
+        GivesFormula
+        (plain.implication t
+        (formula_expanded x problem.now (formula_view g.now) sub
+        (next.old + binders t))) next.old room.old deep next.new room.new result }
 {
     if !take_node(room, deep) {
-        return Err(Lack::TooLarge);
+        return Err(ExpandFault::TooLarge);
     }
-    match expand_pair(
+    let pair = expand_pair(
         alloc,
         problem,
         tables,
@@ -371,10 +395,8 @@ fn expand_implication(
         next,
         room,
         deep - 1,
-    ) {
-        Ok(pair) => implication(alloc, pair.0, pair.1),
-        Err(lack) => Err(lack),
-    }
+    )?;
+    implication(alloc, pair.0, pair.1)
 }
 
 #[cycle(formula)]
@@ -389,15 +411,21 @@ fn expand_equivalence(
     next: &mut u32,
     room: &mut u32,
     deep: u32,
-) -> Result<PlainFormula, Lack>
+) -> Result<PlainFormula, ExpandFault>
     requires known { AreTables problem.now tables.now }
     requires numbers { next.old + room.old < 2 ^ 32 }
-    ensures { let x = expansions_of problem.now in_sight in let sub = scope_view problem.now scope.now in let t = formula_expanded x problem.now (formula_view f.now) sub next.old in GivesFormula (plain.equivalence t (formula_expanded x problem.now (formula_view g.now) sub (next.old + binders t))) next.old room.old deep next.new room.new result }
+    ensures { let x = expansions_of problem.now in_sight in
+        let sub = scope_view problem.now scope.now in
+        let t = formula_expanded x problem.now (formula_view f.now) sub next.old in
+        GivesFormula
+        (plain.equivalence t
+        (formula_expanded x problem.now (formula_view g.now) sub
+        (next.old + binders t))) next.old room.old deep next.new room.new result }
 {
     if !take_node(room, deep) {
-        return Err(Lack::TooLarge);
+        return Err(ExpandFault::TooLarge);
     }
-    match expand_pair(
+    let pair = expand_pair(
         alloc,
         problem,
         tables,
@@ -408,10 +436,8 @@ fn expand_equivalence(
         next,
         room,
         deep - 1,
-    ) {
-        Ok(pair) => equivalence(alloc, pair.0, pair.1),
-        Err(lack) => Err(lack),
-    }
+    )?;
+    equivalence(alloc, pair.0, pair.1)
 }
 
 /// A quantifier, whose variable takes the next number.
@@ -429,35 +455,32 @@ fn expand_quantified(
     next: &mut u32,
     room: &mut u32,
     deep: u32,
-) -> Result<PlainFormula, Lack>
+) -> Result<PlainFormula, ExpandFault>
     requires known { AreTables problem.now tables.now }
     requires numbers { next.old + room.old < 2 ^ 32 }
-    ensures { GivesFormula (formula_expanded (expansions_of problem.now in_sight) problem.now (tree.quantified 0 kind v.now (coll_view coll.now) (formula_view f.now)) (scope_view problem.now scope.now) next.old) next.old room.old deep next.new room.new result }
+    ensures { GivesFormula (formula_expanded (expansions_of problem.now in_sight) problem.now
+        (tree.quantified 0 kind v.now (coll_view coll.now) (formula_view f.now))
+        (scope_view problem.now scope.now) next.old) next.old room.old deep next.new room.new
+        result }
 {
     if !take_node(room, deep) {
-        return Err(Lack::TooLarge);
+        return Err(ExpandFault::TooLarge);
     }
-    match expand_coll(alloc, problem, tables, coll, &*scope) {
-        Ok(elements) => {
-            let own = *next;
-            *next += 1;
-            match expand_formula(
-                alloc,
-                problem,
-                tables,
-                in_sight,
-                f,
-                &Scope::Variable(&*scope, &v.name, own),
-                next,
-                room,
-                deep - 1,
-            ) {
-                Ok(body) => quantified(alloc, kind, own, elements, body),
-                Err(lack) => Err(lack),
-            }
-        }
-        Err(_lack) => Err(Lack::Memory),
-    }
+    let elements = expand_coll(alloc, problem, tables, coll, &*scope)?;
+    let own = *next;
+    *next += 1;
+    let body = expand_formula(
+        alloc,
+        problem,
+        tables,
+        in_sight,
+        f,
+        &Scope::Variable(&*scope, &v.name, own),
+        next,
+        room,
+        deep - 1,
+    )?;
+    quantified(alloc, kind, own, elements, body)
 }
 
 /// The body of a macro, where its parameters stand for the arguments.
@@ -473,10 +496,13 @@ fn expand_formula_call(
     next: &mut u32,
     room: &mut u32,
     deep: u32,
-) -> Result<PlainFormula, Lack>
+) -> Result<PlainFormula, ExpandFault>
     requires known { AreTables problem.now tables.now }
     requires numbers { next.old + room.old < 2 ^ 32 }
-    ensures { GivesFormula (formula_expanded (expansions_of problem.now in_sight) problem.now (tree.formula_call 0 m.now (tree.arguments (map argument_view args.now))) (scope_view problem.now scope.now) next.old) next.old room.old deep next.new room.new result }
+    ensures { GivesFormula (formula_expanded (expansions_of problem.now in_sight) problem.now
+        (tree.formula_call 0 m.now (tree.arguments (map argument_view args.now)))
+        (scope_view problem.now scope.now) next.old) next.old room.old deep next.new room.new
+        result }
 {
     match formula_macro(problem, tables, in_sight, &m.name) {
         Some(called) => expand_formula(

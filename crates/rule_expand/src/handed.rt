@@ -37,8 +37,10 @@ pub fn handed_index(handed: &[Option<usize>], position: usize, count: usize) -> 
 
 /// The parameter of this name.
 fn parameter_named(params: &[ParamDef], name: &Name) -> Option<usize>
-    ensures { MatchOption result (Unit {0}) (λ i. (p : ProblemData) (ms : List Meant) → i < length ms →
-        as_expr (meant_by p name.now (give_all (map param_data params.now) ms)) ≡ as_expr (nth_meant ms i)) }
+    ensures { MatchOption result (Unit {0}) (λ i. (p : ProblemData) (ms : List Meant)
+        → i < length ms →
+        as_expr (meant_by p name.now (give_all (map param_data params.now) ms))
+        ≡ as_expr (nth_meant ms i)) }
 {
     match parameter_index(params, params.len(), name) {
         Some(i) => Some(i),
@@ -58,7 +60,8 @@ fn parameter_of(
     requires table { (n : List ℕ) → found macros.now n ≡ macro_position problem.now n }
     requires handed { AreHanded problem.now handed.now }
     ensures { MatchOption result (Unit {0}) (λ i. (ms : List Meant) → i < length ms →
-        expr_expanded (expansions_of problem.now (length handed.now)) problem.now (expr_view e.now) (give_all (map param_data params.now) ms) ≡ as_expr (nth_meant ms i)) }
+        expr_expanded (expansions_of problem.now (length handed.now)) problem.now (expr_view e.now)
+        (give_all (map param_data params.now) ms) ≡ as_expr (nth_meant ms i)) }
 {
     match e {
         Expr::Param(a) => match parameter_named(params, &a.name) {
@@ -95,7 +98,9 @@ fn parameter_of_call(
     requires table { (n : List ℕ) → found macros.now n ≡ macro_position problem.now n }
     requires handed { AreHanded problem.now handed.now }
     ensures { MatchOption result (Unit {0}) (λ i. (ms : List Meant) → i < length ms →
-        expr_expanded (expansions_of problem.now (length handed.now)) problem.now (tree.value_call 0 m.now (tree.arguments (map argument_view args.now))) (give_all (map param_data params.now) ms) ≡ as_expr (nth_meant ms i)) }
+        expr_expanded (expansions_of problem.now (length handed.now)) problem.now
+        (tree.value_call 0 m.now (tree.arguments (map argument_view args.now)))
+        (give_all (map param_data params.now) ms) ≡ as_expr (nth_meant ms i)) }
 {
     match position_of(macros, m.name.as_bytes()) {
         Some(position) => match handed_index(handed, position, args.len()) {

@@ -11,5 +11,3 @@ pub mod plain;
 pub mod rules;
 pub mod scope;
 pub mod table;
-#[cfg(test)]
-mod tests;

@@ -5,7 +5,7 @@ ghost use Rattle.rule_expand.specs.Plain as plain;
 ghost use Rattle.rule_expand.specs.PlainView.{plain_expr_view, plain_sum_view, plain_product_view, plain_sums_view, plain_products_view, plain_coll_view, plain_formula_view, plain_formulas_view};
 ghost use Rattle.rule_expand.specs.Limits.{GivesExpr, GivesUnbound};
 
-use crate::limits::Lack;
+use crate::limits::ExpandFault;
 use crate::plain::{PlainColl, PlainExpr, PlainFormula, PlainProd, PlainSum, Subject};
 use geo_tokens::name::Name;
 use rule_syntax::tree::{QuantKind, Rel};
@@ -13,7 +13,8 @@ use std::alloc::Global;
 
 /// Takes one node from the room, if one is left and the depth allows it.
 pub fn take_node(room: &mut u32, deep: u32) -> bool
-    ensures { MatchBool result ((room.new + 1 ≡ room.old) × (0 < deep)) ((room.old ≡ 0) ⊎ (deep ≡ 0)) }
+    ensures { MatchBool result ((room.new + 1 ≡ room.old)
+        × (0 < deep)) ((room.old ≡ 0) ⊎ (deep ≡ 0)) }
 {
     if *room == 0 || deep == 0 {
         return false;
@@ -23,21 +24,21 @@ pub fn take_node(room: &mut u32, deep: u32) -> bool
 }
 
 /// A number.
-pub fn number(n: u32, room: &mut u32, deep: u32) -> Result<PlainExpr, Lack>
+pub fn number(n: u32, room: &mut u32, deep: u32) -> Result<PlainExpr, ExpandFault>
     ensures { GivesExpr (plain.number n) room.old deep room.new result }
 {
     if !take_node(room, deep) {
-        return Err(Lack::TooLarge);
+        return Err(ExpandFault::TooLarge);
     }
     Ok(PlainExpr::Num(n))
 }
 
 /// The number of a shape.
-pub fn shape_number(position: usize, room: &mut u32, deep: u32) -> Result<PlainExpr, Lack>
+pub fn shape_number(position: usize, room: &mut u32, deep: u32) -> Result<PlainExpr, ExpandFault>
     ensures { GivesExpr (plain.shape_number position) room.old deep room.new result }
 {
     if !take_node(room, deep) {
-        return Err(Lack::TooLarge);
+        return Err(ExpandFault::TooLarge);
     }
     Ok(PlainExpr::ShapeNum(position))
 }
@@ -49,89 +50,103 @@ pub fn field(
     name: &Name,
     room: &mut u32,
     deep: u32,
-) -> Result<PlainExpr, Lack>
+) -> Result<PlainExpr, ExpandFault>
     ensures { GivesExpr (plain.field of name.now) room.old deep room.new result }
 {
     if !take_node(room, deep) {
-        return Err(Lack::TooLarge);
+        return Err(ExpandFault::TooLarge);
     }
     match name.try_clone(alloc) {
         Ok(own) => Ok(PlainExpr::Field(of, own)),
-        Err(_e) => Err(Lack::Memory),
+        Err(_e) => Err(ExpandFault::Memory),
     }
 }
 
 /// A minus in front.
-pub fn negative(alloc: Global, e: PlainExpr) -> Result<PlainExpr, Lack>
-    ensures { MatchResult result (λ q. plain_expr_view q ≡ plain.negative (plain_expr_view e)) (λ f. f ≡ Lack.Memory) }
+pub fn negative(alloc: Global, e: PlainExpr) -> Result<PlainExpr, ExpandFault>
+    ensures { MatchResult result (λ q. plain_expr_view q ≡ plain.negative (plain_expr_view e))
+        (λ f. f ≡ ExpandFault.Memory) }
 {
     Ok(PlainExpr::Neg(Box::new(alloc, e)?))
 }
 
 /// A sum.
-pub fn sum(alloc: Global, first: PlainExpr, steps: Vec<PlainSum>) -> Result<PlainExpr, Lack>
-    ensures { MatchResult result (λ q. plain_expr_view q ≡ plain.sum (plain_expr_view first) (plain_sums_view steps.items)) (λ f. f ≡ Lack.Memory) }
+pub fn sum(alloc: Global, first: PlainExpr, steps: Vec<PlainSum>) -> Result<PlainExpr, ExpandFault>
+    ensures { MatchResult result (λ q. plain_expr_view q
+        ≡ plain.sum (plain_expr_view first) (plain_sums_view steps.items)) (λ f. f ≡ ExpandFault.Memory) }
 {
     Ok(PlainExpr::Sum(Box::new(alloc, first)?, steps))
 }
 
 /// A product.
-pub fn product(alloc: Global, first: PlainExpr, steps: Vec<PlainProd>) -> Result<PlainExpr, Lack>
-    ensures { MatchResult result (λ q. plain_expr_view q ≡ plain.product (plain_expr_view first) (plain_products_view steps.items)) (λ f. f ≡ Lack.Memory) }
+pub fn product(
+    alloc: Global,
+    first: PlainExpr,
+    steps: Vec<PlainProd>,
+) -> Result<PlainExpr, ExpandFault>
+    ensures { MatchResult result (λ q. plain_expr_view q
+        ≡ plain.product (plain_expr_view first) (plain_products_view steps.items)) (λ f. f
+        ≡ ExpandFault.Memory) }
 {
     Ok(PlainExpr::Prod(Box::new(alloc, first)?, steps))
 }
 
 /// The least of two.
-pub fn least(alloc: Global, a: PlainExpr, b: PlainExpr) -> Result<PlainExpr, Lack>
-    ensures { MatchResult result (λ q. plain_expr_view q ≡ plain.least (plain_expr_view a) (plain_expr_view b)) (λ f. f ≡ Lack.Memory) }
+pub fn least(alloc: Global, a: PlainExpr, b: PlainExpr) -> Result<PlainExpr, ExpandFault>
+    ensures { MatchResult result (λ q. plain_expr_view q
+        ≡ plain.least (plain_expr_view a) (plain_expr_view b)) (λ f. f ≡ ExpandFault.Memory) }
 {
     Ok(PlainExpr::Min(Box::new(alloc, a)?, Box::new(alloc, b)?))
 }
 
 /// The greatest of two.
-pub fn greatest(alloc: Global, a: PlainExpr, b: PlainExpr) -> Result<PlainExpr, Lack>
-    ensures { MatchResult result (λ q. plain_expr_view q ≡ plain.greatest (plain_expr_view a) (plain_expr_view b)) (λ f. f ≡ Lack.Memory) }
+pub fn greatest(alloc: Global, a: PlainExpr, b: PlainExpr) -> Result<PlainExpr, ExpandFault>
+    ensures { MatchResult result (λ q. plain_expr_view q
+        ≡ plain.greatest (plain_expr_view a) (plain_expr_view b)) (λ f. f ≡ ExpandFault.Memory) }
 {
     Ok(PlainExpr::Max(Box::new(alloc, a)?, Box::new(alloc, b)?))
 }
 
 /// One step of a sum more.
-pub fn add_sum(steps: &mut Vec<PlainSum>, step: PlainSum) -> Result<(), Lack>
-    ensures { MatchResult result (λ u. steps.new.items ≡ steps.old.items ++ step ∷ []) (λ e. e ≡ Lack.Memory) }
+pub fn add_sum(steps: &mut Vec<PlainSum>, step: PlainSum) -> Result<(), ExpandFault>
+    ensures { MatchResult result (λ u. steps.new.items ≡ steps.old.items ++ step ∷ []) (λ e. e
+        ≡ ExpandFault.Memory) }
 {
     steps.push(step)?;
     Ok(())
 }
 
 /// One step of a product more.
-pub fn add_product(steps: &mut Vec<PlainProd>, step: PlainProd) -> Result<(), Lack>
-    ensures { MatchResult result (λ u. steps.new.items ≡ steps.old.items ++ step ∷ []) (λ e. e ≡ Lack.Memory) }
+pub fn add_product(steps: &mut Vec<PlainProd>, step: PlainProd) -> Result<(), ExpandFault>
+    ensures { MatchResult result (λ u. steps.new.items ≡ steps.old.items ++ step ∷ []) (λ e. e
+        ≡ ExpandFault.Memory) }
 {
     steps.push(step)?;
     Ok(())
 }
 
 /// `false`.
-pub fn falsehood(room: &mut u32, deep: u32) -> Result<PlainFormula, Lack>
+pub fn falsehood(room: &mut u32, deep: u32) -> Result<PlainFormula, ExpandFault>
     ensures { GivesUnbound plain.falsehood room.old deep room.new result }
 {
     if !take_node(room, deep) {
-        return Err(Lack::TooLarge);
+        return Err(ExpandFault::TooLarge);
     }
     Ok(PlainFormula::False)
 }
 
 /// A comparison.
 pub fn comparison(a: PlainExpr, rel: Rel, b: PlainExpr) -> PlainFormula
-    ensures { plain_formula_view result ≡ plain.comparison (plain_expr_view a) rel (plain_expr_view b) }
+    ensures { plain_formula_view result
+        ≡ plain.comparison (plain_expr_view a) rel (plain_expr_view b) }
 {
     PlainFormula::Compare(a, rel, b)
 }
 
 /// A `not`.
-pub fn negation(alloc: Global, f: PlainFormula) -> Result<PlainFormula, Lack>
-    ensures { MatchResult result (λ q. plain_formula_view q ≡ plain.negation (plain_formula_view f)) (λ e. e ≡ Lack.Memory) }
+pub fn negation(alloc: Global, f: PlainFormula) -> Result<PlainFormula, ExpandFault>
+    ensures { MatchResult result (λ q. plain_formula_view q ≡ plain.negation (plain_formula_view f))
+        (λ e. e ≡ ExpandFault.Memory) }
 {
     Ok(PlainFormula::Not(Box::new(alloc, f)?))
 }
@@ -151,15 +166,25 @@ pub fn any_of(parts: Vec<PlainFormula>) -> PlainFormula
 }
 
 /// An `implies`.
-pub fn implication(alloc: Global, f: PlainFormula, g: PlainFormula) -> Result<PlainFormula, Lack>
-    ensures { MatchResult result (λ q. plain_formula_view q ≡ plain.implication (plain_formula_view f) (plain_formula_view g)) (λ e. e ≡ Lack.Memory) }
+pub fn implication(
+    alloc: Global,
+    f: PlainFormula,
+    g: PlainFormula,
+) -> Result<PlainFormula, ExpandFault>
+    ensures { MatchResult result (λ q. plain_formula_view q
+        ≡ plain.implication (plain_formula_view f) (plain_formula_view g)) (λ e. e ≡ ExpandFault.Memory) }
 {
     Ok(PlainFormula::Implies(Box::new(alloc, f)?, Box::new(alloc, g)?))
 }
 
 /// An `iff`.
-pub fn equivalence(alloc: Global, f: PlainFormula, g: PlainFormula) -> Result<PlainFormula, Lack>
-    ensures { MatchResult result (λ q. plain_formula_view q ≡ plain.equivalence (plain_formula_view f) (plain_formula_view g)) (λ e. e ≡ Lack.Memory) }
+pub fn equivalence(
+    alloc: Global,
+    f: PlainFormula,
+    g: PlainFormula,
+) -> Result<PlainFormula, ExpandFault>
+    ensures { MatchResult result (λ q. plain_formula_view q
+        ≡ plain.equivalence (plain_formula_view f) (plain_formula_view g)) (λ e. e ≡ ExpandFault.Memory) }
 {
     Ok(PlainFormula::Iff(Box::new(alloc, f)?, Box::new(alloc, g)?))
 }
@@ -171,15 +196,18 @@ pub fn quantified(
     variable: u32,
     coll: PlainColl,
     f: PlainFormula,
-) -> Result<PlainFormula, Lack>
-    ensures { MatchResult result (λ q. plain_formula_view q ≡ plain.quantified kind variable (plain_coll_view coll) (plain_formula_view f)) (λ e. e ≡ Lack.Memory) }
+) -> Result<PlainFormula, ExpandFault>
+    ensures { MatchResult result (λ q. plain_formula_view q
+        ≡ plain.quantified kind variable (plain_coll_view coll) (plain_formula_view f)) (λ e. e
+        ≡ ExpandFault.Memory) }
 {
     Ok(PlainFormula::Quant(kind, variable, coll, Box::new(alloc, f)?))
 }
 
 /// One operand more.
-pub fn add_formula(parts: &mut Vec<PlainFormula>, part: PlainFormula) -> Result<(), Lack>
-    ensures { MatchResult result (λ u. parts.new.items ≡ parts.old.items ++ part ∷ []) (λ e. e ≡ Lack.Memory) }
+pub fn add_formula(parts: &mut Vec<PlainFormula>, part: PlainFormula) -> Result<(), ExpandFault>
+    ensures { MatchResult result (λ u. parts.new.items ≡ parts.old.items ++ part ∷ []) (λ e. e
+        ≡ ExpandFault.Memory) }
 {
     parts.push(part)?;
     Ok(())

@@ -3,12 +3,12 @@
 ghost use Rattle.std.specs.Prelude.{◌≡◌, None, false, IfOk, List, MatchResult, map, ◌++◌, ◌∷◌, []};
 ghost use Rattle.problem_text.specs.Tuple.{Tuple};
 ghost use Rattle.problem_text.specs.ProblemView.{range_data};
-ghost use Rattle.rule_expand.specs.Rules.{AllAskSame, IsFaultOf, RuleLacks, expansion_fault, first_place, is_large, large_fault, multiplies_coordinates, plain_rule_data, rule_expanded, rules_expanded};
+ghost use Rattle.rule_expand.specs.Rules.{AllAskSame, IsFaultOf, IsRuleFault, expansion_fault, first_place, is_large, large_fault, multiplies_coordinates, plain_rule_data, rule_expanded, rules_expanded};
 ghost use Rattle.rule_expand.specs.Table.{AreTables};
 
 use crate::degree::multiplies;
 use crate::formulas::expand_formula;
-use crate::limits::Lack;
+use crate::limits::ExpandFault;
 use crate::plain::{PlainBody, PlainRule};
 use crate::scope::Scope;
 use crate::table::{Tables, tables_of};
@@ -35,9 +35,11 @@ fn expand_rule(
     problem: &Problem,
     tables: &Tables,
     rule: &RuleDef,
-) -> Result<PlainRule, Lack>
+) -> Result<PlainRule, ExpandFault>
     requires { AreTables problem.now tables.now }
-    ensures { MatchResult result (λ r. (plain_rule_data r ≡ rule_expanded problem.now rule.now) × (is_large (rule_expanded problem.now rule.now).demand ≡ false)) (λ e. RuleLacks (rule_expanded problem.now rule.now) e) }
+    ensures { MatchResult result (λ r. (plain_rule_data r ≡ rule_expanded problem.now rule.now)
+        × (is_large (rule_expanded problem.now rule.now).demand ≡ false))
+        (λ e. IsRuleFault (rule_expanded problem.now rule.now) e) }
 {
     let place = rule.place();
     match rule.demand() {
@@ -45,18 +47,15 @@ fn expand_rule(
             place,
             body: PlainBody::Apart,
         }),
-        Demand::Within(ranges) => match copied(alloc, ranges) {
-            Ok(own) => Ok(PlainRule {
-                place,
-                body: PlainBody::Within(own),
-            }),
-            Err(_e) => Err(Lack::Memory),
-        },
+        Demand::Within(ranges) => Ok(PlainRule {
+            place,
+            body: PlainBody::Within(copied(alloc, ranges)?),
+        }),
         Demand::Plain(f) => {
             let mut next = 0;
             let mut room = MAX_NODES;
             let in_sight = problem.macros().len();
-            match expand_formula(
+            let made = expand_formula(
                 alloc,
                 problem,
                 tables,
@@ -66,13 +65,11 @@ fn expand_rule(
                 &mut next,
                 &mut room,
                 MAX_DEPTH,
-            ) {
-                Ok(made) => Ok(PlainRule {
-                    place,
-                    body: PlainBody::Plain(made),
-                }),
-                Err(lack) => Err(lack),
-            }
+            )?;
+            Ok(PlainRule {
+                place,
+                body: PlainBody::Plain(made),
+            })
         }
     }
 }
@@ -92,7 +89,9 @@ fn expand_rules(
     tables: &Tables,
 ) -> Result<Vec<PlainRule>, TextFault>
     requires { AreTables problem.now tables.now }
-    ensures { MatchResult result (λ v. (map plain_rule_data v.items ≡ rules_expanded problem.now) × (first_place is_large (rules_expanded problem.now) ≡ None)) (λ e. IsFaultOf (large_fault problem.now) e) }
+    ensures { MatchResult result (λ v. (map plain_rule_data v.items ≡ rules_expanded problem.now)
+        × (first_place is_large (rules_expanded problem.now) ≡ None))
+        (λ e. IsFaultOf (large_fault problem.now) e) }
 {
     let rules = problem.rules();
     let mut made = Vec::new(alloc);
@@ -103,8 +102,11 @@ fn expand_rules(
                     return Err(TextFault::Memory);
                 }
             }
-            Err(Lack::TooLarge) => return Err(TextFault::At(rule.place(), FaultWord::Expand)),
-            Err(Lack::Memory) => return Err(TextFault::Memory),
+            Err(ExpandFault::TooLarge) => return Err(TextFault::At(
+                rule.place(),
+                FaultWord::Expand,
+            )),
+            Err(ExpandFault::Memory) => return Err(TextFault::Memory),
         }
     }
     Ok(made)
@@ -139,13 +141,13 @@ fn first_product(rules: &[PlainRule]) -> Option<u64>
 /// coordinates, or has them under `div`, `mod`, `min` or `max`, is refused with `product`; each at the place of its name, the
 /// first in file order. On each tuple a rule without macros holds exactly where the rule holds.
 pub fn expand_all(alloc: Global, problem: &Problem) -> Result<Vec<PlainRule>, TextFault>
-    ensures expanded { MatchResult result (λ v. (map plain_rule_data v.items ≡ rules_expanded problem.now) × (expansion_fault problem.now ≡ None)) (λ e. IsFaultOf (expansion_fault problem.now) e) }
-    ensures meaning { IfOk result (λ v. (t : Tuple) → AllAskSame problem.now t problem.now.rules (map plain_rule_data v.items)) }
+    ensures expanded { MatchResult result
+        (λ v. (map plain_rule_data v.items ≡ rules_expanded problem.now)
+        × (expansion_fault problem.now ≡ None)) (λ e. IsFaultOf (expansion_fault problem.now) e) }
+    ensures meaning { IfOk result (λ v. (t : Tuple)
+        → AllAskSame problem.now t problem.now.rules (map plain_rule_data v.items)) }
 {
-    let tables = match tables_of(alloc, problem) {
-        Ok(tables) => tables,
-        Err(_e) => return Err(TextFault::Memory),
-    };
+    let tables = tables_of(alloc, problem)?;
     let rules = expand_rules(alloc, problem, &tables)?;
     match first_product(rules.as_slice()) {
         Some(place) => Err(TextFault::At(place, FaultWord::Product)),

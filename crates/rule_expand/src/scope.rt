@@ -78,8 +78,16 @@ fn object_named<'a>(problem: &Problem, tables: &Tables, name: &Name) -> Found<'a
 
 /// The argument that is given for the parameter of this name.
 fn bound_argument<'a>(params: &[ParamDef], args: &'a [Argument], name: &Name) -> Option<&'a Expr>
-    ensures meant { (x : Expansions) (p : ProblemData) (sub : Subst) → meant_by p name.now (give_all (map param_data params.now) (arguments_meant x p (arguments (map argument_view args.now)) sub)) ≡ option_map_or (λ e. meant x p (expr_view e.now) sub) result (meant_by p name.now []) }
-    ensures cost { (c : MacroCosts) (p : ProblemData) (env : CostEnv) → cost_by name.now (price_all (map param_data params.now) (costs c p (arguments (map argument_view args.now)) env)) ≡ option_map_or (λ e. cost c p (expr_view e.now) env) result 0 }
+    ensures meant { (x : Expansions) (p : ProblemData) (sub : Subst)
+        → meant_by p name.now
+        (give_all (map param_data params.now)
+        (arguments_meant x p (arguments (map argument_view args.now)) sub))
+        ≡ option_map_or (λ e. meant x p (expr_view e.now) sub) result (meant_by p name.now []) }
+    ensures cost { (c : MacroCosts) (p : ProblemData) (env : CostEnv)
+        → cost_by name.now
+        (price_all (map param_data params.now)
+        (costs c p (arguments (map argument_view args.now)) env))
+        ≡ option_map_or (λ e. cost c p (expr_view e.now) env) result 0 }
 {
     match parameter_index(params, args.len(), name) {
         Some(i) => Some(&args[i].value),
@@ -113,7 +121,8 @@ pub fn look_up<'a>(
     name: &Name,
 ) -> Found<'a>
     requires { AreTables problem.now tables.now }
-    ensures meant { found_meant problem.now result ≡ meant_by problem.now name.now (scope_view problem.now scope.now) }
+    ensures meant { found_meant problem.now result
+        ≡ meant_by problem.now name.now (scope_view problem.now scope.now) }
     ensures cost { found_cost problem.now result ≤ cost_by name.now (prices problem.now scope.now) }
 {
     match scope {
@@ -145,7 +154,8 @@ pub fn value_macro<'a>(
     name: &Name,
 ) -> Option<ValueMacro<'a>>
     requires { AreTables problem.now tables.now }
-    ensures { MatchOption result (IsNoValueMacro problem.now in_sight name.now) (λ v. IsValueMacro problem.now in_sight name.now v) }
+    ensures { MatchOption result (IsNoValueMacro problem.now in_sight name.now)
+        (λ v. IsValueMacro problem.now in_sight name.now v) }
 {
     match position_of(&tables.names.macros, name.as_bytes()) {
         Some(index) => {
@@ -175,7 +185,8 @@ pub fn formula_macro<'a>(
     name: &Name,
 ) -> Option<FormulaMacro<'a>>
     requires { AreTables problem.now tables.now }
-    ensures { MatchOption result (IsNoFormulaMacro problem.now in_sight name.now) (λ v. IsFormulaMacro problem.now in_sight name.now v) }
+    ensures { MatchOption result (IsNoFormulaMacro problem.now in_sight name.now)
+        (λ v. IsFormulaMacro problem.now in_sight name.now v) }
 {
     match position_of(&tables.names.macros, name.as_bytes()) {
         Some(index) => {

@@ -15,10 +15,12 @@ use Rattle.problem_text.specs.Tuple.{object_of}
 use Rattle.problem_text.specs.Cells.{BoxHas, box_at, IsCellOf, NoCommonCell, IsApart, IsShaped}
 use Rattle.problem_text.specs.WellFormed.{IsBox, IsWellFormed}
 use Rattle.linear_conditions.specs.CondTree.{CondTree, true_on}
-use Rattle.rule_ground.specs.Shapes.{places, IsPlace, boxes_at, other_shape}
+use Rattle.rule_ground.specs.Shapes.{places, IsPlace, other_shape}
+use Rattle.rule_values.specs.Shapes.{boxes_at}
+use Rattle.rule_values.proofs.Boxes.{boxes-good}
 use Rattle.rule_ground.specs.Apart.{parted_in, apart_condition, apart_from_box, apart_at_places, apart_at_place, apart_of, apart_behind, apart_conditions}
 use Rattle.rule_ground.proofs.Cells.{low_of, end_of, common-cell, parted}
-use Rattle.rule_ground.proofs.Placing.{boxes-good, boxes-placed, place-of, other-true}
+use Rattle.rule_ground.proofs.Placing.{boxes-placed, place-of, other-true}
 use Rattle.rule_ground.proofs.Truths.{one-of, any-append, any-flat, ends_before, begins_after, all-flat-out, all-flat-in, all-range-out, all-range-in, any-out, none-any}
 
 abbrev pub IsTrueOn : Tuple → CondTree → Type 0

@@ -28,7 +28,8 @@ use Rattle.linear_conditions.specs.Counts.{Counts, Outcome, Fault, Done, OnDone}
 use Rattle.linear_conditions.proofs.Outcomes.{on_done, on_then, on_any, on_either}
 use Rattle.linear_conditions.proofs.Placed.{AreBelow}
 use Rattle.linear_conditions.proofs.Inside.{IsInside, AreInside, AllInside, conds-inside, both-inside, certain-inside, count-inside, joined-inside, compare-inside}
-use Rattle.rule_ground.specs.Shapes.{places, boxes_at, has_several, other_shape, term}
+use Rattle.rule_ground.specs.Shapes.{places, has_several, other_shape, term}
+use Rattle.rule_values.specs.Shapes.{boxes_at}
 use Rattle.rule_ground.specs.Start.{first_state, whole_reach}
 use Rattle.rule_ground.specs.Apart.{parted_in, apart_condition, apart_from_box, apart_at_places, apart_at_place, apart_of, apart_behind, apart_conditions}
 use Rattle.rule_ground.specs.Within.{unless_other, from_low, to_high, within_in, within_of_box, within_at_place, within_of, within_conditions}

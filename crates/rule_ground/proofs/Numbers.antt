@@ -5,7 +5,8 @@ use Rattle.std.proofs.lemmas.Nat.{mul-le}
 use Rattle.std.proofs.lemmas.List.{length-append, length-map}
 use Rattle.std.proofs.lemmas.List.FromFn.{length-range_with_len}
 use Rattle.problem_text.specs.Problem.{BoxData, RangeData, ProblemData}
-use Rattle.rule_ground.specs.Shapes.{places, boxes_at}
+use Rattle.rule_ground.specs.Shapes.{places}
+use Rattle.rule_values.specs.Shapes.{boxes_at}
 use Rattle.rule_ground.specs.Apart.{apart_condition, apart_from_box, apart_at_places, apart_at_place, apart_of, apart_behind}
 use Rattle.rule_ground.specs.Within.{within_in, within_of_box, within_at_place, within_of}
 use Rattle.rule_ground.specs.BoxCounts.{total, box_count}

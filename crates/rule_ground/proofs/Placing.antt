@@ -13,24 +13,9 @@ use Rattle.problem_text.specs.Tuple.{object_of, boxes_of_shape, boxes_in}
 use Rattle.problem_text.specs.Cells.{IsShaped}
 use Rattle.problem_text.specs.WellFormed.{IsBox, IsWellFormed}
 use Rattle.linear_conditions.specs.CondTree.{shape_is_not, true_on}
-use Rattle.rule_ground.specs.Shapes.{IsPlace, boxes_at, has_several, other_shape, IsSmallBox, HasSmallShapes}
-
--- the boxes of a shape that is not there are none
-shape-boxes : (P : BoxData → Type 0) (p : ProblemData) (n : ℕ) → All (λ s. All P s.boxes) p.shapes → All P (boxes_of_shape p n)
-shape-boxes P p n all = ⊎_elim
-    (λ h. all n (record { name = []; boxes = [] }) h)
-    (λ h. subst (λ (s : ShapeData). All P s.boxes) (sym (get_or_past p.shapes n (record { name = []; boxes = [] }) h)) (All-nil P))
-    (cases_lt n (length p.shapes))
-
-pub boxes-all : (P : BoxData → Type 0) (p : ProblemData) (o s : ℕ) → All (λ s. All P s.boxes) p.shapes → All P (boxes_at p o s)
-boxes-all P p o s all = by_option (if s == 0 then None else slice_get (object_of p o).shapes (s - 1))
-  where
-    by_option : (m : Option ℕ) → All P (option_map_or (boxes_of_shape p) m [])
-    by_option None = All-nil P
-    by_option (Some n) = shape-boxes P p n all
-
-pub boxes-good : (p : ProblemData) (o s : ℕ) → IsWellFormed p → All (IsBox p.dims) (boxes_at p o s)
-boxes-good p o s w = boxes-all (IsBox p.dims) p o s w.boxes
+use Rattle.rule_ground.specs.Shapes.{IsPlace, has_several, other_shape, IsSmallBox, HasSmallShapes}
+use Rattle.rule_values.specs.Shapes.{boxes_at}
+use Rattle.rule_values.proofs.Boxes.{boxes-all}
 
 pub boxes-small : (p : ProblemData) (o s : ℕ) → HasSmallShapes p → All IsSmallBox (boxes_at p o s)
 boxes-small p o s h = boxes-all IsSmallBox p o s h.boxes

@@ -15,11 +15,13 @@ use Rattle.problem_text.specs.Tuple.{object_of}
 use Rattle.problem_text.specs.Cells.{BoxHas, box_at, range_at, IsInRanges, IsCellOf, IsWithin, IsShaped}
 use Rattle.problem_text.specs.WellFormed.{IsBox, IsWellFormed}
 use Rattle.linear_conditions.specs.CondTree.{CondTree, shape_is_not, at_least, conds, true_on}
-use Rattle.rule_ground.specs.Shapes.{places, IsPlace, boxes_at, has_several}
+use Rattle.rule_ground.specs.Shapes.{places, IsPlace, has_several}
+use Rattle.rule_values.specs.Shapes.{boxes_at}
+use Rattle.rule_values.proofs.Boxes.{boxes-good}
 use Rattle.rule_ground.specs.Within.{unless_other, from_low, to_high, within_in, within_of_box, within_at_place, within_of, within_conditions}
 use Rattle.rule_ground.proofs.ApartTruth.{IsTrueOn}
 use Rattle.rule_ground.proofs.Cells.{low_of, end_of, solid, cell-with}
-use Rattle.rule_ground.proofs.Placing.{boxes-good, boxes-placed, place-of, or_false, only-one}
+use Rattle.rule_ground.proofs.Placing.{boxes-placed, place-of, or_false, only-one}
 use Rattle.rule_ground.proofs.Truths.{one-of, low-true, high-true, all-flat-out, all-flat-in, all-range-out, all-range-in}
 
 low-is : (t : Tuple) (o : ℕ) (b : BoxData) (ranges : List RangeData) (d : ℕ) → true_on t (from_low o b ranges d) ≡ le_z (range_at ranges d).low (low_of b (spot t o).origin d)

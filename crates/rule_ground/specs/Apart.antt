@@ -4,7 +4,8 @@ use Rattle.std.specs.List.{range_with_len, flat_map}
 use Rattle.geo_base.specs.Boxes.{coordinate}
 use Rattle.problem_text.specs.Problem.{BoxData, ProblemData}
 use Rattle.linear_conditions.specs.CondTree.{CondTree, linear, at_least, conds}
-use Rattle.rule_ground.specs.Shapes.{places, boxes_at, other_shape, term}
+use Rattle.rule_ground.specs.Shapes.{places, other_shape, term}
+use Rattle.rule_values.specs.Shapes.{boxes_at}
 
 -- in the dimension d the box a of the object i ends before the box b of the object j begins; and the other way round
 abbrev pub parted_in : ℕ → BoxData → ℕ → BoxData → ℕ → List CondTree

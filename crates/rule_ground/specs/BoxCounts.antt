@@ -1,7 +1,8 @@
 -- How many boxes objects have.
 use Rattle.std.specs.Prelude.{ℕ, ◌+◌, List, [], ◌∷◌, length}
 use Rattle.problem_text.specs.Problem.{ProblemData}
-use Rattle.rule_ground.specs.Shapes.{places, boxes_at}
+use Rattle.rule_ground.specs.Shapes.{places}
+use Rattle.rule_values.specs.Shapes.{boxes_at}
 
 -- the sum over a list
 abbrev pub total : {X : Type 0} → (X → ℕ) → List X → ℕ

@@ -1,11 +1,10 @@
--- The shapes that an object may have, by their places from 1 in its list, and their boxes.
-use Rattle.std.specs.Prelude.{ℕ, ◌-◌, ◌==◌, ◌≤◌, ◌<◌, nat_lt, Bool, if◌then◌else◌, ℤ, List, [], ◌∷◌, length, slice_get, None, All}
+-- The shapes that an object may have, by their places from 1 in its list.
+use Rattle.std.specs.Prelude.{ℕ, ◌≤◌, ◌<◌, nat_lt, Bool, if◌then◌else◌, ℤ, List, [], ◌∷◌, length, All}
 use Rattle.std.specs.List.{range_with_len}
-use Rattle.std.specs.Option.{option_map_or}
 use Rattle.geo_conditions.specs.declared.form.Term.{Term}
 use Rattle.problem_text.specs.Limits.{IsSmall, IsSize, most_boxes}
 use Rattle.problem_text.specs.Problem.{BoxData, ShapeData, ProblemData}
-use Rattle.problem_text.specs.Tuple.{object_of, boxes_of_shape}
+use Rattle.problem_text.specs.Tuple.{object_of}
 use Rattle.linear_conditions.specs.CondTree.{CondTree, shape_is_not}
 
 -- the places of the shapes of the object o
@@ -17,10 +16,6 @@ pub record IsPlace (p : ProblemData) (o s : ℕ) : Type 0 where
   pub object : o < length p.objects
   pub first : 1 ≤ s
   pub last : s ≤ length (object_of p o).shapes
-
--- the boxes that the object o has with its shape at the place s
-abbrev pub boxes_at : ProblemData → ℕ → ℕ → List BoxData
-boxes_at p o s = option_map_or (boxes_of_shape p) (if s == 0 then None else slice_get (object_of p o).shapes (s - 1)) []
 
 -- the object has several shapes to choose from
 abbrev pub has_several : ProblemData → ℕ → Bool

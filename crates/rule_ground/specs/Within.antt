@@ -5,7 +5,8 @@ use Rattle.geo_base.specs.Boxes.{coordinate}
 use Rattle.problem_text.specs.Problem.{BoxData, RangeData, ProblemData}
 use Rattle.problem_text.specs.Cells.{range_at}
 use Rattle.linear_conditions.specs.CondTree.{CondTree, linear, shape_is_not, at_least, conds}
-use Rattle.rule_ground.specs.Shapes.{places, boxes_at, has_several, term}
+use Rattle.rule_ground.specs.Shapes.{places, has_several, term}
+use Rattle.rule_values.specs.Shapes.{boxes_at}
 
 -- the object o has another shape than the one at the place s, or the condition holds
 abbrev pub unless_other : ProblemData → ℕ → ℕ → CondTree → CondTree

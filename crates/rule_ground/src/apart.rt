@@ -31,7 +31,8 @@ fn reach_beyond(a: &BoxDef, b: &BoxDef, d: usize) -> i64
     requires a { (d < length a.now.offsets) × (d < length a.now.sizes) }
     requires b { d < length b.now.offsets }
     requires small { IsSmallBox a.now × IsSmallBox b.now }
-    ensures value { result ≡ (coordinate a.now.offsets d +ℤ coordinate a.now.sizes d) -ℤ coordinate b.now.offsets d }
+    ensures value { result ≡ (coordinate a.now.offsets d +ℤ coordinate a.now.sizes d)
+        -ℤ coordinate b.now.offsets d }
     ensures bounded { IsBounded result }
 {
     let begins = a.offsets()[d];
@@ -109,7 +110,8 @@ fn push_box(
     requires a { IsBox problem.now.dims a.now }
     requires small { IsSmallBox a.now }
     ensures { OnOk result (map cond_view out.new.items ≡ map cond_view out.old.items
-        ++ apart_from_box problem.now first.object.0 first.place second.object.0 second.place a.now) }
+        ++ apart_from_box problem.now first.object.0 first.place second.object.0 second.place
+        a.now) }
 {
     let others = boxes(problem, second);
     for b in others {

@@ -5,7 +5,8 @@ ghost use Rattle.problem_text.specs.Problem.{RangeData};
 ghost use Rattle.problem_text.specs.WellFormed.{IsWellFormed};
 ghost use Rattle.rule_ground.specs.Apart.{apart_behind, apart_conditions};
 ghost use Rattle.rule_ground.specs.BoxCounts.{box_count};
-ghost use Rattle.rule_ground.specs.Shapes.{HasSmallShapes, IsPlace, boxes_at};
+ghost use Rattle.rule_ground.specs.Shapes.{HasSmallShapes, IsPlace};
+ghost use Rattle.rule_values.specs.Shapes.{boxes_at};
 ghost use Rattle.rule_ground.specs.Within.{within_conditions};
 
 use crate::shapes::{Placed, boxes, places};
@@ -91,7 +92,8 @@ pub fn count_apart(problem: &Problem) -> u64
 pub fn count_within(problem: &Problem) -> u64
     requires problem { IsWellFormed problem.now }
     requires shapes { HasSmallShapes problem.now }
-    ensures value { (ranges : List RangeData) → result ≡ length (within_conditions problem.now ranges) }
+    ensures value { (ranges : List RangeData)
+        → result ≡ length (within_conditions problem.now ranges) }
     ensures few { result ≤ 200 * (200 * 65536) }
 {
     let count = problem.objects().len() as u16;

@@ -1,7 +1,7 @@
 //! The elements of quantifiers, and which of them split.
 
 ghost use Rattle.std.specs.Option.{option_map_or};
-ghost use Rattle.std.specs.Prelude.{◌≡◌, None, Some, if◌then◌else◌, length};
+ghost use Rattle.std.specs.Prelude.{◌≡◌, ◌<◌, ◌^◌, None, Some, if◌then◌else◌, length};
 ghost use Rattle.linear_conditions.specs.Fixings.{place_of};
 ghost use Rattle.linear_conditions.specs.Views.{fixings_view};
 ghost use Rattle.problem_text.specs.Tuple.{object_of};
@@ -47,7 +47,9 @@ pub fn place_count(problem: &Problem, object: ObjId) -> u8
 
 // The object, where its shape is still open.
 fn open_object(problem: &Problem, fixings: &Fixings, o: usize) -> Option<ObjId>
-    ensures { result ≡ (if is_open problem.now (fixings_view fixings.now) o then Some (record { 0 = o }) else None) }
+    ensures { result
+        ≡ (if is_open problem.now (fixings_view fixings.now) o then Some
+        (record { 0 = o }) else None) }
 {
     problem.is_said();
     if shape_count(problem, o) > 1 && fixed_place(fixings, o) == 0 {
@@ -64,7 +66,8 @@ pub fn element_of<'a>(
     fixings: &Fixings,
     thing: Thing<'a>,
 ) -> Element<'a>
-    ensures { element_view result ≡ element_of problem.now asked (fixings_view fixings.now) (thing_view thing.entry) }
+    ensures { element_view result
+        ≡ element_of problem.now asked (fixings_view fixings.now) (thing_view thing.entry) }
 {
     match thing {
         Thing::Object(o) if asked => match open_object(problem, fixings, o) {
@@ -92,7 +95,10 @@ pub fn things_of<'a>(
     env: &'a Env<'a>,
     fixings: &Fixings,
 ) -> Elements<'a>
-    ensures { elements_view result ≡ things_of problem.now (plain_coll_view coll.now) (env_view env.now) (fixings_view fixings.now) }
+    ensures same { elements_view result
+        ≡ things_of problem.now (plain_coll_view coll.now) (env_view env.now)
+        (fixings_view fixings.now) }
+    ensures few { length (elements_view result) < 2 ^ 62 }
 {
     let place = owner_place(fixings, owner(coll, env));
     elements_of(problem, coll, env, place)

@@ -41,7 +41,8 @@ fn copied(alloc: Global, c: &Cond) -> Result<Cond, AllocError>
 
 #[cycle(copied)]
 fn copied_children(alloc: Global, children: &Conds) -> Result<Conds, AllocError>
-    ensures { IfOk result (λ list. map cond_view list.items.items ≡ map cond_view children.now.items.items) }
+    ensures { IfOk result (λ list. map cond_view list.items.items
+        ≡ map cond_view children.now.items.items) }
 {
     let mut list = Conds::new(alloc);
     for child in children.as_slice() {
@@ -60,7 +61,8 @@ fn is_count(n: &i64, count: usize) -> bool
 /// Appends the conditions that a condition gives: a node all of whose children must hold gives those of each of them in turn.
 #[cycle(flat)]
 pub fn push_conditions(alloc: Global, c: &Cond, out: &mut Vec<Cond>) -> Result<(), AllocError>
-    ensures { OnOk result (map cond_view out.new.items ≡ map cond_view out.old.items ++ conds_of (cond_view c.now)) }
+    ensures { OnOk result (map cond_view out.new.items ≡ map cond_view out.old.items
+        ++ conds_of (cond_view c.now)) }
 {
     match c {
         Cond::Lin(_form) => push_copy(alloc, c, out),
@@ -77,7 +79,8 @@ pub fn push_conditions(alloc: Global, c: &Cond, out: &mut Vec<Cond>) -> Result<(
 
 // Appends a condition once more.
 fn push_copy(alloc: Global, c: &Cond, out: &mut Vec<Cond>) -> Result<(), AllocError>
-    ensures { OnOk result (map cond_view out.new.items ≡ map cond_view out.old.items ++ cond_view c.now ∷ []) }
+    ensures { OnOk result (map cond_view out.new.items ≡ map cond_view out.old.items
+        ++ cond_view c.now ∷ []) }
 {
     out.push(copied(alloc, c)?)?;
     Ok(())
@@ -85,7 +88,8 @@ fn push_copy(alloc: Global, c: &Cond, out: &mut Vec<Cond>) -> Result<(), AllocEr
 
 #[cycle(flat)]
 fn push_each(alloc: Global, children: &Conds, out: &mut Vec<Cond>) -> Result<(), AllocError>
-    ensures { OnOk result (map cond_view out.new.items ≡ map cond_view out.old.items ++ flat_map conds_of (map cond_view children.now.items.items)) }
+    ensures { OnOk result (map cond_view out.new.items ≡ map cond_view out.old.items
+        ++ flat_map conds_of (map cond_view children.now.items.items)) }
 {
     for child in children.as_slice() {
         push_conditions(alloc, child, out)?;

@@ -44,7 +44,8 @@ pub struct Site<'a> {
 
 /// One condition more.
 pub fn add_cond(parts: &mut Vec<Cond>, part: Cond) -> Result<(), GroundFault>
-    ensures { MatchResult result (λ _. parts.new.items ≡ parts.old.items ++ part ∷ []) (λ e. e ≡ Memory) }
+    ensures { MatchResult result (λ _. parts.new.items ≡ parts.old.items ++ part ∷ []) (λ e. e
+        ≡ Memory) }
 {
     parts.push(part)?;
     Ok(())
@@ -52,7 +53,8 @@ pub fn add_cond(parts: &mut Vec<Cond>, part: Cond) -> Result<(), GroundFault>
 
 /// All or one of several conditions.
 pub fn join(alloc: Global, all: bool, parts: Vec<Cond>) -> Result<Cond, GroundFault>
-    ensures { MatchResult result (λ c. cond_view c ≡ joined all (map cond_view parts.items)) (λ e. e ≡ Memory) }
+    ensures { MatchResult result (λ c. cond_view c ≡ joined all (map cond_view parts.items)) (λ e. e
+        ≡ Memory) }
 {
     Ok(joined(alloc, all, parts)?)
 }
@@ -76,7 +78,9 @@ fn compared(sign: bool, rel: Rel) -> Rel
 
 // A visit, and a condition that is certain.
 fn ground_certain(alloc: Global, holds: bool, counter: &mut Counter) -> Result<Cond, GroundFault>
-    ensures { Gives (and_then Counts CondTree (visit counter.old) (λ k same. Done (certain holds) k)) counter.new result }
+    ensures { Gives
+        (and_then Counts CondTree (visit counter.old)
+        (λ k same. Done (certain holds) k)) counter.new result }
 {
     match counter.visit() {
         Ok(()) => Ok(certain(alloc, holds)),
@@ -86,7 +90,8 @@ fn ground_certain(alloc: Global, holds: bool, counter: &mut Counter) -> Result<C
 
 /// All or one of a single operand.
 pub fn joined_one(alloc: Global, all: bool, part: Cond) -> Result<Cond, GroundFault>
-    ensures { MatchResult result (λ c. cond_view c ≡ joined all (cond_view part ∷ [])) (λ e. e ≡ Memory) }
+    ensures { MatchResult result (λ c. cond_view c ≡ joined all (cond_view part ∷ [])) (λ e. e
+        ≡ Memory) }
 {
     let mut parts = Vec::new(alloc);
     parts.push(part)?;
@@ -95,7 +100,8 @@ pub fn joined_one(alloc: Global, all: bool, part: Cond) -> Result<Cond, GroundFa
 
 // All or one of two operands.
 fn joined_two(alloc: Global, all: bool, first: Cond, second: Cond) -> Result<Cond, GroundFault>
-    ensures { MatchResult result (λ c. cond_view c ≡ joined all (cond_view first ∷ (cond_view second ∷ []))) (λ e. e ≡ Memory) }
+    ensures { MatchResult result (λ c. cond_view c
+        ≡ joined all (cond_view first ∷ (cond_view second ∷ []))) (λ e. e ≡ Memory) }
 {
     let mut parts = Vec::new(alloc);
     parts.push(first)?;
@@ -114,7 +120,8 @@ pub fn ground(
     fixings: &Fixings,
     counter: &mut Counter,
 ) -> Result<Cond, GroundFault>
-    ensures { Gives (grounded problem.now (plain_formula_view f.now) sign (env_view env.now) (fixings_view fixings.now) counter.old) counter.new result }
+    ensures { Gives (grounded problem.now (plain_formula_view f.now) sign (env_view env.now)
+        (fixings_view fixings.now) counter.old) counter.new result }
 {
     match f {
         PlainFormula::True => ground_certain(alloc, sign, counter),
@@ -157,7 +164,8 @@ fn ground_all_of(
     fixings: &Fixings,
     counter: &mut Counter,
 ) -> Result<Cond, GroundFault>
-    ensures { Gives (grounded problem.now (plain.all_of (plain_formulas_view fs.now)) sign (env_view env.now) (fixings_view fixings.now) counter.old) counter.new result }
+    ensures { Gives (grounded problem.now (plain.all_of (plain_formulas_view fs.now)) sign
+        (env_view env.now) (fixings_view fixings.now) counter.old) counter.new result }
 {
     match ground_operands(alloc, problem, fs, sign, sign, &*env, &*fixings, counter) {
         Ok(parts) => join(alloc, sign, parts),
@@ -176,7 +184,8 @@ fn ground_any_of(
     fixings: &Fixings,
     counter: &mut Counter,
 ) -> Result<Cond, GroundFault>
-    ensures { Gives (grounded problem.now (plain.any_of (plain_formulas_view fs.now)) sign (env_view env.now) (fixings_view fixings.now) counter.old) counter.new result }
+    ensures { Gives (grounded problem.now (plain.any_of (plain_formulas_view fs.now)) sign
+        (env_view env.now) (fixings_view fixings.now) counter.old) counter.new result }
 {
     match ground_operands(alloc, problem, fs, !sign, sign, &*env, &*fixings, counter) {
         Ok(parts) => join(alloc, !sign, parts),
@@ -196,7 +205,8 @@ fn ground_operands(
     fixings: &Fixings,
     counter: &mut Counter,
 ) -> Result<Vec<Cond>, GroundFault>
-    ensures { GivesAll (ground_operands problem.now (plain_formulas_view fs.now) all sign (env_view env.now) (fixings_view fixings.now) counter.old) counter.new result }
+    ensures { GivesAll (ground_operands problem.now (plain_formulas_view fs.now) all sign
+        (env_view env.now) (fixings_view fixings.now) counter.old) counter.new result }
 {
     let mut parts = Vec::new(alloc);
     for f in fs {
@@ -231,8 +241,10 @@ fn ground_pair(
     counter: &mut Counter,
 ) -> Result<Cond, GroundFault>
     ensures { Gives (in_turn all
-        (λ j. grounded problem.now (plain_formula_view f.now) f_sign (env_view env.now) (fixings_view fixings.now) j)
-        (λ j. grounded problem.now (plain_formula_view g.now) g_sign (env_view env.now) (fixings_view fixings.now) j) counter.old) counter.new result }
+        (λ j. grounded problem.now (plain_formula_view f.now) f_sign (env_view env.now)
+        (fixings_view fixings.now) j)
+        (λ j. grounded problem.now (plain_formula_view g.now) g_sign (env_view env.now)
+        (fixings_view fixings.now) j) counter.old) counter.new result }
 {
     let first = match ground(alloc, problem, f, f_sign, &*env, &*fixings, counter) {
         Ok(first) => first,
@@ -259,7 +271,10 @@ fn ground_equivalence(
     fixings: &Fixings,
     counter: &mut Counter,
 ) -> Result<Cond, GroundFault>
-    ensures { Gives (grounded problem.now (plain.equivalence (plain_formula_view f.now) (plain_formula_view g.now)) sign (env_view env.now) (fixings_view fixings.now) counter.old) counter.new result }
+    ensures { Gives
+        (grounded problem.now
+        (plain.equivalence (plain_formula_view f.now) (plain_formula_view g.now)) sign
+        (env_view env.now) (fixings_view fixings.now) counter.old) counter.new result }
 {
     let first = match ground_pair(
         alloc, problem, true, f, true, g, sign, &*env, &*fixings, counter,
@@ -292,7 +307,10 @@ fn ground_quantified(
     fixings: &Fixings,
     counter: &mut Counter,
 ) -> Result<Cond, GroundFault>
-    ensures { Gives (grounded problem.now (plain.quantified kind v (plain_coll_view coll.now) (plain_formula_view f.now)) sign (env_view env.now) (fixings_view fixings.now) counter.old) counter.new result }
+    ensures { Gives
+        (grounded problem.now
+        (plain.quantified kind v (plain_coll_view coll.now) (plain_formula_view f.now)) sign
+        (env_view env.now) (fixings_view fixings.now) counter.old) counter.new result }
 {
     if let Err(e) = counter.visit() {
         return Err(e);
@@ -332,7 +350,10 @@ fn ground_elements(
     fixings: &Fixings,
     counter: &mut Counter,
 ) -> Result<Vec<Cond>, GroundFault>
-    ensures { GivesAll (ground_elements problem.now (body_at problem.now site.now) manner (fixings_view fixings.now) (map (element_of problem.now asked (fixings_view fixings.now)) (elements_view things.now)) counter.old) counter.new result }
+    ensures { GivesAll (ground_elements problem.now (body_at problem.now site.now) manner
+        (fixings_view fixings.now)
+        (map (element_of problem.now asked (fixings_view fixings.now))
+        (elements_view things.now)) counter.old) counter.new result }
 {
     let mut children = Vec::new(alloc);
     for i in 0..things.len() {
@@ -365,7 +386,10 @@ fn ground_element(
     counter: &mut Counter,
     children: &mut Vec<Cond>,
 ) -> Result<(), GroundFault>
-    ensures { Appends (ground_element problem.now (body_at problem.now site.now) manner (fixings_view fixings.now) (element_view element.entry) counter.old) children.old.items children.new.items counter.new result }
+    ensures { Appends
+        (ground_element problem.now (body_at problem.now site.now) manner (fixings_view fixings.now)
+        (element_view element.entry) counter.old) children.old.items children.new.items counter.new
+        result }
 {
     match element {
         Element::Whole(thing) => {
@@ -398,7 +422,10 @@ fn ground_whole(
     fixings: &Fixings,
     counter: &mut Counter,
 ) -> Result<Cond, GroundFault>
-    ensures { Gives (and_then Counts CondTree (visit counter.old) (λ k same. body_at problem.now site.now (thing_view thing.entry) (fixings_view fixings.now) k)) counter.new result }
+    ensures { Gives
+        (and_then Counts CondTree (visit counter.old)
+        (λ k same. body_at problem.now site.now (thing_view thing.entry)
+        (fixings_view fixings.now) k)) counter.new result }
 {
     if let Err(e) = counter.visit() {
         return Err(e);
@@ -425,7 +452,11 @@ fn ground_group(
     fixings: &Fixings,
     counter: &mut Counter,
 ) -> Result<Cond, GroundFault>
-    ensures { Gives (and_then (List CondTree) CondTree (ground_places problem.now (body_at problem.now site.now) ways.Counted (fixings_view fixings.now) object.0 counter.old) (λ cs k. Done (joined false cs) k)) counter.new result }
+    ensures { Gives
+        (and_then (List CondTree) CondTree
+        (ground_places problem.now (body_at problem.now site.now) ways.Counted
+        (fixings_view fixings.now) object.0 counter.old)
+        (λ cs k. Done (joined false cs) k)) counter.new result }
 {
     let mut children = Vec::new(alloc);
     match ground_places(
@@ -455,7 +486,10 @@ fn ground_places(
     counter: &mut Counter,
     children: &mut Vec<Cond>,
 ) -> Result<(), GroundFault>
-    ensures { Appends (ground_places problem.now (body_at problem.now site.now) manner (fixings_view fixings.now) object.0 counter.old) children.old.items children.new.items counter.new result }
+    ensures { Appends
+        (ground_places problem.now (body_at problem.now site.now) manner
+        (fixings_view fixings.now) object.0 counter.old) children.old.items children.new.items
+        counter.new result }
 {
     for before in 0..place_count(problem, object) {
         match ground_place(
@@ -491,7 +525,9 @@ fn ground_place(
     fixings: &Fixings,
     counter: &mut Counter,
 ) -> Result<Cond, GroundFault>
-    ensures { Gives (ground_place (body_at problem.now site.now) manner (fixings_view fixings.now) object.0 place counter.old) counter.new result }
+    ensures { Gives
+        (ground_place (body_at problem.now site.now) manner
+        (fixings_view fixings.now) object.0 place counter.old) counter.new result }
 {
     if let Err(e) = counter.visit_split() {
         return Err(e);

@@ -58,7 +58,9 @@ fn ground_apart(
 ) -> Result<(), GroundFault>
     requires problem { IsWellFormed problem.now }
     requires shapes { HasSmallShapes problem.now }
-    ensures { Appends (as_leaves (apart_conditions problem.now) counter.old) out.old.items out.new.items counter.new result }
+    ensures { Appends
+        (as_leaves
+        (apart_conditions problem.now) counter.old) out.old.items out.new.items counter.new result }
 {
     if let Err(e) = counter.add_leaves(count_apart(problem) as u32) {
         return Err(e);
@@ -81,7 +83,10 @@ fn ground_within(
     requires shapes { HasSmallShapes problem.now }
     requires ranges { All IsRange (map range_data ranges.now) }
     requires dims { length ranges.now ≡ problem.now.dims }
-    ensures { Appends (as_leaves (within_conditions problem.now (map range_data ranges.now)) counter.old) out.old.items out.new.items counter.new result }
+    ensures { Appends
+        (as_leaves
+        (within_conditions problem.now
+        (map range_data ranges.now)) counter.old) out.old.items out.new.items counter.new result }
 {
     if let Err(e) = counter.add_leaves(count_within(problem) as u32) {
         return Err(e);
@@ -100,7 +105,10 @@ fn ground_formula(
     counter: &mut Counter,
     out: &mut Vec<Cond>,
 ) -> Result<(), GroundFault>
-    ensures { Appends (ground_demand problem.now (plain (plain_formula_view f.now)) counter.old) out.old.items out.new.items counter.new result }
+    ensures { Appends
+        (ground_demand problem.now
+        (plain (plain_formula_view f.now)) counter.old) out.old.items out.new.items counter.new
+        result }
 {
     let names = match named_objects(alloc, problem, f) {
         Ok(names) => names,
@@ -133,7 +141,9 @@ fn ground_body(
     requires problem { IsWellFormed problem.now }
     requires shapes { HasSmallShapes problem.now }
     requires ranges { HasRanges problem.now (body_data body.now) }
-    ensures { Appends (ground_demand problem.now (body_data body.now) counter.old) out.old.items out.new.items counter.new result }
+    ensures { Appends
+        (ground_demand problem.now
+        (body_data body.now) counter.old) out.old.items out.new.items counter.new result }
 {
     match body {
         PlainBody::Apart => ground_apart(alloc, problem, counter, out),
@@ -150,8 +160,10 @@ fn ground_each(
 ) -> Result<Vec<Cond>, TextFault>
     requires problem { IsWellFormed problem.now }
     requires shapes { HasSmallShapes problem.now }
-    requires ranges { All (λ (r : PlainRuleData). HasRanges problem.now r.demand) (map plain_rule_data rules.now) }
-    ensures { AnswersRules (ground_rules problem.now (map plain_rule_data rules.now) no_counts) result }
+    requires ranges { All (λ (r : PlainRuleData). HasRanges problem.now r.demand)
+        (map plain_rule_data rules.now) }
+    ensures { AnswersRules
+        (ground_rules problem.now (map plain_rule_data rules.now) no_counts) result }
 {
     let mut counter = Counter::new();
     let mut out = Vec::new(alloc);
@@ -182,9 +194,11 @@ pub fn ground_rules(
         (λ v. (map cond_view v.items ≡ conditions problem.now) × (ground_fault problem.now ≡ None))
         (λ e. IsFaultOf (ground_fault problem.now) e) }
     ensures meaning { IfOk result (λ v. (t : Tuple) → IsTuple problem.now t
-        → AllHold v.items t ↔ All (λ (r : RuleData). DemandHolds problem.now t r.demand) problem.now.rules) }
+        → AllHold v.items t
+        ↔ All (λ (r : RuleData). DemandHolds problem.now t r.demand) problem.now.rules) }
     ensures fit { IfOk result (λ v. AllFit v.items (first_state problem.now)) }
-    ensures calm { IfOk result (λ v. (t : Tuple) → IsTuple problem.now t → AreCalm problem.now t (map plain_rule_data rules.now)) }
+    ensures calm { IfOk result (λ v. (t : Tuple) → IsTuple problem.now t
+        → AreCalm problem.now t (map plain_rule_data rules.now)) }
 {
     problem.is_said();
     ground_each(alloc, problem, rules)
@@ -195,13 +209,10 @@ pub fn ground_rules(
 pub fn ground(alloc: Global, problem: &Problem) -> Result<Vec<Cond>, TextFault>
     ensures answers { AnswersGrounded result problem.now }
     ensures meaning { IfOk result (λ v. (t : Tuple) → IsTuple problem.now t
-        → AllHold v.items t ↔ All (λ (r : RuleData). DemandHolds problem.now t r.demand) problem.now.rules) }
+        → AllHold v.items t
+        ↔ All (λ (r : RuleData). DemandHolds problem.now t r.demand) problem.now.rules) }
 {
-    if let Err(fault) = check_names(alloc, problem) {
-        return Err(fault);
-    }
-    match expand_all(alloc, problem) {
-        Ok(rules) => ground_rules(alloc, problem, rules.as_slice()),
-        Err(fault) => Err(fault),
-    }
+    check_names(alloc, problem)?;
+    let rules = expand_all(alloc, problem)?;
+    ground_rules(alloc, problem, rules.as_slice())
 }

@@ -2,6 +2,7 @@
 #![tactic(auto)]
 
 mod apart;
+pub mod beginning;
 mod counts;
 mod elements;
 mod flat;
@@ -10,10 +11,8 @@ pub mod ground;
 mod literals;
 mod named;
 mod needs;
-pub mod order;
 pub mod quantifiers;
 mod shapes;
-pub mod start;
-#[cfg(test)]
-mod tests;
 mod within;
+
+pub use beginning::{order, start};

@@ -58,7 +58,9 @@ pub fn ground_named(
     fixings: &Fixings,
     counter: &mut Counter,
 ) -> Result<Cond, GroundFault>
-    ensures { Gives (ground_named problem.now names.now (plain_formula_view f.now) (fixings_view fixings.now) counter.old) counter.new result }
+    ensures { Gives
+        (ground_named problem.now names.now (plain_formula_view f.now)
+        (fixings_view fixings.now) counter.old) counter.new result }
 {
     match names {
         [] => ground(alloc, problem, f, true, &Env::Empty, &*fixings, counter),
@@ -77,7 +79,8 @@ fn named_object(
     fixings: &Fixings,
     counter: &mut Counter,
 ) -> Result<Cond, GroundFault>
-    ensures { Gives (ground_named problem.now (o ∷ rest.now) (plain_formula_view f.now) (fixings_view fixings.now) counter.old) counter.new result }
+    ensures { Gives (ground_named problem.now (o ∷ rest.now) (plain_formula_view f.now)
+        (fixings_view fixings.now) counter.old) counter.new result }
 {
     if let Err(e) = counter.visit() {
         return Err(e);
@@ -101,7 +104,9 @@ fn named_whole(
     counter: &mut Counter,
 ) -> Result<Cond, GroundFault>
     ensures { Gives (and_then Counts CondTree (visit counter.old) (λ k same.
-        and_then CondTree CondTree (ground_named problem.now rest.now (plain_formula_view f.now) (fixings_view fixings.now) k) (λ c j. Done (joined true (c ∷ [])) j))) counter.new result }
+        and_then CondTree CondTree
+        (ground_named problem.now rest.now (plain_formula_view f.now) (fixings_view fixings.now) k)
+        (λ c j. Done (joined true (c ∷ [])) j))) counter.new result }
 {
     if let Err(e) = counter.visit() {
         return Err(e);
@@ -124,7 +129,9 @@ fn named_split(
     counter: &mut Counter,
 ) -> Result<Cond, GroundFault>
     ensures { Gives (and_then (List CondTree) CondTree
-        (ground_places problem.now (λ x more j. ground_named problem.now rest.now (plain_formula_view f.now) more j) ways.All (fixings_view fixings.now) object.0 counter.old)
+        (ground_places problem.now
+        (λ x more j. ground_named problem.now rest.now (plain_formula_view f.now) more j) ways.All
+        (fixings_view fixings.now) object.0 counter.old)
         (λ cs k. Done (joined true cs) k)) counter.new result }
 {
     let mut children = Vec::new(alloc);
@@ -162,7 +169,10 @@ fn named_place(
     fixings: &Fixings,
     counter: &mut Counter,
 ) -> Result<Cond, GroundFault>
-    ensures { Gives (ground_place (λ x more j. ground_named problem.now rest.now (plain_formula_view f.now) more j) ways.All (fixings_view fixings.now) object.0 place counter.old) counter.new result }
+    ensures { Gives
+        (ground_place
+        (λ x more j. ground_named problem.now rest.now (plain_formula_view f.now) more j) ways.All
+        (fixings_view fixings.now) object.0 place counter.old) counter.new result }
 {
     if let Err(e) = counter.visit_split() {
         return Err(e);

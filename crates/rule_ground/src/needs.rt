@@ -106,7 +106,8 @@ fn coll_needs(s: Subject, coll: &PlainColl) -> bool
 
 // Whether a comparison asks for the shape of the subject.
 fn compare_needs(s: Subject, a: &PlainExpr, b: &PlainExpr) -> bool
-    ensures { result ≡ (expr_needs s (plain_expr_view a.now) || expr_needs s (plain_expr_view b.now)) }
+    ensures { result
+        ≡ (expr_needs s (plain_expr_view a.now) || expr_needs s (plain_expr_view b.now)) }
 {
     expr_needs(s, a) || expr_needs(s, b)
 }

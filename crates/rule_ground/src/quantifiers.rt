@@ -1,6 +1,6 @@
 //! How the children of a quantifier come together.
 
-ghost use Rattle.std.specs.Prelude.{◌≡◌, ◌∷◌, ◌^◌, ◌-ℤ◌, ◌≤ℤ◌, [], IfOk, MatchResult, map, pos};
+ghost use Rattle.std.specs.Prelude.{◌≡◌, ◌<◌, ◌∷◌, ◌^◌, ◌-ℤ◌, ◌≤ℤ◌, [], MatchResult, map, pos};
 ghost use Rattle.linear_conditions.specs.CondTree.{cond_view};
 ghost use Rattle.linear_conditions.specs.Folding.{fold_count};
 ghost use Rattle.linear_conditions.specs.declared.fault.GroundFault.TheVariants.{Memory};
@@ -10,7 +10,7 @@ use geo_conditions::{Cond, ObjId};
 use linear_conditions::fault::GroundFault;
 use linear_conditions::fold::{fold_count, joined};
 use rule_syntax::tree::QuantKind;
-use std::alloc::{AllocError, Global};
+use std::alloc::Global;
 
 /// How the children of a quantifier come together.
 #[derive(Clone, Copy, Debug, PartialEq, Eq)]
@@ -48,13 +48,12 @@ pub fn body_sign(kind: QuantKind, sign: bool) -> bool
 }
 
 // How many elements there are behind the first n.
-fn behind(elements: usize, n: u32) -> Result<i64, AllocError>
-    ensures { IfOk result (λ z. (z ≡ pos elements -ℤ pos n) × (z ≤ℤ pos (2 ^ 62))) }
+fn behind(elements: usize, n: u32) -> i64
+    requires { elements < 2 ^ 62 }
+    ensures value { result ≡ pos elements -ℤ pos n }
+    ensures few { result ≤ℤ pos (2 ^ 62) }
 {
-    if elements >= 1 << 62 {
-        return Err(AllocError);
-    }
-    Ok(elements as i64 - i64::from(n))
+    elements as i64 - i64::from(n)
 }
 
 /// The condition of so many elements, from their children.
@@ -65,7 +64,9 @@ pub fn quantifier_node(
     elements: usize,
     children: Vec<Cond>,
 ) -> Result<Cond, GroundFault>
-    ensures { MatchResult result (λ c. cond_view c ≡ quantifier_node kind sign elements (map cond_view children.items)) (λ e. e ≡ Memory) }
+    requires { elements < 2 ^ 62 }
+    ensures { MatchResult result (λ c. cond_view c
+        ≡ quantifier_node kind sign elements (map cond_view children.items)) (λ e. e ≡ Memory) }
 {
     match kind {
         QuantKind::ForAll => Ok(joined(alloc, sign, children)?),
@@ -74,12 +75,12 @@ pub fn quantifier_node(
             if sign {
                 Ok(fold_count(alloc, i64::from(n), children)?)
             } else {
-                Ok(fold_count(alloc, behind(elements, n)? + 1, children)?)
+                Ok(fold_count(alloc, behind(elements, n) + 1, children)?)
             }
         }
         QuantKind::AtMost(n) => {
             if sign {
-                Ok(fold_count(alloc, behind(elements, n)?, children)?)
+                Ok(fold_count(alloc, behind(elements, n), children)?)
             } else {
                 Ok(fold_count(alloc, i64::from(n) + 1, children)?)
             }
@@ -89,7 +90,8 @@ pub fn quantifier_node(
 
 // At least so many of two.
 fn of_two(alloc: Global, n: i64, first: Cond, second: Cond) -> Result<Cond, GroundFault>
-    ensures { MatchResult result (λ c. cond_view c ≡ fold_count n (cond_view first ∷ (cond_view second ∷ []))) (λ e. e ≡ Memory) }
+    ensures { MatchResult result (λ c. cond_view c
+        ≡ fold_count n (cond_view first ∷ (cond_view second ∷ []))) (λ e. e ≡ Memory) }
 {
     let mut parts = Vec::new(alloc);
     parts.push(first)?;
@@ -105,7 +107,8 @@ pub fn shape_child(
     place: u8,
     body: Cond,
 ) -> Result<Cond, GroundFault>
-    ensures { MatchResult result (λ c. cond_view c ≡ shape_child manner object.0 place (cond_view body)) (λ e. e ≡ Memory) }
+    ensures { MatchResult result (λ c. cond_view c
+        ≡ shape_child manner object.0 place (cond_view body)) (λ e. e ≡ Memory) }
 {
     match manner {
         Manner::All => of_two(alloc, 1, Cond::NotShape(object, place), body),

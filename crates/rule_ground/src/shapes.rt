@@ -4,10 +4,12 @@ ghost use Rattle.std.specs.Prelude.{◌≡◌, ◌<◌, ◌++◌, All, OnOk, len
 ghost use Rattle.problem_text.specs.Tuple.{object_of};
 ghost use Rattle.problem_text.specs.WellFormed.{IsBox, IsWellFormed};
 ghost use Rattle.linear_conditions.specs.CondTree.{cond_view};
-ghost use Rattle.rule_ground.specs.Shapes.{IsPlace, boxes_at, has_several, other_shape};
+ghost use Rattle.rule_ground.specs.Shapes.{IsPlace, has_several, other_shape};
+ghost use Rattle.rule_values.specs.Shapes.{boxes_at};
 
 use geo_conditions::{Cond, Conds, ObjId};
 use problem_text::problem::{BoxDef, Problem};
+use rule_values::shapes::boxes_at;
 use std::alloc::AllocError;
 
 /// A shape of an object, by its place from 1 in the object's list.
@@ -19,14 +21,10 @@ pub struct Placed {
 
 // The boxes that the object has with that shape.
 pub fn boxes<'a>(problem: &'a Problem, at: Placed) -> &'a [BoxDef]
-    requires problem { IsWellFormed problem.now }
-    requires at { IsPlace problem.now at.object.0 at.place }
     ensures same { result.now ≡ boxes_at problem.now at.object.0 at.place }
     ensures boxes { All (IsBox problem.now.dims) result.now }
 {
-    let object = &problem.objects()[at.object.0 as usize];
-    let number = object.shapes()[at.place as usize - 1];
-    problem.shapes()[number as usize].boxes()
+    boxes_at(problem, at.object.0 as usize, at.place)
 }
 
 // Whether the object has several shapes to choose from.

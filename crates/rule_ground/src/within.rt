@@ -45,7 +45,8 @@ fn high_constant(range: RangeDef, b: &BoxDef, d: usize) -> i64
     requires b { (d < length b.now.offsets) × (d < length b.now.sizes) }
     requires small { IsSmallBox b.now }
     requires range { IsRange (range_data range) }
-    ensures value { result ≡ ((coordinate b.now.offsets d +ℤ coordinate b.now.sizes d) -ℤ pos 1) -ℤ range.high }
+    ensures value { result ≡ ((coordinate b.now.offsets d +ℤ coordinate b.now.sizes d) -ℤ pos 1)
+        -ℤ range.high }
     ensures bounded { IsBounded result }
 {
     let begins = b.offsets()[d];

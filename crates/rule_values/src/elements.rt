@@ -1,6 +1,6 @@
 //! What the variable of a quantifier ranges over.
 
-ghost use Rattle.std.specs.Prelude.{◌≡◌, length, map};
+ghost use Rattle.std.specs.Prelude.{◌≡◌, ◌<◌, ◌^◌, length, map};
 ghost use Rattle.std.specs.List.{range_with_len};
 ghost use Rattle.problem_text.specs.Tuple.{Tuple};
 ghost use Rattle.problem_text.specs.Value.{Object};
@@ -94,8 +94,13 @@ pub fn elements_of<'a>(
     env: &'a Env<'a>,
     place: u8,
 ) -> Elements<'a>
-    ensures same { elements_view result ≡ elements_at problem.now place (plain_coll_view coll.now) (env_view env.now) }
-    ensures tuple { (t : Tuple) → IsPlacedIn t place (owner_of (plain_coll_view coll.now) (env_view env.now)) → elements_view result ≡ plain_elements problem.now t (plain_coll_view coll.now) (env_view env.now) }
+    ensures same { elements_view result
+        ≡ elements_at problem.now place (plain_coll_view coll.now) (env_view env.now) }
+    ensures tuple { (t : Tuple)
+        → IsPlacedIn t place (owner_of (plain_coll_view coll.now) (env_view env.now))
+        → elements_view result
+        ≡ plain_elements problem.now t (plain_coll_view coll.now) (env_view env.now) }
+    ensures few { length (elements_view result) < 2 ^ 62 }
 {
     match coll {
         PlainColl::Objects => Elements::Objects(problem.objects().len()),

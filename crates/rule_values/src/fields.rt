@@ -61,7 +61,8 @@ fn attribute_of(problem: &Problem, o: usize, name: &Name) -> i64
 /// The field of an object, by its name.
 pub fn object_field(problem: &Problem, o: usize, name: &Name) -> ObjectField
     ensures kind { result ≡ field_at problem.now o name.now }
-    ensures value { (t : Tuple) → field_on problem.now t o result ≡ object_field problem.now t o name.now }
+    ensures value { (t : Tuple) → field_on problem.now t o result
+        ≡ object_field problem.now t o name.now }
 {
     if name.as_bytes() == b"id".as_slice() {
         return ObjectField::Constant(o as i128 + 1);

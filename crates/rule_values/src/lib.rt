@@ -6,5 +6,3 @@ pub mod env;
 pub mod fields;
 pub mod floor;
 pub mod shapes;
-#[cfg(test)]
-mod tests;

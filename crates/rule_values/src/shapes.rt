@@ -1,6 +1,7 @@
 //! Shapes of objects, by their places from 1 in the objects' own lists.
 
-ghost use Rattle.std.specs.Prelude.{◌≡◌};
+ghost use Rattle.std.specs.Prelude.{◌≡◌, All};
+ghost use Rattle.problem_text.specs.WellFormed.{IsBox};
 ghost use Rattle.rule_values.specs.Shapes.{boxes_at, shape_at, shape_number_at};
 
 use problem_text::problem::{BoxDef, Problem};
@@ -32,7 +33,7 @@ pub fn shape_number(problem: &Problem, o: usize, place: u8) -> i64
 }
 
 /// The boxes of the shape at a place of an object's list.
-pub fn boxes_at<'a>(problem: &'a Problem, o: usize, place: u8) -> &'a [BoxDef]
+fn shape_boxes<'a>(problem: &'a Problem, o: usize, place: u8) -> &'a [BoxDef]
     ensures { result.now ≡ boxes_at problem.now o place }
 {
     match shape_at(problem, o, place) {
@@ -42,4 +43,13 @@ pub fn boxes_at<'a>(problem: &'a Problem, o: usize, place: u8) -> &'a [BoxDef]
         },
         None => &[],
     }
+}
+
+/// The boxes that an object has with its shape at a place of its list; none where there is no such shape.
+pub fn boxes_at<'a>(problem: &'a Problem, o: usize, place: u8) -> &'a [BoxDef]
+    ensures same { result.now ≡ boxes_at problem.now o place }
+    ensures boxes { All (IsBox problem.now.dims) result.now }
+{
+    problem.is_said();
+    shape_boxes(problem, o, place)
 }

@@ -1,33 +1,17 @@
-use Rattle.std.proofs.Common.{ℕ, refl, arith, below_more}
-use Rattle.rule_expand.specs.Rules.{plain_rule_data}
-use Rattle.geo_meaning.specs.Judged.{RuleHolds, rule_at}
-use Rattle.geo_meaning.proofs.Rules.{as-expanded, as-written, rule-is, rules-all}
+use Rattle.std.proofs.Common.{List, map, sym, subst}
+use Rattle.rule_expand.specs.declared.plain.PlainRule.{PlainRule}
+use Rattle.rule_expand.specs.Rules.{AllAskSame, plain_rule_data}
+use Rattle.rule_values.specs.Calm.{AreCalm}
+use Rattle.geo_meaning.proofs.Rules.{calm-rules}
 use Rattle.geo_meaning.proofs.judging.judge.Goals as goal
 
-pub rule_holds-requires-clause-wide : goal.rule_holds-requires-clause-wide
-rule_holds-requires-clause-wide c =
-    (rule-is c.args.problem.now c.args.layout.now c.args.rules.now c.loop-i.i c.index-rules-i.result c.requires.problem c.requires.rules c.requires.calm c.loop-i-test.true c.index-rules-i.is).wide
+pub judge_rules-requires-clause-rules : goal.judge_rules-requires-clause-rules
+judge_rules-requires-clause-rules c =
+    subst (λ (rs : List PlainRule). AllAskSame c.args.problem.now c.args.layout.now c.args.problem.now.rules (map plain_rule_data rs)) (sym c.as_slice.ensures.value)
+    (c.in-Ok.ensures.meaning c.args.layout.now)
 
-pub rule_holds-requires-clause-calm : goal.rule_holds-requires-clause-calm
-rule_holds-requires-clause-calm c =
-    (rule-is c.args.problem.now c.args.layout.now c.args.rules.now c.loop-i.i c.index-rules-i.result c.requires.problem c.requires.rules c.requires.calm c.loop-i-test.true c.index-rules-i.is).calm
-
-pub returns-then-not-rule_holds : goal.returns-then-not-rule_holds
-returns-then-not-rule_holds c =
-    let at = rule-is c.args.problem.now c.args.layout.now c.args.rules.now c.loop-i.i c.index-rules-i.result c.requires.problem c.requires.rules c.requires.calm c.loop-i-test.true c.index-rules-i.is in
-    record {
-      position = c.loop-i.i;
-      number = refl;
-      inside = at.inside;
-      before = c.loop-i.invariant;
-      broken = λ h. c.if-not-rule_holds.ensures.no (as-expanded c.args.problem.now c.args.layout.now (rule_at c.args.problem.now c.loop-i.i).demand (plain_rule_data c.index-rules-i.result).demand at.same h);
-    }
-
-pub loop-i-preserved : goal.loop-i-preserved
-loop-i-preserved c =
-    let at = rule-is c.args.problem.now c.args.layout.now c.args.rules.now c.loop-i.i c.index-rules-i.result c.requires.problem c.requires.rules c.requires.calm c.loop-i-test.true c.index-rules-i.is in
-    let P : ℕ → Type 0 = λ k. RuleHolds c.args.problem.now c.args.layout.now k in
-    below_more P c.loop-i.i c.loop-i.invariant (as-written c.args.problem.now c.args.layout.now (rule_at c.args.problem.now c.loop-i.i).demand (plain_rule_data c.index-rules-i.result).demand at.same c.if-not-rule_holds.ensures.yes)
-
-pub returns : goal.returns
-returns c = rules-all c.args.problem.now c.args.layout.now c.args.rules.now c.loop-i.i c.requires.rules (omega arith) c.loop-i.invariant
+pub judge_rules-requires-clause-calm : goal.judge_rules-requires-clause-calm
+judge_rules-requires-clause-calm c =
+    subst (λ (rs : List PlainRule). AreCalm c.args.problem.now c.args.layout.now (map plain_rule_data rs)) (sym c.as_slice.ensures.value)
+    (subst (AreCalm c.args.problem.now c.args.layout.now) (sym c.in-Ok.ensures.expanded.0)
+    (calm-rules c.args.problem.now c.args.layout.now c.is_formed.ensures.formed c.requires.layout c.requires.expands c.requires.grounds))

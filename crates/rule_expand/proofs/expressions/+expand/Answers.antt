@@ -10,7 +10,7 @@ use Rattle.rule_expand.specs.ScopeView.{scope_view, prices}
 use Rattle.rule_expand.specs.Handed.{IsHandedIndex}
 use Rattle.rule_expand.proofs.Scopes.{prices-parameters}
 use Rattle.rule_expand.proofs.HandedOn.{argument-costs, call-handed}
-use Rattle.rule_expand.proofs.Steps.{sums-step, sums-lack, sums-end, sums-cost-at, products-step, products-lack, products-end, products-cost-at}
+use Rattle.rule_expand.proofs.Steps.{sums-step, sums-fault, sums-end, sums-cost-at, products-step, products-fault, products-end, products-cost-at}
 use Rattle.rule_expand.proofs.expressions.+expand.Goals as goal
 
 pub expand_call-expand_expr-requires-in-None-handed_index : goal.expand_call-expand_expr-requires-in-None-handed_index
@@ -50,7 +50,7 @@ expand_sum_steps-expand_sum_step-requires t c =
 
 pub expand_sum_steps-returns-in-Err : goal.expand_sum_steps-returns-in-Err
 expand_sum_steps-returns-in-Err t c =
-    sums-lack (expansions_of c.args.problem.now c.args.in_sight) c.args.problem.now (scope_view c.args.problem.now c.args.scope.now) c.args.steps.now c.loop-step.step-index c.args.room.now c.args.deep c.loop-step.room c.loop-step.made.items c.step-item.result c.in-Err.lack c.loop-step.invariant c.loop-step-test.true c.step-item.is c.in-Err.ensures
+    sums-fault (expansions_of c.args.problem.now c.args.in_sight) c.args.problem.now (scope_view c.args.problem.now c.args.scope.now) c.args.steps.now c.loop-step.step-index c.args.room.now c.args.deep c.loop-step.room c.loop-step.made.items c.step-item.result c.in-Err.fault c.loop-step.invariant c.loop-step-test.true c.step-item.is c.in-Err.ensures
 
 pub expand_sum_steps-returns : goal.expand_sum_steps-returns
 expand_sum_steps-returns t c =
@@ -67,7 +67,7 @@ expand_product_steps-expand_product_step-requires t c =
 
 pub expand_product_steps-returns-in-Err : goal.expand_product_steps-returns-in-Err
 expand_product_steps-returns-in-Err t c =
-    products-lack (expansions_of c.args.problem.now c.args.in_sight) c.args.problem.now (scope_view c.args.problem.now c.args.scope.now) c.args.steps.now c.loop-step.step-index c.args.room.now c.args.deep c.loop-step.room c.loop-step.made.items c.step-item.result c.in-Err.lack c.loop-step.invariant c.loop-step-test.true c.step-item.is c.in-Err.ensures
+    products-fault (expansions_of c.args.problem.now c.args.in_sight) c.args.problem.now (scope_view c.args.problem.now c.args.scope.now) c.args.steps.now c.loop-step.step-index c.args.room.now c.args.deep c.loop-step.room c.loop-step.made.items c.step-item.result c.in-Err.fault c.loop-step.invariant c.loop-step-test.true c.step-item.is c.in-Err.ensures
 
 pub expand_product_steps-returns : goal.expand_product_steps-returns
 expand_product_steps-returns t c =

@@ -6,7 +6,7 @@ use Rattle.rule_expand.specs.Costs.{formula_costs_of}
 use Rattle.rule_expand.specs.Limits.{GivesFormula}
 use Rattle.rule_expand.specs.Plain.{PlainFormulaTree}
 use Rattle.rule_expand.specs.ScopeView.{scope_view}
-use Rattle.rule_expand.proofs.Operands.{operands-lack, operands-step, operands-end, operand-cost, binders-nodes, view-compare}
+use Rattle.rule_expand.proofs.Operands.{operands-fault, operands-step, operands-end, operand-cost, binders-nodes, view-compare}
 use Rattle.rule_expand.proofs.formulas.+formula.Goals as goal
 
 pub expand_each-expand_formula-requires : goal.expand_each-expand_formula-requires
@@ -16,7 +16,7 @@ expand_each-expand_formula-requires t c =
 
 pub expand_each-returns-in-Err : goal.expand_each-returns-in-Err
 expand_each-returns-in-Err t c =
-    operands-lack (expansions_of c.args.problem.now c.args.in_sight) c.args.problem.now c.args.fs.now c.loop-f.f-index c.f-item.result (scope_view c.args.problem.now c.args.scope.now) c.args.next.now c.args.room.now c.args.deep c.loop-f.next c.loop-f.room c.loop-f.parts.items c.in-Err.lack c.loop-f-test.true c.f-item.is c.loop-f.invariant c.in-Err.ensures
+    operands-fault (expansions_of c.args.problem.now c.args.in_sight) c.args.problem.now c.args.fs.now c.loop-f.f-index c.f-item.result (scope_view c.args.problem.now c.args.scope.now) c.args.next.now c.args.room.now c.args.deep c.loop-f.next c.loop-f.room c.loop-f.parts.items c.in-Err.fault c.loop-f-test.true c.f-item.is c.loop-f.invariant c.in-Err.ensures
 
 pub expand_each-returns : goal.expand_each-returns
 expand_each-returns t c =

@@ -1,6 +1,6 @@
 use Rattle.std.proofs.Common.{◌+◌, ℕ, length, ap, refl, arith}
 use Rattle.std.specs.List.{range_with_len}
-use Rattle.rule_ground.specs.Shapes.{boxes_at}
+use Rattle.rule_values.specs.Shapes.{boxes_at}
 use Rattle.rule_ground.proofs.Lists.{number-more}
 use Rattle.rule_ground.proofs.Numbers.{total-more}
 use Rattle.rule_ground.proofs.counts.box_count.Goals as goal

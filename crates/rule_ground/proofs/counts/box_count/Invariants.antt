@@ -1,7 +1,7 @@
 use Rattle.std.proofs.Common.{◌≡◌, ◌*◌, ◌≤◌, length}
 use Rattle.std.specs.List.{range_with_len}
 use Rattle.rule_ground.specs.BoxCounts.{total}
-use Rattle.rule_ground.specs.Shapes.{boxes_at}
+use Rattle.rule_values.specs.Shapes.{boxes_at}
 use Rattle.rule_ground.proofs.counts.box_count.Given as goal
 
 abbrev pub invariant-loop-before : goal.invariant-loop-before

@@ -19,6 +19,7 @@ use Rattle.rule_ground.proofs.Chains.{env-more, fixings-more, view-implies}
 use Rattle.linear_conditions.specs.declared.fixings.Fixings.TheVariants as chain
 use Rattle.rule_values.specs.declared.env.Env.TheVariants as envs
 use Rattle.rule_values.specs.declared.env.Thing.TheVariants as things
+use Rattle.linear_conditions.proofs.CounterSteps.{past-fault}
 use Rattle.rule_ground.proofs.formulas.+ground.Goals as goal
 
 pub ground-returns-in-Implies : goal.ground-returns-in-Implies
@@ -224,7 +225,7 @@ ground_pair-returns-in-Err-ground t c =
     turn-late c.args.all first second c.args.counter.now c.ground.new.counter (cond_view c.in-Ok.first) c.in-Err-ground.e c.in-Ok.ensures (sym c.decides.ensures ∙ c.if-decides.false) c.in-Err-ground.ensures
 
 pub ground_place-returns-in-Err : goal.ground_place-returns-in-Err
-ground_place-returns-in-Err t c = then-fault Counts CondTree (within_limits (one_leaf (one_visit c.args.counter.now))) _ c.in-Err.e c.in-Err.ensures
+ground_place-returns-in-Err t c = then-fault Counts CondTree (within_limits (one_leaf (one_visit c.args.counter.now))) _ c.in-Err.e (past-fault (within_limits (one_leaf (one_visit c.args.counter.now))) c.in-Err.e c.in-Err.ensures)
 
 pub ground_place-returns-in-Ok : goal.ground_place-returns-in-Ok
 ground_place-returns-in-Ok t c =
@@ -277,20 +278,20 @@ ground_places-returns t c =
     (places-over c.args.problem.now c.args.object.0 c.loop-before.before c.place_count-before-end.result c.place_count-before-end.ensures (omega (arith, c.loop-before-test.false)))
 
 pub ground_quantified-returns-in-Err : goal.ground_quantified-returns-in-Err
-ground_quantified-returns-in-Err t c = then-fault Counts CondTree (visit c.args.counter.now) _ c.in-Err.e c.in-Err.ensures
+ground_quantified-returns-in-Err t c = then-fault Counts CondTree (visit c.args.counter.now) _ c.in-Err.e (past-fault (visit c.args.counter.now) c.in-Err.e c.in-Err.ensures)
 
 pub ground_quantified-returns-in-Ok : goal.ground_quantified-returns-in-Ok
 ground_quantified-returns-in-Ok t c =
     quantified-made c.args.problem.now c.args.kind c.args.v (plain_coll_view c.args.coll.now) (plain_formula_view c.args.f.now) c.args.sign (env_view c.args.env.now) (fixings_view c.args.fixings.now) c.args.counter.now c.visit.new.self
-    c.body_sign.result c.needs-asked.result c.manner_of.result (elements_view c.things_of-things.result) c.in_default.ensures c.body_sign.ensures c.manner_of.ensures c.needs-asked.ensures c.things_of-things.ensures c.ground_elements.new.counter c.len.result (map cond_view c.in-Ok.children.items) c.quantifier_node.result c.len.ensures c.in-Ok.ensures c.quantifier_node.ensures
+    c.body_sign.result c.needs-asked.result c.manner_of.result (elements_view c.things_of-things.result) c.in_default.ensures c.body_sign.ensures c.manner_of.ensures c.needs-asked.ensures c.things_of-things.ensures.same c.ground_elements.new.counter c.len.result (map cond_view c.in-Ok.children.items) c.quantifier_node.result c.len.ensures c.in-Ok.ensures c.quantifier_node.ensures
 
 pub ground_quantified-returns-in-Err-ground_elements : goal.ground_quantified-returns-in-Err-ground_elements
 ground_quantified-returns-in-Err-ground_elements t c =
     quantified-fault c.args.problem.now c.args.kind c.args.v (plain_coll_view c.args.coll.now) (plain_formula_view c.args.f.now) c.args.sign (env_view c.args.env.now) (fixings_view c.args.fixings.now) c.args.counter.now c.visit.new.self
-    c.body_sign.result c.needs-asked.result c.manner_of.result (elements_view c.things_of-things.result) c.in_default.ensures c.body_sign.ensures c.manner_of.ensures c.needs-asked.ensures c.things_of-things.ensures c.in-Err-ground_elements.e c.in-Err-ground_elements.ensures
+    c.body_sign.result c.needs-asked.result c.manner_of.result (elements_view c.things_of-things.result) c.in_default.ensures c.body_sign.ensures c.manner_of.ensures c.needs-asked.ensures c.things_of-things.ensures.same c.in-Err-ground_elements.e c.in-Err-ground_elements.ensures
 
 pub ground_whole-returns-in-Err : goal.ground_whole-returns-in-Err
-ground_whole-returns-in-Err t c = then-fault Counts CondTree (visit c.args.counter.now) _ c.in-Err.e c.in-Err.ensures
+ground_whole-returns-in-Err t c = then-fault Counts CondTree (visit c.args.counter.now) _ c.in-Err.e (past-fault (visit c.args.counter.now) c.in-Err.e c.in-Err.ensures)
 
 pub ground_whole-returns : goal.ground_whole-returns
 ground_whole-returns t c =

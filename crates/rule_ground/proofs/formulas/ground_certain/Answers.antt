@@ -3,6 +3,7 @@ use Rattle.linear_conditions.specs.CondTree.{CondTree}
 use Rattle.linear_conditions.specs.Counts.{Counts, Done, visit}
 use Rattle.linear_conditions.specs.Folding.{certain}
 use Rattle.rule_ground.proofs.Behind.{then-done, then-fault}
+use Rattle.linear_conditions.proofs.CounterSteps.{past-fault}
 use Rattle.rule_ground.proofs.formulas.ground_certain.Goals as goal
 
 pub returns-in-Ok : goal.returns-in-Ok
@@ -11,4 +12,4 @@ returns-in-Ok c =
     ∙ ap (λ x. Done x c.visit.new.self) (sym c.certain.ensures)
 
 pub returns-in-Err : goal.returns-in-Err
-returns-in-Err c = then-fault Counts CondTree (visit c.args.counter.now) _ c.in-Err.e c.in-Err.ensures
+returns-in-Err c = then-fault Counts CondTree (visit c.args.counter.now) _ c.in-Err.e (past-fault (visit c.args.counter.now) c.in-Err.e c.in-Err.ensures)

@@ -1,11 +1,15 @@
-use Rattle.std.proofs.Common.{map}
+use Rattle.std.proofs.Common.{◌+◌, map}
 use Rattle.linear_conditions.specs.CondTree.{cond_view}
+use Rattle.linear_conditions.specs.Counts.{within_limits}
+use Rattle.linear_conditions.proofs.CounterSteps.{past-fault}
 use Rattle.rule_ground.specs.Apart.{apart_conditions}
 use Rattle.rule_ground.proofs.RuleSteps.{leaves-given, leaves-fault}
 use Rattle.rule_ground.proofs.ground.ground_apart.Goals as goal
 
 pub returns-in-Err : goal.returns-in-Err
-returns-in-Err c = leaves-fault (apart_conditions c.args.problem.now) c.args.counter.now c.count_apart.result c.in-Err.e c.count_apart.ensures.value c.in-Err.ensures
+returns-in-Err c =
+    leaves-fault (apart_conditions c.args.problem.now) c.args.counter.now c.count_apart.result c.in-Err.e c.count_apart.ensures.value
+    (past-fault (within_limits (record c.args.counter.now { leaves = c.args.counter.now.leaves + c.count_apart.result })) c.in-Err.e c.in-Err.ensures)
 
 pub returns-in-Ok : goal.returns-in-Ok
 returns-in-Ok c =

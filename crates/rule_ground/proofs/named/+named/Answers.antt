@@ -15,10 +15,11 @@ use Rattle.rule_ground.specs.Shapes.{places}
 use Rattle.rule_ground.proofs.Behind.{then-fault, alone-fault, appended, walk-init, gather-walk, gather-failed, gather-over}
 use Rattle.rule_ground.proofs.Arms.{gives-made, step-gives, step-fault, place-at, places-over, joined-alone, joined-same}
 use Rattle.rule_ground.proofs.Chains.{fixings-more}
+use Rattle.linear_conditions.proofs.CounterSteps.{past-fault}
 use Rattle.rule_ground.proofs.named.+named.Goals as goal
 
 pub named_object-returns-in-Err : goal.named_object-returns-in-Err
-named_object-returns-in-Err t c = then-fault Counts CondTree (visit c.args.counter.now) _ c.in-Err.e c.in-Err.ensures
+named_object-returns-in-Err t c = then-fault Counts CondTree (visit c.args.counter.now) _ c.in-Err.e (past-fault (visit c.args.counter.now) c.in-Err.e c.in-Err.ensures)
 
 pub named_object-returns-in-Whole : goal.named_object-returns-in-Whole
 named_object-returns-in-Whole t c =
@@ -45,7 +46,7 @@ named_object-returns-in-Split t c =
     (subst (λ o. Gives o c.named_split.new.counter c.named_split.result) (sym (joined-same (ground_places c.args.problem.now body ways.All fix c.in-Split.object.0 k) (joined true)) ∙ e) c.named_split.ensures)
 
 pub named_place-returns-in-Err : goal.named_place-returns-in-Err
-named_place-returns-in-Err t c = then-fault Counts CondTree (within_limits (one_leaf (one_visit c.args.counter.now))) _ c.in-Err.e c.in-Err.ensures
+named_place-returns-in-Err t c = then-fault Counts CondTree (within_limits (one_leaf (one_visit c.args.counter.now))) _ c.in-Err.e (past-fault (within_limits (one_leaf (one_visit c.args.counter.now))) c.in-Err.e c.in-Err.ensures)
 
 pub named_place-returns-in-Ok : goal.named_place-returns-in-Ok
 named_place-returns-in-Ok t c =
@@ -101,7 +102,7 @@ named_split-returns t c =
     c.join.ensures
 
 pub named_whole-returns-in-Err : goal.named_whole-returns-in-Err
-named_whole-returns-in-Err t c = then-fault Counts CondTree (visit c.args.counter.now) _ c.in-Err.e c.in-Err.ensures
+named_whole-returns-in-Err t c = then-fault Counts CondTree (visit c.args.counter.now) _ c.in-Err.e (past-fault (visit c.args.counter.now) c.in-Err.e c.in-Err.ensures)
 
 pub named_whole-returns-in-Ok : goal.named_whole-returns-in-Ok
 named_whole-returns-in-Ok t c =

@@ -1,0 +1,23 @@
+-- What holds of every problem, since some text says it.
+use Rattle.std.proofs.Common.{◌≤◌, List, length, map, inl, sym, subst, arith}
+use Rattle.std.proofs.lemmas.List.{length-map}
+use Rattle.problem_text.specs.Problem.{ProblemData}
+use Rattle.problem_text.specs.Parts.{parts_of}
+use Rattle.problem_text.specs.Faults.{rule_name, rules}
+use Rattle.problem_text.specs.Meaning.{rule_of}
+use Rattle.problem_text.specs.Limits.{most_rules}
+use Rattle.problem_text.specs.FirstFault.{IsSaid}
+use Rattle.problem_text.specs.WellFormed.{IsWellFormed}
+use Rattle.problem_text.proofs.Distinct.{few}
+use Rattle.problem_text.proofs.OneProblem.{accepted_well_formed}
+
+pub said-formed : (p : ProblemData) → IsSaid p → IsWellFormed p
+said-formed p s = accepted_well_formed s.text p s.accepts
+
+pub few-rules : (p : ProblemData) → IsSaid p → length p.rules ≤ most_rules
+few-rules p s =
+    let trees = (parts_of s.accepts.tree).rules in
+    let n : length (map rule_name trees) ≤ most_rules = few most_rules (map rule_name trees) (λ f w. s.accepts.right f (rules (inl (inl w)))) in
+    let named = length-map trees rule_name in
+    let meant = length-map trees rule_of in
+    subst (λ (q : ProblemData). length q.rules ≤ most_rules) (sym s.accepts.means) (omega (arith, n, named, meant))
