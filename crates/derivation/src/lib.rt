@@ -5,8 +5,6 @@ mod event;
 mod log;
 mod recorder;
 mod side;
-#[cfg(test)]
-mod tests;
 
 pub use event::Event;
 pub use log::Log;

@@ -6,7 +6,5 @@ mod mending;
 mod plain;
 mod points;
 mod recording;
-#[cfg(test)]
-mod tests;
 
 pub use plain::PlainPropagate;

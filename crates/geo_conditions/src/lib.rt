@@ -12,8 +12,6 @@ mod order;
 mod refute;
 mod shapes;
 mod state;
-#[cfg(test)]
-mod tests;
 
 pub use cond::{Cond, Conds};
 pub use fitting::{all_fit, fits};

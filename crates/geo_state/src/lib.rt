@@ -3,8 +3,6 @@
 
 mod propagate;
 mod small;
-#[cfg(test)]
-mod tests;
 mod trailed;
 
 pub use propagate::{Propagate, Settled};

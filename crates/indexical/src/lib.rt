@@ -9,8 +9,6 @@ mod form;
 mod indexical;
 mod overlap;
 mod placed;
-#[cfg(test)]
-mod tests;
 mod tree;
 mod two_boxes;
 

@@ -11,8 +11,6 @@ mod outer_points;
 mod places;
 mod prune;
 mod region_sweep;
-#[cfg(test)]
-mod tests;
 
 pub use kept::{Placed, retry, slots};
 pub use prune::{Pruned, prune_kept, prune_object};

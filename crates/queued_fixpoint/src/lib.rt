@@ -6,7 +6,5 @@ mod kept;
 mod links;
 mod propagation;
 mod queue;
-#[cfg(test)]
-mod tests;
 
 pub use propagation::Fixpoint;

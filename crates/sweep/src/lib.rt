@@ -2,13 +2,9 @@
 #![tactic(auto)]
 
 mod ask;
-#[cfg(test)]
-mod box_tests;
 mod first_point;
 mod marks;
 mod record;
-#[cfg(test)]
-mod tests;
 mod turn;
 
 pub use first_point::sweep;

@@ -5,8 +5,6 @@ mod narrow;
 mod search;
 mod start;
 mod step;
-#[cfg(test)]
-mod tests;
 mod variable;
 mod walk;
 mod walker;

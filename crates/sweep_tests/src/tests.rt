@@ -1,0 +1,7 @@
+mod boxes;
+mod forbidden;
+mod literals;
+mod pruning;
+mod refuting;
+mod sweeping;
+mod trail;
