@@ -5,8 +5,6 @@
 mod kbox;
 mod point;
 mod steps;
-#[cfg(test)]
-mod tests;
 mod way;
 
 pub use kbox::KBox;

@@ -47,8 +47,6 @@ pub enum FaultWord {
     Token,
     /// A text that is too long.
     Long,
-    /// A rule whose meaning is not built yet.
-    Later,
 }
 
 /// Why a text is refused: what is wrong, with how many bytes of the input stand before it; or want of memory.
@@ -100,6 +98,5 @@ pub fn fault_text(word: FaultWord) -> &'static [u8]
         FaultWord::Ground => b"ground",
         FaultWord::Token => b"token",
         FaultWord::Long => b"long",
-        FaultWord::Later => b"later",
     }
 }

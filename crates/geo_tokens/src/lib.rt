@@ -9,6 +9,4 @@ mod lookup;
 pub mod name;
 pub mod names;
 pub mod stop;
-#[cfg(test)]
-mod tests;
 pub mod token;

@@ -10,8 +10,8 @@ use Rattle.geo_tokens.specs.declared.fault.FaultWord.TheVariants as words
 use Rattle.geo_tokens.specs.Words.{Kinds, names, numbers, word, symbol, Lang, Pure, Tok, Bind, cut, both, Either, left, right, Opt, there, not_there, UpTo, Many, start_of}
 use Rattle.geo_tokens.specs.Cut.{Cut, here, behind_gap, behind_token, IsTokenFault, IsBad}
 use Rattle.rule_syntax.specs.Grammar.{Named}
-use Rattle.rule_syntax.specs.Outcome.{place_of}
-use Rattle.rule_syntax.proofs.Respelled.{AllOf}
+use Rattle.rule_reading.specs.Outcome.{place_of}
+use Rattle.rule_print.proofs.Respelled.{AllOf}
 use Rattle.problem_text.specs.declared.tree.Int.{Int}
 use Rattle.problem_text.specs.declared.faults.fault.Fault.{Fault}
 use Rattle.problem_text.specs.Problem.{ObjectData, ProblemData}

@@ -7,9 +7,9 @@ use Rattle.std.proofs.lemmas.List.{append-nil}
 use Rattle.geo_tokens.specs.declared.token.Keyword.TheVariants as keywords
 use Rattle.geo_tokens.specs.declared.token.Sym.TheVariants as syms
 use Rattle.geo_tokens.specs.Names.{IsNameText}
-use Rattle.rule_syntax.specs.Canonical.{Written, name, number, word, symbol, sign}
-use Rattle.rule_syntax.proofs.Lexemes.{EndsAll, space_ends, line_ends}
-use Rattle.rule_syntax.proofs.Respelled.{AllOf, joined}
+use Rattle.rule_print.specs.Canonical.{Written, name, number, word, symbol, sign}
+use Rattle.rule_print.proofs.Lexemes.{EndsAll, space_ends, line_ends}
+use Rattle.rule_print.proofs.Respelled.{AllOf, joined}
 use Rattle.problem_text.specs.Problem.{ProblemData}
 use Rattle.problem_text.specs.Tuple.{Spot, Tuple, spot, object_of}
 use Rattle.problem_text.specs.Canonical.{int_spelling}

@@ -22,8 +22,8 @@ use Rattle.geo_tokens.specs.Names.{IsNameText, IsNameTable}
 use Rattle.geo_tokens.specs.Reading.{Got}
 use Rattle.geo_tokens.proofs.Good.{reads_all}
 use Rattle.geo_tokens.proofs.Cuts.{one_list}
-use Rattle.rule_syntax.proofs.Lexemes.{nothing_ends}
-use Rattle.rule_syntax.proofs.Respelled.{AllOf, Each}
+use Rattle.rule_print.proofs.Lexemes.{nothing_ends}
+use Rattle.rule_print.proofs.Respelled.{AllOf, Each}
 use Rattle.problem_text.specs.declared.faults.fault.Fault.{Fault}
 use Rattle.problem_text.specs.declared.tree.Int.{Int}
 use Rattle.problem_text.specs.Problem.{RangeData, ObjectData, ProblemData}

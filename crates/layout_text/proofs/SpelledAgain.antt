@@ -7,10 +7,10 @@ use Rattle.geo_tokens.specs.declared.token.Keyword.TheVariants as keywords
 use Rattle.geo_tokens.specs.declared.token.Sym.TheVariants as syms
 use Rattle.geo_tokens.specs.Class.{number_in}
 use Rattle.geo_tokens.specs.Words.{numbers, word, symbol, Tok, Bind, Many}
-use Rattle.rule_syntax.specs.Canonical.{Written}
-use Rattle.rule_syntax.specs.Canonical.{number as digits, word as a_word, symbol as a_symbol}
-use Rattle.rule_syntax.proofs.ShownTokens.{AllWritten}
-use Rattle.rule_syntax.proofs.Respelled.{Again, Respelled, tok_again, named_again, bind_again, last_again, left_again, right_again, there_again, same_again, AllOf, Each, joined, many_again, many_good}
+use Rattle.rule_print.specs.Canonical.{Written}
+use Rattle.rule_print.specs.Canonical.{number as digits, word as a_word, symbol as a_symbol}
+use Rattle.rule_print.proofs.ShownTokens.{AllWritten}
+use Rattle.rule_print.proofs.Respelled.{Again, Respelled, tok_again, named_again, bind_again, last_again, left_again, right_again, there_again, same_again, AllOf, Each, joined, many_again, many_good}
 use Rattle.problem_text.specs.declared.tree.Int.{Int}
 use Rattle.problem_text.specs.Problem.{ProblemData}
 use Rattle.problem_text.specs.Tuple.{Spot, Tuple, spot, object_of}

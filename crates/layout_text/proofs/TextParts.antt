@@ -9,9 +9,9 @@ use Rattle.geo_tokens.specs.declared.token.Sym.TheVariants as syms
 use Rattle.geo_tokens.specs.Bytes.{is_white}
 use Rattle.geo_tokens.specs.Cut.{Cut, here, behind_gap, behind_token, white, IsTokens}
 use Rattle.geo_tokens.proofs.Cuts.{token_of}
-use Rattle.rule_syntax.specs.Canonical.{Written, name, number, word, symbol, sign, kind_of, spelling}
-use Rattle.rule_syntax.proofs.Lexemes.{IsWritten, ends_at, token_at, EndsAll, space_ends, line_ends}
-use Rattle.rule_syntax.proofs.ShownTokens.{Stands}
+use Rattle.rule_print.specs.Canonical.{Written, name, number, word, symbol, sign, kind_of, spelling}
+use Rattle.rule_print.proofs.Lexemes.{IsWritten, ends_at, token_at, EndsAll, space_ends, line_ends}
+use Rattle.rule_print.proofs.ShownTokens.{Stands}
 
 -- a byte of white space, or a token
 pub data Part : Type 0 where

@@ -14,13 +14,10 @@ use Rattle.problem_text.specs.Problem.{ProblemData}
 use Rattle.problem_text.specs.Tuple.{Tuple}
 use Rattle.problem_text.specs.WholeText.{IsWhole, FirstFault}
 use Rattle.problem_text.specs.Least.{fault, IsFirst}
+pub use Rattle.problem_text.specs.FirstFault.{most_bytes}
 use Rattle.layout_text.specs.Tree.{LayoutTree}
 use Rattle.layout_text.specs.Grammar.{LayoutWords}
 use Rattle.layout_text.specs.Faults.{tuple_of, IsFault}
-
--- how many bytes a text may have
-abbrev pub most_bytes : ℕ
-most_bytes = 1048576
 
 -- the text is short enough, it is cut into these tokens, and they spell these lines
 pub record Says (text : List ℕ) (tree : LayoutTree) : Type 0 where

@@ -1,7 +1,6 @@
 //! The tuple that lines give.
 
 ghost use Rattle.std.specs.Prelude.{◌≡◌, ◌≤◌, ◌++◌, ◌∷◌, [], length, map, IfOk, OnOk};
-ghost use Rattle.problem_text.specs.Meaning.{number_of};
 ghost use Rattle.problem_text.specs.WellFormed.{IsWellFormed, IsObject};
 ghost use Rattle.layout_text.specs.View.{line_view};
 ghost use Rattle.layout_text.specs.Faults.{spot_of, tuple_of};
@@ -9,20 +8,9 @@ ghost use Rattle.layout_text.specs.Faults.{spot_of, tuple_of};
 use crate::names::shape_position;
 use crate::tree::LineText;
 use geo_conditions::Layout;
+use problem_text::numbers::values;
 use problem_text::problem::{ObjectDef, Problem};
-use problem_text::tree::Int;
 use std::alloc::{AllocError, Global};
-
-// The values of whole numbers.
-fn values(alloc: Global, numbers: &[Int]) -> Result<Vec<i64>, AllocError>
-    ensures { IfOk result (λ v. v.items ≡ map number_of numbers.now) }
-{
-    let mut found = Vec::new(alloc);
-    for number in numbers {
-        found.push(number.value)?;
-    }
-    Ok(found)
-}
 
 // Puts the object where the line says.
 fn put(

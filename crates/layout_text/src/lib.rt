@@ -13,8 +13,6 @@ mod lines;
 mod names;
 mod read;
 mod syntax;
-#[cfg(test)]
-mod tests;
 mod tree;
 
 pub use block::{print_layout, print_token};

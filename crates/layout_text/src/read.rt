@@ -14,10 +14,8 @@ use geo_conditions::Layout;
 use geo_tokens::fault::{FaultWord, TextFault};
 use geo_tokens::lexer::tokens;
 use problem_text::problem::Problem;
+use problem_text::read::MOST_BYTES;
 use std::alloc::Global;
-
-/// How many bytes a text may have.
-const MOST_BYTES: usize = 1_048_576;
 
 // The tuple that a text spells, or its first fault, with its place in the text.
 fn read_alone(alloc: Global, problem: &Problem, text: &[u8]) -> Result<Layout, TextFault>

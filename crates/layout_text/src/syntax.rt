@@ -13,7 +13,7 @@ use crate::tree::LayoutText;
 use geo_tokens::fault::TextFault;
 use geo_tokens::stop::{Stop, token};
 use geo_tokens::token::{Keyword, Kind, Token};
-use rule_syntax::read::fault_of;
+use rule_reading::read::fault_of;
 use std::alloc::Global;
 
 /// What a layout text says, and the tokens behind it.

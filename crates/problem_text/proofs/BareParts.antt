@@ -1,7 +1,7 @@
 -- Statements without places: taking places away changes neither which statements there are nor what they mean.
 use Rattle.std.proofs.Common.{◌≡◌, ℕ, List, [], ◌∷◌, map, Option, Some, None, option_map, refl, ap, ◌∙◌}
 use Rattle.std.specs.List.{filter_map, cons_option}
-use Rattle.rule_syntax.specs.Spelled.{bare_name}
+use Rattle.rule_print.specs.Spelled.{bare_name}
 use Rattle.problem_text.specs.Tree.{BoxTree, ShapeTree, ObjectTree, OrderTree, SidesTree, MacroTree, DemandTree, apart, within, plain, RuleTree, BodyTree, means, equals, StatementTree, a_shape, an_object, an_order, some_sides, a_macro, a_rule, ProblemTree}
 use Rattle.problem_text.specs.Parts.{Parts, parts_of, as_shape, as_object, as_order, as_sides, as_macro, as_rule}
 use Rattle.problem_text.specs.Faults.{shape_names, object_names, count_of}

@@ -4,7 +4,7 @@ use Rattle.std.specs.Prelude.{pos, not, replicate, if◌then◌else◌}
 use Rattle.std.specs.List.{filter_map, cons_option, list_any, range_with_len, position_or_len}
 use Rattle.std.specs.Str.{bytes_eq}
 use Rattle.std.proofs.lemmas.List.{append-nil}
-use Rattle.rule_syntax.specs.Canonical.{Written}
+use Rattle.rule_print.specs.Canonical.{Written}
 use Rattle.problem_text.specs.declared.tree.Side.{Side}
 use Rattle.problem_text.specs.declared.tree.Side.TheVariants.{Low}
 use Rattle.problem_text.specs.Tree.{ShapeTree, ObjectTree, OrderTree, SidesTree, MacroTree, RuleTree, StatementTree}

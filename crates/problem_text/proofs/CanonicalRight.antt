@@ -8,8 +8,8 @@ use Rattle.geo_tokens.specs.declared.token.Token.{Token}
 use Rattle.geo_tokens.specs.declared.fault.FaultWord.TheVariants as words
 use Rattle.geo_tokens.proofs.Good.{reads_all}
 use Rattle.rule_syntax.specs.declared.tree.PlacedName.{PlacedName}
-use Rattle.rule_syntax.specs.Spelled.{bare_name}
-use Rattle.rule_syntax.proofs.Respelled.{AllOf}
+use Rattle.rule_print.specs.Spelled.{bare_name}
+use Rattle.rule_print.proofs.Respelled.{AllOf}
 use Rattle.problem_text.specs.declared.faults.fault.Fault.{Fault}
 use Rattle.problem_text.specs.Tree.{BoxTree, ShapeTree, ObjectTree, OrderTree, SidesTree, MacroTree, DemandTree, apart, within, plain, RuleTree, ProblemTree}
 use Rattle.problem_text.specs.Grammar.{ProblemWords}

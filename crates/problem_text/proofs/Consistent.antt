@@ -6,7 +6,7 @@ use Rattle.std.specs.Str.{bytes_eq}
 use Rattle.std.proofs.lemmas.Bool.{cases_Bool, eqb-true, eqb-false, leb-true, leb-false, and_parts}
 use Rattle.std.proofs.lemmas.List.{length-map, take-map, get_or-take, length-take-le}
 use Rattle.rule_syntax.specs.declared.tree.PlacedName.{PlacedName}
-use Rattle.rule_syntax.proofs.Respelled.{AllOf}
+use Rattle.rule_print.proofs.Respelled.{AllOf}
 use Rattle.geo_tokens.specs.declared.fault.FaultWord.TheVariants as words
 use Rattle.problem_text.specs.declared.faults.fault.Fault.{Fault}
 use Rattle.problem_text.specs.declared.tree.Side.{Side}

@@ -42,7 +42,7 @@ word_at n =
     if n == 4 then words.Size else if n == 5 then words.Order else if n == 6 then words.Byte else if n == 7 then words.Number else
     if n == 8 then words.Name else if n == 9 then words.Syntax else if n == 10 then words.Deep else if n == 11 then words.Kind else
     if n == 12 then words.Args else if n == 13 then words.Expand else if n == 14 then words.Product else if n == 15 then words.Overflow else
-    if n == 16 then words.Ground else if n == 17 then words.Token else if n == 18 then words.Long else words.Later
+    if n == 16 then words.Ground else if n == 17 then words.Token else words.Long
 
 word_again : (w : FaultWord) → word_at (word_rank w) ≡ w
 unfolding word_at
@@ -65,7 +65,6 @@ word_again words.Overflow = refl
 word_again words.Ground = refl
 word_again words.Token = refl
 word_again words.Long = refl
-word_again words.Later = refl
 
 same_word : (v w : FaultWord) → word_rank v ≡ word_rank w → v ≡ w
 same_word v w e = sym (word_again v) ∙ ap word_at e ∙ word_again w

@@ -13,8 +13,8 @@ use Rattle.geo_tokens.specs.Deep.{IsReading}
 use Rattle.geo_tokens.proofs.Levels.{is_reading}
 use Rattle.geo_tokens.proofs.OneToken.{of_kind, has_self}
 use Rattle.rule_syntax.specs.Grammar.{Named, ExprWords, FormulaWords}
-use Rattle.rule_syntax.proofs.Steps.{Step, tok_step, pure_step, bind_step, either_step, opt_step, many_step, steps_split}
-use Rattle.rule_syntax.proofs.Limits.{expr_step, formula_step}
+use Rattle.rule_reading.proofs.Steps.{Step, tok_step, pure_step, bind_step, either_step, opt_step, many_step, steps_split}
+use Rattle.rule_reading.proofs.Limits.{expr_step, formula_step}
 use Rattle.problem_text.specs.Marks.{side_words, param_words}
 use Rattle.problem_text.specs.Grammar.{OneOrMore, Listed, IntWords, RangeWords, BoxWords, ShapeWords, AttributeWords, Attributes, ObjectWords, OrderWords, SidesWords, ParamWords, Params, BodyWords, MacroWords, DemandWords, RuleWords, StatementWords, ProblemWords}
 use Rattle.problem_text.specs.Reading.{problem_at}

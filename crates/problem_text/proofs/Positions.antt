@@ -7,7 +7,7 @@ use Rattle.std.proofs.lemmas.Bool.{eq-eqb}
 use Rattle.std.proofs.lemmas.Slice.Eq.{bytes_eq-Decides}
 use Rattle.std.proofs.Math.Numerals.{one-add}
 use Rattle.rule_syntax.specs.declared.tree.PlacedName.{PlacedName}
-use Rattle.rule_syntax.proofs.Respelled.{AllOf}
+use Rattle.rule_print.proofs.Respelled.{AllOf}
 use Rattle.geo_tokens.specs.declared.fault.FaultWord.TheVariants as words
 use Rattle.problem_text.specs.declared.faults.fault.Fault.{Fault}
 use Rattle.problem_text.specs.Least.{fault}

@@ -9,17 +9,17 @@ use Rattle.geo_tokens.specs.Class.{class_of, number_in}
 use Rattle.geo_tokens.specs.Names.{IsNameText}
 use Rattle.geo_tokens.specs.Words.{has, numbers, word, symbol, Lang, Tok, Bind, Opt}
 use Rattle.rule_syntax.specs.declared.tree.PlacedName.{PlacedName}
-use Rattle.rule_syntax.specs.declared.print.rank.ExprRank.TheVariants as expr_ranks
-use Rattle.rule_syntax.specs.declared.print.rank.FormulaRank.TheVariants as ranks
+use Rattle.rule_print.specs.declared.rank.ExprRank.TheVariants as expr_ranks
+use Rattle.rule_print.specs.declared.rank.FormulaRank.TheVariants as ranks
 use Rattle.rule_syntax.specs.Tree.{ExprTree, FormulaTree}
 use Rattle.rule_syntax.specs.Grammar.{Named, ExprWords, FormulaWords}
-use Rattle.rule_syntax.specs.Canonical.{Written, sign}
-use Rattle.rule_syntax.specs.Canonical.{number as digits, word as a_word, symbol as a_symbol}
-use Rattle.rule_syntax.specs.Spelled.{in_list, expr_spelling, formula_spelling, bare_name, bare_expr, bare_formula}
-use Rattle.rule_syntax.proofs.Respelled.{Respelled, tok_again, named_again, bind_again, last_again, left_again, right_again, there_again, absent_again, AllOf, Each, joined, many_again, many_good}
-use Rattle.rule_syntax.proofs.ShownTokens.{written_append}
-use Rattle.rule_syntax.proofs.ExpressionsAgain.{respelled_as, closing}
-use Rattle.rule_syntax.proofs.ExpressionsAgain.{closed as in_list_written}
+use Rattle.rule_print.specs.Canonical.{Written, sign}
+use Rattle.rule_print.specs.Canonical.{number as digits, word as a_word, symbol as a_symbol}
+use Rattle.rule_print.specs.Spelled.{in_list, expr_spelling, formula_spelling, bare_name, bare_expr, bare_formula}
+use Rattle.rule_print.proofs.Respelled.{Respelled, tok_again, named_again, bind_again, last_again, left_again, right_again, there_again, absent_again, AllOf, Each, joined, many_again, many_good}
+use Rattle.rule_print.proofs.ShownTokens.{written_append}
+use Rattle.rule_print.proofs.ExpressionsAgain.{respelled_as, closing}
+use Rattle.rule_print.proofs.ExpressionsAgain.{closed as in_list_written}
 use Rattle.problem_text.specs.declared.tree.Int.{Int}
 use Rattle.problem_text.specs.declared.tree.RangeText.{RangeText}
 use Rattle.problem_text.specs.declared.tree.AttributeText.{AttributeText}

@@ -8,10 +8,10 @@ use Rattle.geo_tokens.specs.declared.token.Keyword.TheVariants as keywords
 use Rattle.geo_tokens.specs.Class.{number_in}
 use Rattle.geo_tokens.specs.Cut.{IsTokens}
 use Rattle.geo_tokens.specs.Words.{numbers, word}
-use Rattle.rule_syntax.specs.Canonical.{Written}
-use Rattle.rule_syntax.specs.Canonical.{number as digits, word as a_word}
-use Rattle.rule_syntax.proofs.Respelled.{Respelled, tok_again, bind_again, last_again, same_again, AllOf, joined, many_again, many_good}
-use Rattle.rule_syntax.proofs.ShownTokens.{AllWritten, written_append}
+use Rattle.rule_print.specs.Canonical.{Written}
+use Rattle.rule_print.specs.Canonical.{number as digits, word as a_word}
+use Rattle.rule_print.proofs.Respelled.{Respelled, tok_again, bind_again, last_again, same_again, AllOf, joined, many_again, many_good}
+use Rattle.rule_print.proofs.ShownTokens.{AllWritten, written_append}
 use Rattle.problem_text.specs.declared.tree.Side.{Side}
 use Rattle.problem_text.specs.Tree.{StatementTree, ProblemTree}
 use Rattle.problem_text.specs.Grammar.{problem_tree, StatementWords, ProblemWords}

@@ -6,11 +6,11 @@ use Rattle.geo_tokens.specs.declared.token.Sym.TheVariants as syms
 use Rattle.geo_tokens.specs.Names.{IsNameText}
 use Rattle.geo_tokens.specs.Words.{word, symbol, Pure, Tok, Bind}
 use Rattle.rule_syntax.specs.Grammar.{Named}
-use Rattle.rule_syntax.specs.Canonical.{Written}
-use Rattle.rule_syntax.specs.Canonical.{word as a_word, symbol as a_symbol}
-use Rattle.rule_syntax.specs.Spelled.{in_list, bare_name}
-use Rattle.rule_syntax.proofs.Respelled.{Respelled, Again, tok_again, bind_again, last_again, left_again, right_again, AllOf}
-use Rattle.rule_syntax.proofs.ShownTokens.{AllWritten, written_append}
+use Rattle.rule_print.specs.Canonical.{Written}
+use Rattle.rule_print.specs.Canonical.{word as a_word, symbol as a_symbol}
+use Rattle.rule_print.specs.Spelled.{in_list, bare_name}
+use Rattle.rule_print.proofs.Respelled.{Respelled, Again, tok_again, bind_again, last_again, left_again, right_again, AllOf}
+use Rattle.rule_print.proofs.ShownTokens.{AllWritten, written_append}
 use Rattle.problem_text.specs.declared.tree.Side.{Side}
 use Rattle.problem_text.specs.Tree.{StatementTree, a_shape, an_object, an_order, some_sides, a_macro, a_rule}
 use Rattle.problem_text.specs.Grammar.{shape_tree, object_tree, order_tree, sides_tree, macro_tree, rule_tree, Listed, ShapeWords, ObjectWords, OrderWords, SidesWords, MacroWords, RuleWords, StatementWords}

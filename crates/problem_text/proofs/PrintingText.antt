@@ -3,9 +3,9 @@ use Rattle.std.proofs.Common.{◌≡◌, ℕ, ◌+◌, List, [], ◌∷◌, ◌+
 use Rattle.std.proofs.lemmas.List.{length-append}
 use Rattle.geo_tokens.specs.declared.token.Token.{Token}
 use Rattle.geo_tokens.specs.Cut.{Cut, here, behind_gap, white, IsTokens}
-use Rattle.rule_syntax.specs.Canonical.{Written, shown}
-use Rattle.rule_syntax.proofs.Lexemes.{line_ends}
-use Rattle.rule_syntax.proofs.ShownTokens.{AllWritten, tokens_behind, shown_cut, Stands, shown_stands}
+use Rattle.rule_print.specs.Canonical.{Written, shown}
+use Rattle.rule_print.proofs.Lexemes.{line_ends}
+use Rattle.rule_print.proofs.ShownTokens.{AllWritten, tokens_behind, shown_cut, Stands, shown_stands}
 use Rattle.problem_text.specs.Canonical.{line_text}
 
 -- ---- several lines

@@ -8,9 +8,9 @@ use Rattle.geo_tokens.specs.Names.{IsNameText}
 use Rattle.geo_tokens.specs.Words.{numbers, symbol, Lang, Tok, Bind, left, right, Opt, there, not_there}
 use Rattle.rule_syntax.specs.declared.tree.PlacedName.{PlacedName}
 use Rattle.rule_syntax.specs.Grammar.{Named}
-use Rattle.rule_syntax.proofs.Respelled.{AllOf, AllTrue, pure_is, token_of_list, many_of, small_number, name_is_text}
-use Rattle.rule_syntax.proofs.Respelled.{parts_of as split}
-use Rattle.rule_syntax.proofs.ReadBack.{expr_again, formula_again}
+use Rattle.rule_print.proofs.Respelled.{AllOf, AllTrue, pure_is, token_of_list, many_of, small_number, name_is_text}
+use Rattle.rule_print.proofs.Respelled.{parts_of as split}
+use Rattle.rule_print.proofs.ReadBack.{expr_again, formula_again}
 use Rattle.problem_text.specs.declared.tree.Int.{Int}
 use Rattle.problem_text.specs.declared.tree.RangeText.{RangeText}
 use Rattle.problem_text.specs.declared.tree.AttributeText.{AttributeText}

@@ -10,7 +10,7 @@ use Rattle.geo_tokens.proofs.Lists.{disjoint}
 use Rattle.geo_tokens.proofs.Good.{Good, pure_good, one_good, bind_good, either_good, opt_good, many_good}
 use Rattle.geo_tokens.proofs.OneToken.{of_kind, number_good, word_good, symbol_good}
 use Rattle.rule_syntax.proofs.Expressions.{named_good, expr_good}
-use Rattle.rule_syntax.proofs.Formulas.{formula_good}
+use Rattle.rule_reading.proofs.Formulas.{formula_good}
 use Rattle.rule_syntax.specs.Marks.{unary_firsts, expr_behinds, formula_behinds}
 use Rattle.rule_syntax.specs.Grammar.{Named}
 use Rattle.rule_syntax.specs.Reading.{named_at}

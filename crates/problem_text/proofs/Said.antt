@@ -3,7 +3,7 @@ use Rattle.std.proofs.Common.{◌≡◌, ℕ, zero, suc, ◌<◌, List, [], ◌�
 use Rattle.std.specs.List.{All}
 use Rattle.std.proofs.lemmas.List.{length-map}
 use Rattle.geo_tokens.specs.Names.{IsNameText, AllDifferent, IsShapeList, IsNameTable, object_names}
-use Rattle.rule_syntax.proofs.Respelled.{AllOf}
+use Rattle.rule_print.proofs.Respelled.{AllOf}
 use Rattle.problem_text.specs.declared.faults.fault.Fault.{Fault}
 use Rattle.problem_text.specs.Parts.{Parts, parts_of}
 use Rattle.problem_text.specs.Faults.{IsFault, shapes, objects}

@@ -6,7 +6,7 @@ use Rattle.std.proofs.lemmas.List.{length-map, take-map}
 use Rattle.geo_tokens.specs.declared.fault.FaultWord.{FaultWord}
 use Rattle.geo_tokens.specs.declared.fault.FaultWord.TheVariants as words
 use Rattle.rule_syntax.specs.declared.tree.PlacedName.{PlacedName}
-use Rattle.rule_syntax.specs.Spelled.{bare_name, bare_formula}
+use Rattle.rule_print.specs.Spelled.{bare_name, bare_formula}
 use Rattle.problem_text.specs.declared.faults.fault.Fault.{Fault}
 use Rattle.problem_text.specs.declared.tree.Int.{Int}
 use Rattle.problem_text.specs.declared.tree.RangeText.{RangeText}

@@ -7,9 +7,9 @@ use Rattle.geo_tokens.specs.Cut.{IsTokens}
 use Rattle.geo_tokens.specs.Names.{IsNameText}
 use Rattle.geo_tokens.specs.Words.{numbers}
 use Rattle.rule_syntax.specs.declared.tree.PlacedName.{PlacedName}
-use Rattle.rule_syntax.proofs.Respelled.{AllOf, AllTrue, pure_is, token_of_list, many_of, small_number}
-use Rattle.rule_syntax.proofs.Respelled.{parts_of as split}
-use Rattle.rule_syntax.proofs.ReadBack.{tokens_true}
+use Rattle.rule_print.proofs.Respelled.{AllOf, AllTrue, pure_is, token_of_list, many_of, small_number}
+use Rattle.rule_print.proofs.Respelled.{parts_of as split}
+use Rattle.rule_print.proofs.ReadBack.{tokens_true}
 use Rattle.problem_text.specs.declared.faults.fault.Fault.{Fault}
 use Rattle.problem_text.specs.Tree.{ShapeTree, ObjectTree, OrderTree, MacroTree, RuleTree, StatementTree, a_shape, an_object, an_order, some_sides, a_macro, a_rule, ProblemTree}
 use Rattle.problem_text.specs.Grammar.{problem_tree, StatementWords, ProblemWords}

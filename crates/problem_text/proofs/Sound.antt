@@ -15,7 +15,7 @@ use Rattle.std.proofs.lemmas.Bool.Decides.{Decides-eqb}
 use Rattle.std.proofs.lemmas.Map.Made.{is_member-Decides}
 use Rattle.std.proofs.lemmas.List.{get_or-take, get_or_default, length-take, get_or-map, length-map, length-replicate}
 use Rattle.std.proofs.lemmas.List.FromFn.{get_or-range_with_len, length-range_with_len}
-use Rattle.geo_base.specs.declared.TheConstants.{MAX_DIMS}
+use Rattle.problem_text.specs.Limits.{most_dims}
 use Rattle.rule_syntax.specs.declared.tree.PlacedName.{PlacedName}
 use Rattle.geo_tokens.specs.Names.{AllDifferent}
 use Rattle.geo_tokens.specs.declared.fault.FaultWord.TheVariants as words
@@ -240,10 +240,10 @@ module _ (objects : List (List ℕ)) (distinct : (i j : ℕ) (d : List ℕ) → 
 -- ---- the whole
 
 -- the number of dimensions that is stated
-dims_fit : (v : Int) → NoFault (DimsFault v) → (0 < count_of v.value) × (count_of v.value ≤ MAX_DIMS)
-dims_fit v h = counted_dims v.value (at_most (pos 1) v.value (λ n. h (fault v.place words.Limit) ((λ d. n d.0), refl))) (at_most v.value (pos MAX_DIMS) (λ n. h (fault v.place words.Limit) ((λ d. n d.1), refl)))
+dims_fit : (v : Int) → NoFault (DimsFault v) → (0 < count_of v.value) × (count_of v.value ≤ most_dims)
+dims_fit v h = counted_dims v.value (at_most (pos 1) v.value (λ n. h (fault v.place words.Limit) ((λ d. n d.0), refl))) (at_most v.value (pos most_dims) (λ n. h (fault v.place words.Limit) ((λ d. n d.1), refl)))
   where
-    counted_dims : (k : ℤ) → pos 1 ≤ℤ k → k ≤ℤ pos MAX_DIMS → (0 < count_of k) × (count_of k ≤ MAX_DIMS)
+    counted_dims : (k : ℤ) → pos 1 ≤ℤ k → k ≤ℤ pos most_dims → (0 < count_of k) × (count_of k ≤ most_dims)
     counted_dims (pos n) l m = (omega (arith, ints), omega (arith, ints))
     counted_dims (negsuc n) l m = absurd (omega (arith, ints))
 

@@ -15,8 +15,8 @@ use Rattle.geo_tokens.specs.Gives.{Fails}
 use Rattle.geo_tokens.proofs.Lists.{behind, before, cuts}
 use Rattle.geo_tokens.proofs.Facts.{Facts}
 use Rattle.geo_tokens.proofs.Text.{text_fault, text_done, text_not_done}
-use Rattle.rule_syntax.specs.Outcome.{place_of, HasFault, HasDeep, fault_of}
-use Rattle.rule_syntax.proofs.Outcomes.{has_value, stop_refuses}
+use Rattle.rule_reading.specs.Outcome.{place_of, HasFault, HasDeep, fault_of}
+use Rattle.rule_reading.proofs.Outcomes.{has_value, stop_refuses}
 use Rattle.problem_text.specs.WholeText.{IsWhole, IsWrong, FirstFault, AnswersText, IsOnlyAnswer}
 
 -- ---- two answers about one list

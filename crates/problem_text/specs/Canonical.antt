@@ -4,10 +4,10 @@ use Rattle.std.specs.List.{list_any}
 use Rattle.geo_tokens.specs.declared.token.Keyword.{Keyword}
 use Rattle.geo_tokens.specs.declared.token.Keyword.TheVariants as keywords
 use Rattle.geo_tokens.specs.declared.token.Sym.TheVariants as syms
-use Rattle.rule_syntax.specs.declared.print.rank.ExprRank.TheVariants as expr_ranks
-use Rattle.rule_syntax.specs.declared.print.rank.FormulaRank.TheVariants as ranks
-use Rattle.rule_syntax.specs.Canonical.{Written, name, number, word, symbol, sign, shown}
-use Rattle.rule_syntax.specs.Spelled.{in_list, expr_spelling, formula_spelling}
+use Rattle.rule_print.specs.declared.rank.ExprRank.TheVariants as expr_ranks
+use Rattle.rule_print.specs.declared.rank.FormulaRank.TheVariants as ranks
+use Rattle.rule_print.specs.Canonical.{Written, name, number, word, symbol, sign, shown}
+use Rattle.rule_print.specs.Spelled.{in_list, expr_spelling, formula_spelling}
 use Rattle.problem_text.specs.declared.tree.ParamKind.{ParamKind}
 use Rattle.problem_text.specs.declared.tree.ParamKind.TheVariants.{Int, Object, Box}
 use Rattle.problem_text.specs.declared.tree.Side.{Side}

@@ -1,7 +1,6 @@
 -- The faults of statements: at which places there is what wrong. `k` is the number of dimensions that the text states.
 use Rattle.std.specs.Prelude.{◌≡◌, ℕ, ℤ, pos, negsuc, ◌≤◌, ◌<ℤ◌, ◌≤ℤ◌, List, [], ◌∷◌, length, take, map, Option, Some, None, slice_get, ◌⊎◌}
 use Rattle.std.specs.List.{Contains}
-use Rattle.geo_base.specs.declared.TheConstants.{MAX_DIMS}
 use Rattle.rule_syntax.specs.declared.tree.PlacedName.{PlacedName}
 use Rattle.geo_tokens.specs.declared.fault.FaultWord.TheVariants as words
 use Rattle.problem_text.specs.declared.faults.fault.Fault.{Fault}
@@ -12,7 +11,7 @@ use Rattle.problem_text.specs.declared.tree.SideText.{SideText}
 use Rattle.problem_text.specs.declared.tree.ParamText.{ParamText}
 use Rattle.problem_text.specs.Tree.{BoxTree, ShapeTree, ObjectTree, OrderTree, SidesTree, MacroTree, DemandTree, apart, within, plain, RuleTree}
 use Rattle.problem_text.specs.Least.{fault}
-use Rattle.problem_text.specs.Limits.{IsSmall, IsSize, IsFieldName, most_shapes, most_boxes, most_objects, most_object_shapes, most_attributes, most_macros, most_params, most_rules}
+use Rattle.problem_text.specs.Limits.{IsSmall, IsSize, IsFieldName, most_dims, most_shapes, most_boxes, most_objects, most_object_shapes, most_attributes, most_macros, most_params, most_rules}
 use Rattle.problem_text.specs.Divisors.{body_zeros, formula_zeros}
 use Rattle.problem_text.specs.Parts.{Parts}
 
@@ -201,7 +200,7 @@ abbrev pub VersionFault : Int → Fault → Type 0
 VersionFault v f = (v.value ≡ pos 1 → ⊥) × (f ≡ fault v.place words.Limit)
 
 abbrev pub IsDims : ℤ → Type 0
-IsDims k = (pos 1 ≤ℤ k) × (k ≤ℤ pos MAX_DIMS)
+IsDims k = (pos 1 ≤ℤ k) × (k ≤ℤ pos most_dims)
 
 -- `limit` at a number of dimensions that is not 1 to the greatest one
 abbrev pub DimsFault : Int → Fault → Type 0

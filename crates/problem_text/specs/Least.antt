@@ -29,7 +29,6 @@ word_rank words.Overflow = 15
 word_rank words.Ground = 16
 word_rank words.Token = 17
 word_rank words.Long = 18
-word_rank words.Later = 19
 
 -- f comes after g
 abbrev pub is_after : Fault → Fault → Bool

@@ -13,6 +13,9 @@ IsSize v = (pos 1 ≤ℤ v) × (v ≤ℤ pos 1000000)
 abbrev pub IsFieldName : List ℕ → Type 0
 IsFieldName name = (name ≡ codes "id") ⊎ (name ≡ codes "sid") ⊎ ((d : ℕ) × (49 ≤ d) × (d ≤ 57) × (name ≡ 120 ∷ d ∷ []))
 
+abbrev pub most_dims : ℕ
+most_dims = 4
+
 abbrev pub most_shapes : ℕ
 most_shapes = 256
 

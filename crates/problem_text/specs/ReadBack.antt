@@ -2,7 +2,7 @@
 use Rattle.std.specs.Prelude.{◌≡◌, List, map}
 use Rattle.geo_tokens.specs.declared.token.Token.{Token}
 use Rattle.geo_tokens.specs.Cut.{IsTokens}
-use Rattle.rule_syntax.specs.Spelled.{bare_expr, bare_formula}
+use Rattle.rule_print.specs.Spelled.{bare_expr, bare_formula}
 use Rattle.problem_text.specs.Tree.{BodyTree, means, equals, ProblemTree}
 use Rattle.problem_text.specs.Grammar.{ProblemWords}
 use Rattle.problem_text.specs.WholeText.{IsWhole}

@@ -1,6 +1,6 @@
 -- What holds of the data of every problem that a text says.
 use Rattle.std.specs.Prelude.{◌≡◌, ◌≢◌, ◌<◌, ◌≤◌, ◌≤ℤ◌, ◌<ℤ◌, ℕ, length, pos, negsuc, All, AllPairs, Contains}
-use Rattle.geo_base.specs.declared.TheConstants.{MAX_DIMS}
+use Rattle.problem_text.specs.Limits.{most_dims}
 use Rattle.problem_text.specs.Problem.{BoxData, RangeData, ObjectData, DemandData, apart, within, plain, ProblemData}
 
 -- an offset and a size from 1 on for each dimension
@@ -31,7 +31,7 @@ IsDemand k (plain f) = Unit {0}
 
 pub record IsWellFormed (p : ProblemData) : Type 0 where
   pub some : 0 < p.dims
-  pub dimensions : p.dims ≤ MAX_DIMS
+  pub dimensions : p.dims ≤ most_dims
   pub boxes : All (λ s. All (IsBox p.dims) s.boxes) p.shapes
   pub few : length p.objects ≤ 200
   pub objects : All (IsObject p) p.objects

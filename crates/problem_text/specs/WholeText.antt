@@ -8,7 +8,7 @@ use Rattle.geo_tokens.specs.declared.fault.TextFault.{TextFault}
 use Rattle.geo_tokens.specs.declared.fault.TextFault.TheVariants as faults
 use Rattle.geo_tokens.specs.Words.{Lang}
 use Rattle.geo_tokens.specs.Deep.{IsText, IsTextFault}
-use Rattle.rule_syntax.specs.Outcome.{place_of, IsWithin, HasDeep}
+use Rattle.rule_reading.specs.Outcome.{place_of, IsWithin, HasDeep}
 
 -- The tokens spell the value within the limit, and they spell nothing else, whatever levels they open.
 pub record IsWhole {A : Type 0} (L : ℕ → Lang A) (limit : ℕ) (list : List Token) (a : A) : Type 0 where

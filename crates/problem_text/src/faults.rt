@@ -9,7 +9,7 @@ mod divisors;
 pub mod fault;
 mod named;
 pub mod names;
-mod numbers;
+pub mod numbers;
 mod objects;
 mod order;
 mod rules;
@@ -24,9 +24,11 @@ use crate::faults::rules::{macros_fault, rules_fault};
 use crate::faults::shapes::shapes_fault;
 use crate::parts::Parts;
 use crate::tree::Int;
-use geo_base::MAX_DIMS;
 use geo_tokens::fault::FaultWord;
 use std::alloc::{AllocError, Global};
+
+/// How many dimensions a text may have.
+const MOST_DIMS: i64 = 4;
 
 /// The number of dimensions that is stated.
 pub fn count_of(dims: Int) -> usize
@@ -48,7 +50,7 @@ fn version_fault(version: Int) -> Option<Fault>
 fn dims_fault(dims: Int) -> Option<Fault>
     ensures { IsLeast (DimsFault dims) result }
 {
-    let right = 1 <= dims.value && dims.value <= MAX_DIMS as i64;
+    let right = 1 <= dims.value && dims.value <= MOST_DIMS;
     fault_if(!right, dims.place, FaultWord::Limit)
 }
 

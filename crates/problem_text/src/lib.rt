@@ -7,8 +7,6 @@
 pub mod build;
 pub mod faults;
 pub mod names;
-#[cfg(test)]
-mod names_tests;
 pub mod numbers;
 pub mod objects;
 pub mod order;
@@ -16,11 +14,7 @@ pub mod parts;
 pub mod print;
 pub mod problem;
 pub mod read;
-#[cfg(test)]
-mod read_tests;
 pub mod rules;
 pub mod statements;
 pub mod syntax;
-#[cfg(test)]
-mod tests;
 pub mod tree;

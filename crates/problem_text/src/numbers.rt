@@ -1,16 +1,28 @@
-//! Reading whole numbers and ranges.
+//! Reading whole numbers and ranges, and the values of numbers.
 
-ghost use Rattle.std.specs.Prelude.{◌≡◌};
+ghost use Rattle.std.specs.Prelude.{◌≡◌, map, IfOk};
 ghost use Rattle.geo_tokens.specs.Reading.{next_is};
 ghost use Rattle.geo_tokens.specs.Gives.{Gives};
 ghost use Rattle.problem_text.specs.Marks.{int_firsts};
 ghost use Rattle.problem_text.specs.Grammar.{plain_int};
+ghost use Rattle.problem_text.specs.Meaning.{number_of};
 ghost use Rattle.problem_text.specs.Reading.{plain_int_at, negative_int_at, int_at, ints_at, range_at, ranges_at};
 
 use crate::tree::{Int, RangeText};
 use geo_tokens::stop::{Stop, next_in, next_is, token};
 use geo_tokens::token::{Kind, Sym, Token, number_in};
-use std::alloc::Global;
+use std::alloc::{AllocError, Global};
+
+/// The values of whole numbers.
+pub fn values(alloc: Global, numbers: &[Int]) -> Result<Vec<i64>, AllocError>
+    ensures { IfOk result (λ v. v.items ≡ map number_of numbers.now) }
+{
+    let mut found = Vec::new(alloc);
+    for number in numbers {
+        found.push(number.value)?;
+    }
+    Ok(found)
+}
 
 /// What a number token says.
 fn int_of(number: Token) -> Int

@@ -5,13 +5,11 @@
 pub mod line;
 pub mod part;
 pub mod statement;
-#[cfg(test)]
-mod tests;
 pub mod text;
 
 ghost use Rattle.geo_chan.specs.Written.{AppendsFront};
 ghost use Rattle.geo_chan.specs.Causes.{PutCause};
-ghost use Rattle.std.specs.Prelude.{◌≡◌, ◌≤◌, length, true, MatchResult};
+ghost use Rattle.std.specs.Prelude.{◌≡◌, ◌≤◌, length, true, MatchResult, IsErrOf};
 ghost use Rattle.std.specs.Io.KnownBytes.{Appends};
 ghost use Rattle.problem_text.specs.Canonical.{problem_text};
 ghost use Rattle.problem_text.specs.FirstFault.{most_bytes};
@@ -22,9 +20,9 @@ use geo_chan::{PutFault, Sink, write_all_bytes};
 use std::alloc::Global;
 use text::canonical_text;
 
-/// Writes the canonical text of a problem. After a fault a front part of it was written, and nothing where memory ran out. The
-/// canonical text spells statements without a fault that mean the same problem, places aside. So where it has at most
-/// 1,048,576 bytes it is read back as that problem.
+/// Writes the canonical text of a problem. After a fault a front part of it was written, and nothing where memory ran out and
+/// the sink itself needs none. The canonical text spells statements without a fault that mean the same problem, places aside. So
+/// where it has at most 1,048,576 bytes it is read back as that problem.
 pub fn print_problem<W: Sink>(
     alloc: Global,
     problem: &Problem,
@@ -32,6 +30,7 @@ pub fn print_problem<W: Sink>(
 ) -> Result<(), PutFault>
     ensures bytes { MatchResult result (λ _. Appends (W.written sink.old) (W.written sink.new) (problem_text problem.now)) (λ _. AppendsFront (W.written sink.old) (W.written sink.new) (problem_text problem.now)) }
     ensures cause { PutCause (W.faults sink.old) (W.faults sink.new) result }
+    ensures nothing { W.quiet sink.old ≡ true → IsErrOf result PutFault.Memory → W.written sink.new ≡ W.written sink.old }
     ensures quiet { W.quiet sink.old ≡ true → W.quiet sink.new ≡ true }
     ensures spelled { IsSpelled problem.now }
     ensures read_back { length (problem_text problem.now) ≤ most_bytes → ReadsBack problem.now }

@@ -13,7 +13,7 @@ use geo_tokens::lexer::tokens;
 use std::alloc::Global;
 
 /// How many bytes a text may have.
-const MOST_BYTES: usize = 1_048_576;
+pub const MOST_BYTES: usize = 1_048_576;
 
 /// The problem that a text spells, or its first fault: `long` at 1,048,576 where the text has more bytes; else its first
 /// token fault; else the first fault of its grammar; else the first fault of its statements.

@@ -9,8 +9,8 @@ use crate::numbers::ranges;
 use crate::tree::{MacroBody, MacroText, ParamKind, ParamText, RuleBody, RuleText, Statement};
 use geo_tokens::stop::{Stop, next_is, one_of, token};
 use geo_tokens::token::{Keyword, Kind, Sym, Token};
+use rule_reading::formula::formula;
 use rule_syntax::expression::expression;
-use rule_syntax::formula::formula;
 use rule_syntax::words::placed_name;
 use std::alloc::Global;
 

@@ -10,7 +10,7 @@ use crate::tree::ProblemText;
 use geo_tokens::fault::TextFault;
 use geo_tokens::stop::Stop;
 use geo_tokens::token::Token;
-use rule_syntax::read::{LEVELS, fault_of};
+use rule_reading::read::{LEVELS, fault_of};
 use std::alloc::Global;
 
 /// What all the tokens of a text spell, with at most 64 levels open at a time. They are refused with `syntax` at the first

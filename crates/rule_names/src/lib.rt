@@ -12,5 +12,3 @@ pub mod formulas;
 pub mod mistake;
 pub mod scope;
 pub mod table;
-#[cfg(test)]
-mod tests;

@@ -1,14 +1,1 @@
 pub mod Expressions
-pub mod Formulas
-pub mod Steps
-pub mod Limits
-pub mod Outcomes
-pub mod Printing
-pub mod Lexemes
-pub mod ShownTokens
-pub mod Respelled
-pub mod ExpressionsAgain
-pub mod ExpressionsRead
-pub mod FormulasAgain
-pub mod FormulasRead
-pub mod ReadBack

@@ -3,6 +3,3 @@ pub mod View
 pub mod Marks
 pub mod Grammar
 pub mod Reading
-pub mod Outcome
-pub mod Canonical
-pub mod Spelled

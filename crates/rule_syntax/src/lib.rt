@@ -1,12 +1,6 @@
-//! The formulas and expressions of rules: their trees, reading them, and writing them canonically.
+//! The trees of the formulas and expressions of rules, the grammar that spells them, and reading expressions.
 #![tactic(auto)]
 
 pub mod expression;
-pub mod formula;
-pub mod print;
-pub mod quantifier;
-pub mod read;
-#[cfg(test)]
-mod tests;
 pub mod tree;
 pub mod words;

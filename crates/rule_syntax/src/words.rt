@@ -34,8 +34,6 @@ macro_rules! refuse {
     };
 }
 
-pub(crate) use refuse;
-
 /// A name, with its place.
 pub fn placed_name<'a>(
     alloc: Global,

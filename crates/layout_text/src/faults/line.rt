@@ -4,7 +4,6 @@ ghost use Rattle.std.specs.Prelude.{◌≡◌, ℕ, List, length, map, slice_get
 ghost use Rattle.geo_tokens.specs.declared.fault.FaultWord.TheVariants.{Limit};
 ghost use Rattle.problem_text.specs.declared.tree.Int.{Int};
 ghost use Rattle.problem_text.specs.Least.{IsLeast};
-ghost use Rattle.problem_text.specs.Faults.{first_place, int_place};
 ghost use Rattle.problem_text.specs.ProblemView.{range_data};
 ghost use Rattle.problem_text.specs.WellFormed.{IsWellFormed, IsObject};
 ghost use Rattle.layout_text.specs.View.{line_view};
@@ -14,6 +13,7 @@ use crate::names::shape_position;
 use crate::tree::LineText;
 use geo_tokens::fault::FaultWord;
 use problem_text::faults::fault::{Fault, earlier, fault_if};
+use problem_text::faults::numbers::first_int;
 use problem_text::problem::{ObjectDef, Problem, RangeDef};
 use problem_text::tree::Int;
 
@@ -31,15 +31,6 @@ fn shape_fault(problem: &Problem, object: &ObjectDef, line: &LineText) -> Option
     let position = shape_position(problem, object, &line.shape.name);
     let listed = position < object.shapes().len();
     fault_if(!listed, line.shape.place, FaultWord::Unknown)
-}
-
-fn first_int(numbers: &[Int]) -> u64
-    ensures { result ≡ first_place int_place numbers.now }
-{
-    match numbers {
-        [first, ..] => first.place,
-        [] => 0,
-    }
 }
 
 fn count_fault(dims: usize, origin: &[Int]) -> Option<Fault>

@@ -2,28 +2,19 @@
 
 ghost use Rattle.std.specs.Prelude.{◌≡◌, map, IfOk};
 ghost use Rattle.problem_text.specs.View.{box_view, shape_view};
-ghost use Rattle.problem_text.specs.Meaning.{number_of, box_of, shape_of};
+ghost use Rattle.problem_text.specs.Meaning.{box_of, shape_of};
 
+use crate::numbers::values;
 use crate::problem::{BoxDef, ShapeDef};
-use crate::tree::{BoxText, Int, ShapeText};
+use crate::tree::{BoxText, ShapeText};
 use rule_syntax::tree::PlacedName;
 use std::alloc::{AllocError, Global};
-
-fn build_numbers(alloc: Global, numbers: &[Int]) -> Result<Vec<i64>, AllocError>
-    ensures { IfOk result (λ v. v.items ≡ map number_of numbers.now) }
-{
-    let mut made = Vec::new(alloc);
-    for number in numbers {
-        made.push(number.value)?;
-    }
-    Ok(made)
-}
 
 fn build_box(alloc: Global, part: &BoxText) -> Result<BoxDef, AllocError>
     ensures { IfOk result (λ b. b ≡ box_of (box_view part.now)) }
 {
-    let offsets = build_numbers(alloc, part.offsets.as_slice())?;
-    let sizes = build_numbers(alloc, part.sizes.as_slice())?;
+    let offsets = values(alloc, part.offsets.as_slice())?;
+    let sizes = values(alloc, part.sizes.as_slice())?;
     Ok(BoxDef::new(offsets, sizes))
 }
 

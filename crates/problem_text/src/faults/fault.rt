@@ -36,7 +36,6 @@ fn word_rank(word: FaultWord) -> u8
         FaultWord::Ground => 16,
         FaultWord::Token => 17,
         FaultWord::Long => 18,
-        FaultWord::Later => 19,
     }
 }
 

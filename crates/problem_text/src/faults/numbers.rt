@@ -43,7 +43,8 @@ fn size_fault(number: Int) -> Option<Fault>
     fault_if(!size, number.place, FaultWord::Size)
 }
 
-fn first_int(numbers: &[Int]) -> u64
+/// The place of the first number, and 0 where there is none.
+pub fn first_int(numbers: &[Int]) -> u64
     ensures { result ≡ first_place int_place numbers.now }
 {
     match numbers {

@@ -1,12 +1,12 @@
 //! Lines of a canonical text.
 
 ghost use Rattle.std.specs.Prelude.{◌≡◌, ◌++◌, ◌∷◌, [], IfOk, map};
-ghost use Rattle.rule_syntax.specs.Canonical.{written, name};
+ghost use Rattle.rule_print.specs.Canonical.{written, name};
 ghost use Rattle.problem_text.specs.Canonical.{line_text};
 
 use geo_tokens::name::Name;
-use rule_syntax::print::lexeme::{Lexeme, push};
-use rule_syntax::print::show::shown;
+use rule_print::lexeme::{Lexeme, push};
+use rule_print::show::shown;
 use std::alloc::{AllocError, Global};
 
 /// Appends a line with these lexemes.

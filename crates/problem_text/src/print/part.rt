@@ -1,7 +1,7 @@
 //! How the parts of statements are spelled.
 
 ghost use Rattle.std.specs.Prelude.{◌≡◌, ◌++◌, IfOk, map, flat_map};
-ghost use Rattle.rule_syntax.specs.Canonical.{written};
+ghost use Rattle.rule_print.specs.Canonical.{written};
 ghost use Rattle.problem_text.specs.View.{body_view};
 ghost use Rattle.problem_text.specs.ProblemView.{range_data, attribute_data, param_data, demand_data};
 ghost use Rattle.problem_text.specs.Canonical.{listed, int_spelling, ints_spelling, range_spelling, ranges_spelling, box_spelling, attribute_spelling, attributes_spelling, kind_word, param_spelling, body_spelling, demand_spelling, side_spelling};
@@ -10,10 +10,10 @@ use crate::print::line::push_name;
 use crate::problem::{AttributeDef, BoxDef, Demand, ParamDef, RangeDef};
 use crate::tree::{MacroBody, ParamKind, Side};
 use geo_tokens::token::{Keyword, Sym};
-use rule_syntax::print::expression::spell_expression;
-use rule_syntax::print::formula::spell_formula;
-use rule_syntax::print::lexeme::{Lexeme, push, push_if, push_symbol, push_word};
-use rule_syntax::print::rank::{ExprRank, FormulaRank};
+use rule_print::expression::spell_expression;
+use rule_print::formula::spell_formula;
+use rule_print::lexeme::{Lexeme, push, push_if, push_symbol, push_word};
+use rule_print::rank::{ExprRank, FormulaRank};
 use std::alloc::AllocError;
 
 fn spell_int<'a>(value: i64, into: &mut Vec<Lexeme<'a>>) -> Result<(), AllocError>

@@ -2,7 +2,7 @@
 
 ghost use Rattle.std.specs.Prelude.{◌≡◌, ◌++◌, ◌∷◌, [], IfOk, map, slice_index_or};
 ghost use Rattle.geo_tokens.specs.declared.token.Sym.TheVariants as syms;
-ghost use Rattle.rule_syntax.specs.Canonical.{written, symbol};
+ghost use Rattle.rule_print.specs.Canonical.{written, symbol};
 ghost use Rattle.problem_text.specs.Canonical.{listed, name_spelling, name_at, shape_spelling, object_spelling, macro_spelling, rule_spelling, order_spelling, sides_spelling, line_text};
 
 use crate::print::line::{push_line, push_name};
@@ -13,7 +13,7 @@ use crate::print::part::{
 use crate::problem::{MacroDef, ObjectDef, RuleDef, ShapeDef};
 use crate::tree::Side;
 use geo_tokens::token::{Keyword, Sym};
-use rule_syntax::print::lexeme::{Lexeme, push, push_if, push_symbol, push_word};
+use rule_print::lexeme::{Lexeme, push, push_if, push_symbol, push_word};
 use std::alloc::{AllocError, Global};
 
 /// Appends the line of a shape.

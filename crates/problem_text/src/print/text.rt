@@ -3,7 +3,7 @@
 ghost use Rattle.std.specs.Prelude.{◌≡◌, ◌++◌, ◌∷◌, [], IfOk, map, flat_map, not};
 ghost use Rattle.std.specs.List.{list_any};
 ghost use Rattle.geo_tokens.specs.declared.token.Keyword.TheVariants as keywords;
-ghost use Rattle.rule_syntax.specs.Canonical.{word};
+ghost use Rattle.rule_print.specs.Canonical.{word};
 ghost use Rattle.problem_text.specs.Canonical.{order_spelling, sides_spelling, object_names, line_if, shape_spelling, object_spelling, macro_spelling, rule_spelling, line_text, counts_from, is_high, head_spelling, problem_text};
 
 use crate::print::line::push_line;
@@ -13,7 +13,7 @@ use crate::print::statement::{
 use crate::problem::{MacroDef, ObjectDef, Problem, RuleDef, ShapeDef};
 use crate::tree::Side;
 use geo_tokens::token::Keyword;
-use rule_syntax::print::lexeme::{Lexeme, push, push_word};
+use rule_print::lexeme::{Lexeme, push, push_word};
 use std::alloc::{AllocError, Global};
 
 fn push_head(alloc: Global, problem: &Problem, text: &mut Vec<u8>) -> Result<(), AllocError>

@@ -20,3 +20,6 @@ returns-in_err-text-clause-spelled g c = said_spelled c.args.problem.now c.is_sa
 
 pub returns-in_err-text-clause-read_back : goal.returns-in_err-text-clause-read_back
 returns-in_err-text-clause-read_back g c short = said_again c.args.problem.now c.is_said.ensures short
+
+pub returns-clause-nothing : goal.returns-clause-nothing
+returns-clause-nothing g c quiet wants = absurd ((c.write_all_bytes.ensures.quiet quiet).1 wants)

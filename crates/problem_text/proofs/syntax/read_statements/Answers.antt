@@ -5,8 +5,8 @@ use Rattle.geo_tokens.specs.declared.stop.Stop.{Stop}
 use Rattle.geo_tokens.specs.declared.fault.TextFault.{TextFault}
 use Rattle.geo_tokens.specs.Reading.{Got}
 use Rattle.geo_tokens.specs.Gives.{Fails}
-use Rattle.rule_syntax.specs.Outcome.{place_of, IsInside, fault_of}
-use Rattle.rule_syntax.proofs.Outcomes.{value_in, stop_inside}
+use Rattle.rule_reading.specs.Outcome.{place_of, IsInside, fault_of}
+use Rattle.rule_reading.proofs.Outcomes.{value_in, stop_inside}
 use Rattle.problem_text.specs.declared.tree.ProblemText.{ProblemText}
 use Rattle.problem_text.specs.Grammar.{ProblemWords}
 use Rattle.problem_text.specs.Reading.{problem_at}

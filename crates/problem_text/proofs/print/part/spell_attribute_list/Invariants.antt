@@ -1,5 +1,5 @@
 use Rattle.std.proofs.Common.{◌≡◌, ◌++◌, map, drop}
-use Rattle.rule_syntax.specs.Canonical.{written}
+use Rattle.rule_print.specs.Canonical.{written}
 use Rattle.problem_text.specs.Canonical.{listed, attribute_spelling}
 use Rattle.problem_text.specs.ProblemView.{attribute_data}
 use Rattle.problem_text.proofs.PrintingLists.{left_listed}

@@ -1,6 +1,6 @@
 use Rattle.std.proofs.Common.{◌≡◌, ◌++◌, map, drop}
 use Rattle.std.specs.Prelude.{flat_map}
-use Rattle.rule_syntax.specs.Canonical.{written}
+use Rattle.rule_print.specs.Canonical.{written}
 use Rattle.problem_text.specs.Canonical.{side_spelling}
 use Rattle.problem_text.proofs.print.part.spell_sides.Given as goal
 

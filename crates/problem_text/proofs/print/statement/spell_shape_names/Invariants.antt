@@ -1,5 +1,5 @@
 use Rattle.std.proofs.Common.{◌≡◌, ◌++◌, map, drop}
-use Rattle.rule_syntax.specs.Canonical.{written}
+use Rattle.rule_print.specs.Canonical.{written}
 use Rattle.problem_text.specs.Canonical.{listed, name_spelling, name_at}
 use Rattle.problem_text.proofs.PrintingLists.{left_listed}
 use Rattle.problem_text.proofs.print.statement.spell_shape_names.Given as goal

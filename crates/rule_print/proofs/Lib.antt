@@ -1,0 +1,9 @@
+pub mod Printing
+pub mod Lexemes
+pub mod ShownTokens
+pub mod Respelled
+pub mod ExpressionsAgain
+pub mod ExpressionsRead
+pub mod FormulasAgain
+pub mod FormulasRead
+pub mod ReadBack

@@ -1,0 +1,155 @@
+//! How an expression is spelled.
+
+ghost use Rattle.std.specs.Prelude.{◌≡◌, ◌++◌, ◌∷◌, [], IfOk, map};
+ghost use Rattle.rule_syntax.specs.Tree.{sums, products, arguments};
+ghost use Rattle.rule_syntax.specs.View.{expr_view, sum_view, product_view, argument_view};
+ghost use Rattle.rule_print.specs.Canonical.{written};
+ghost use Rattle.rule_print.specs.Spelled.{expr_spelling, sum_spelling, sum_step_spelling, product_spelling, product_step_spelling, in_list, arguments_spelling};
+
+use crate::lexeme::{Lexeme, push, push_if, push_name, push_symbol, push_word};
+use crate::rank::ExprRank;
+use geo_tokens::token::{Keyword, Sym};
+use rule_syntax::tree::{Argument, Expr, ProdStep, SumStep};
+use std::alloc::AllocError;
+
+/// Spells an expression where one of this rank may stand.
+#[cycle(spell)]
+pub fn spell_expression<'a>(
+    e: &'a Expr,
+    rank: ExprRank,
+    into: &mut Vec<Lexeme<'a>>,
+) -> Result<(), AllocError>
+    ensures { IfOk result (λ _. map written into.new.items ≡ map written into.old.items ++ expr_spelling rank (expr_view e.now)) }
+{
+    match e {
+        Expr::Num(_, n) => push(Lexeme::Number(u64::from(*n)), into),
+        Expr::Field(object, _, field) => {
+            push_name(object, into)?;
+            push_symbol(Sym::Dot, into)?;
+            push_name(field, into)
+        }
+        Expr::Param(name) => push_name(name, into),
+        Expr::ShapeNum(_, name) => {
+            push_word(Keyword::Shape, into)?;
+            push_name(name, into)
+        }
+        Expr::Neg(_, inner) => {
+            push_symbol(Sym::Minus, into)?;
+            spell_expression(inner, ExprRank::Factor, into)
+        }
+        Expr::Sum(_, first, steps) => {
+            let in_parens = ExprRank::Sum.is_looser(rank);
+            push_if(in_parens, Sym::ParenOpen, into)?;
+            spell_expression(first, ExprRank::Product, into)?;
+            spell_sum_steps(steps.as_slice(), into)?;
+            push_if(in_parens, Sym::ParenClose, into)
+        }
+        Expr::Prod(_, first, steps) => {
+            let in_parens = ExprRank::Product.is_looser(rank);
+            push_if(in_parens, Sym::ParenOpen, into)?;
+            spell_expression(first, ExprRank::Factor, into)?;
+            spell_product_steps(steps.as_slice(), into)?;
+            push_if(in_parens, Sym::ParenClose, into)
+        }
+        Expr::Min(_, first, second) => {
+            push_word(Keyword::Min, into)?;
+            push_symbol(Sym::ParenOpen, into)?;
+            spell_expression(first, ExprRank::Sum, into)?;
+            push_symbol(Sym::Comma, into)?;
+            spell_expression(second, ExprRank::Sum, into)?;
+            push_symbol(Sym::ParenClose, into)
+        }
+        Expr::Max(_, first, second) => {
+            push_word(Keyword::Max, into)?;
+            push_symbol(Sym::ParenOpen, into)?;
+            spell_expression(first, ExprRank::Sum, into)?;
+            push_symbol(Sym::Comma, into)?;
+            spell_expression(second, ExprRank::Sum, into)?;
+            push_symbol(Sym::ParenClose, into)
+        }
+        Expr::CallValue(_, name, arguments) => {
+            push_symbol(Sym::Dollar, into)?;
+            push_name(name, into)?;
+            spell_arguments(arguments.as_slice(), into)
+        }
+    }
+}
+
+/// Spells the steps of a sum behind its first term.
+#[cycle(spell)]
+fn spell_sum_steps<'a>(steps: &'a [SumStep], into: &mut Vec<Lexeme<'a>>) -> Result<(), AllocError>
+    ensures { IfOk result (λ _. map written into.new.items ≡ map written into.old.items ++ sum_spelling (sums (map sum_view steps.now))) }
+{
+    'steps: for step in steps {
+        spell_sum_step(step, into)?;
+    }
+    Ok(())
+}
+
+#[cycle(spell)]
+fn spell_sum_step<'a>(step: &'a SumStep, into: &mut Vec<Lexeme<'a>>) -> Result<(), AllocError>
+    ensures { IfOk result (λ _. map written into.new.items ≡ map written into.old.items ++ sum_step_spelling (sum_view step.now)) }
+{
+    match step {
+        SumStep::Plus(term) => {
+            push_symbol(Sym::Plus, into)?;
+            spell_expression(term, ExprRank::Product, into)
+        }
+        SumStep::Minus(term) => {
+            push_symbol(Sym::Minus, into)?;
+            spell_expression(term, ExprRank::Product, into)
+        }
+    }
+}
+
+/// Spells the steps of a product behind its first factor.
+#[cycle(spell)]
+fn spell_product_steps<'a>(
+    steps: &'a [ProdStep],
+    into: &mut Vec<Lexeme<'a>>,
+) -> Result<(), AllocError>
+    ensures { IfOk result (λ _. map written into.new.items ≡ map written into.old.items ++ product_spelling (products (map product_view steps.now))) }
+{
+    'steps: for step in steps {
+        spell_product_step(step, into)?;
+    }
+    Ok(())
+}
+
+#[cycle(spell)]
+fn spell_product_step<'a>(step: &'a ProdStep, into: &mut Vec<Lexeme<'a>>) -> Result<(), AllocError>
+    ensures { IfOk result (λ _. map written into.new.items ≡ map written into.old.items ++ product_step_spelling (product_view step.now)) }
+{
+    match step {
+        ProdStep::Times(factor) => {
+            push_symbol(Sym::Star, into)?;
+            spell_expression(factor, ExprRank::Factor, into)
+        }
+        ProdStep::Div(_, n) => {
+            push_word(Keyword::Div, into)?;
+            push(Lexeme::Number(u64::from(*n)), into)
+        }
+        ProdStep::Mod(_, n) => {
+            push_word(Keyword::Mod, into)?;
+            push(Lexeme::Number(u64::from(*n)), into)
+        }
+    }
+}
+
+/// Spells arguments in their brackets.
+#[cycle(spell)]
+pub fn spell_arguments<'a>(
+    given: &'a [Argument],
+    into: &mut Vec<Lexeme<'a>>,
+) -> Result<(), AllocError>
+    ensures { IfOk result (λ _. map written into.new.items ≡ map written into.old.items ++ in_list (arguments_spelling (arguments (map argument_view given.now)))) }
+{
+    push_symbol(Sym::ParenOpen, into)?;
+    let mut is_first = true;
+    'arguments: for argument in given {
+        push_if(!is_first, Sym::Comma, into)?;
+        spell_expression(&argument.value, ExprRank::Sum, into)?;
+        is_first = false;
+    }
+    push_symbol(Sym::ParenClose, into)
+}

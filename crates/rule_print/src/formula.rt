@@ -1,0 +1,180 @@
+//! How a formula is spelled.
+
+ghost use Rattle.std.specs.Prelude.{◌≡◌, ◌++◌, ◌∷◌, [], IfOk, map};
+ghost use Rattle.rule_syntax.specs.Tree.{formulas};
+ghost use Rattle.rule_syntax.specs.View.{formula_view, coll_view};
+ghost use Rattle.rule_print.specs.Canonical.{written};
+ghost use Rattle.rule_print.specs.Spelled.{formula_spelling, quantifier_spelling, coll_spelling, names_spelling, rel_symbol, operands_spelling, mark_before};
+
+use crate::expression::{spell_arguments, spell_expression};
+use crate::lexeme::{Lexeme, push, push_if, push_name, push_symbol, push_word};
+use crate::rank::{ExprRank, FormulaRank};
+use geo_tokens::token::{Keyword, Sym};
+use rule_syntax::tree::{Coll, Formula, PlacedName, QuantKind, Rel};
+use std::alloc::AllocError;
+
+fn rel_symbol(rel: Rel) -> Sym
+    ensures { result ≡ rel_symbol rel }
+{
+    match rel {
+        Rel::Lt => Sym::Less,
+        Rel::Le => Sym::LessEqual,
+        Rel::Eq => Sym::Equal,
+        Rel::Ne => Sym::NotEqual,
+        Rel::Ge => Sym::GreaterEqual,
+        Rel::Gt => Sym::Greater,
+    }
+}
+
+/// Spells the first words of a quantifier.
+fn spell_quantifier<'a>(kind: QuantKind, into: &mut Vec<Lexeme<'a>>) -> Result<(), AllocError>
+    ensures { IfOk result (λ _. map written into.new.items ≡ map written into.old.items ++ quantifier_spelling kind) }
+{
+    match kind {
+        QuantKind::ForAll => push_word(Keyword::ForAll, into),
+        QuantKind::Exists => push_word(Keyword::Exists, into),
+        QuantKind::AtLeast(n) => {
+            push_word(Keyword::AtLeast, into)?;
+            push(Lexeme::Number(u64::from(n)), into)
+        }
+        QuantKind::AtMost(n) => {
+            push_word(Keyword::AtMost, into)?;
+            push(Lexeme::Number(u64::from(n)), into)
+        }
+    }
+}
+
+/// Spells names with commas between them.
+fn spell_names<'a>(names: &'a [PlacedName], into: &mut Vec<Lexeme<'a>>) -> Result<(), AllocError>
+    ensures { IfOk result (λ _. map written into.new.items ≡ map written into.old.items ++ names_spelling names.now) }
+{
+    let mut is_first = true;
+    'names: for name in names {
+        push_if(!is_first, Sym::Comma, into)?;
+        push_name(name, into)?;
+        is_first = false;
+    }
+    Ok(())
+}
+
+fn spell_collection<'a>(coll: &'a Coll, into: &mut Vec<Lexeme<'a>>) -> Result<(), AllocError>
+    ensures { IfOk result (λ _. map written into.new.items ≡ map written into.old.items ++ coll_spelling (coll_view coll.now)) }
+{
+    match coll {
+        Coll::Objects => push_word(Keyword::Objects, into),
+        Coll::Listed(names) => {
+            push_word(Keyword::Objects, into)?;
+            push_symbol(Sym::ParenOpen, into)?;
+            spell_names(names.as_slice(), into)?;
+            push_symbol(Sym::ParenClose, into)
+        }
+        Coll::BoxesOf(name) => {
+            push_word(Keyword::Boxes, into)?;
+            push_word(Keyword::Of, into)?;
+            push_name(name, into)
+        }
+    }
+}
+
+/// Spells a formula where one of this rank may stand.
+#[cycle(spell_formula)]
+pub fn spell_formula<'a>(
+    f: &'a Formula,
+    rank: FormulaRank,
+    into: &mut Vec<Lexeme<'a>>,
+) -> Result<(), AllocError>
+    ensures { IfOk result (λ _. map written into.new.items ≡ map written into.old.items ++ formula_spelling rank (formula_view f.now)) }
+{
+    match f {
+        Formula::True(_) => push_word(Keyword::True, into),
+        Formula::False(_) => push_word(Keyword::False, into),
+        Formula::Not(_, inner) => {
+            push_word(Keyword::Not, into)?;
+            spell_formula(inner, FormulaRank::Unary, into)
+        }
+        Formula::And(_, operands) => {
+            let in_brackets = FormulaRank::Conjunction.is_looser(rank);
+            push_if(in_brackets, Sym::BracketOpen, into)?;
+            spell_operands(operands.as_slice(), Keyword::And, FormulaRank::Unary, into)?;
+            push_if(in_brackets, Sym::BracketClose, into)
+        }
+        Formula::Or(_, operands) => {
+            let in_brackets = FormulaRank::Disjunction.is_looser(rank);
+            push_if(in_brackets, Sym::BracketOpen, into)?;
+            spell_operands(
+                operands.as_slice(),
+                Keyword::Or,
+                FormulaRank::Conjunction,
+                into,
+            )?;
+            push_if(in_brackets, Sym::BracketClose, into)
+        }
+        Formula::Implies(_, first, second) => {
+            let in_brackets = FormulaRank::Implication.is_looser(rank);
+            push_if(in_brackets, Sym::BracketOpen, into)?;
+            spell_formula(first, FormulaRank::Disjunction, into)?;
+            push_word(Keyword::Implies, into)?;
+            spell_formula(second, FormulaRank::Disjunction, into)?;
+            push_if(in_brackets, Sym::BracketClose, into)
+        }
+        Formula::Iff(_, first, second) => {
+            let in_brackets = FormulaRank::Equivalence.is_looser(rank);
+            push_if(in_brackets, Sym::BracketOpen, into)?;
+            spell_formula(first, FormulaRank::Implication, into)?;
+            push_word(Keyword::Iff, into)?;
+            spell_formula(second, FormulaRank::Implication, into)?;
+            push_if(in_brackets, Sym::BracketClose, into)
+        }
+        Formula::Compare(_, left, rel, right) => {
+            spell_expression(left, ExprRank::Sum, into)?;
+            push_symbol(rel_symbol(*rel), into)?;
+            spell_expression(right, ExprRank::Sum, into)
+        }
+        Formula::Quant(_, kind, variable, coll, body) => {
+            spell_quantifier(*kind, into)?;
+            push_name(variable, into)?;
+            push_word(Keyword::In, into)?;
+            spell_collection(coll, into)?;
+            push_symbol(Sym::Colon, into)?;
+            spell_formula(body, FormulaRank::Unary, into)
+        }
+        Formula::Call(_, name, arguments) => {
+            push_symbol(Sym::At, into)?;
+            push_name(name, into)?;
+            spell_arguments(arguments.as_slice(), into)
+        }
+    }
+}
+
+/// A word, but in front of the first operand.
+fn push_mark<'a>(
+    is_first: bool,
+    mark: Keyword,
+    into: &mut Vec<Lexeme<'a>>,
+) -> Result<(), AllocError>
+    ensures { IfOk result (λ _. map written into.new.items ≡ map written into.old.items ++ mark_before is_first mark) }
+{
+    if !is_first {
+        push_word(mark, into)?;
+    }
+    Ok(())
+}
+
+/// Spells operands of this rank with a word between them.
+#[cycle(spell_formula)]
+fn spell_operands<'a>(
+    operands: &'a [Formula],
+    mark: Keyword,
+    rank: FormulaRank,
+    into: &mut Vec<Lexeme<'a>>,
+) -> Result<(), AllocError>
+    ensures { IfOk result (λ _. map written into.new.items ≡ map written into.old.items ++ operands_spelling mark rank (formulas (map formula_view operands.now))) }
+{
+    let mut is_first = true;
+    'operands: for operand in operands {
+        push_mark(is_first, mark, into)?;
+        spell_formula(operand, rank, into)?;
+        is_first = false;
+    }
+    Ok(())
+}

@@ -1,0 +1,4 @@
+pub mod Formulas
+pub mod Steps
+pub mod Limits
+pub mod Outcomes
