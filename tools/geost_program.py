@@ -1,0 +1,83 @@
+"""Running the program from the scripts of this folder."""
+
+from __future__ import annotations
+
+import argparse
+import os
+import subprocess
+from dataclasses import dataclass
+from pathlib import Path
+
+from geost_text import Placed, Problem, end_of_first_text, read_layout, read_problem
+
+TOP = Path(__file__).resolve().parent.parent
+
+ANSWERED, NO, REFUSED, BUDGET = 0, 1, 2, 3
+OUT_OF_TIME = 124
+
+
+@dataclass(frozen=True)
+class Answer:
+    """What the program printed, and its status; OUT_OF_TIME where it was stopped."""
+
+    text: str
+    status: int
+
+    def words(self) -> list[str]:
+        return self.text.split()
+
+
+class Refused(Exception):
+    """The program takes a text for no problem."""
+
+    def __init__(self, answer: Answer):
+        super().__init__(answer.text.strip())
+        self.answer = answer
+
+
+@dataclass(frozen=True)
+class Program:
+    path: str
+
+    def start(self, words: list[str]) -> subprocess.Popen[bytes]:
+        return subprocess.Popen([self.path, *words], stdin=subprocess.PIPE, stdout=subprocess.PIPE)
+
+    def ask(self, words: list[str], text: bytes, seconds: float | None = None) -> Answer:
+        process = self.start(words)
+        try:
+            printed, _ = process.communicate(text, seconds)
+        except subprocess.TimeoutExpired:
+            process.kill()
+            process.communicate()
+            return Answer("", OUT_OF_TIME)
+        return Answer(printed.decode("ascii"), process.returncode)
+
+    def shown(self, text: bytes) -> Problem:
+        """The problem that the program reads in a text, from what it shows of it."""
+        answer = self.ask(["show"], text)
+        if answer.status != ANSWERED:
+            raise Refused(answer)
+        return read_problem(answer.text.encode())
+
+    def judge(self, problem: str, layout: str) -> Answer:
+        return self.ask(["judge"], (problem + layout).encode())
+
+
+def layout_of(answer: Answer) -> list[Placed]:
+    return read_layout(answer.text.encode())
+
+
+def token_line(answer: Answer) -> str:
+    return answer.text.splitlines()[-1]
+
+
+def first_text(text: bytes) -> bytes:
+    return text[: end_of_first_text(text)]
+
+
+def add_program_option(parser: argparse.ArgumentParser) -> None:
+    parser.add_argument(
+        "--program",
+        default=os.environ.get("GEOST_PROGRAM", str(TOP / "geost")),
+        help="the program to run (default: the variable GEOST_PROGRAM, else ./geost of this repository)",
+    )

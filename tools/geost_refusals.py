@@ -1,0 +1,568 @@
+"""What a refusal of the program means: the line and column, the sentence of docs/FORMAT.md, and what may be meant."""
+
+from __future__ import annotations
+
+import difflib
+from dataclasses import dataclass
+from functools import cached_property
+
+from geost_program import TOP
+from geost_text import (
+    RESERVED,
+    Call,
+    Chain,
+    Expr,
+    Extreme,
+    FieldOf,
+    Formula,
+    Problem,
+    Reader,
+    TextFault,
+    Token,
+    all_parts,
+    print_expr,
+    read_tokens,
+)
+
+STATEMENTS = ("shape", "object", "order", "sides", "macro", "rule")
+SPOKEN_BYTES = {
+    "&": "write `and`",
+    "|": "write `or`",
+    "!": "write `not`, or `!=`",
+    "%": "write `mod`",
+    "~": "write `not`",
+    "^": "a power has to be written as a product of numbers",
+    "{": "the brackets of formulas are `[ ]`, those of expressions `( )`",
+    "}": "the brackets of formulas are `[ ]`, those of expressions `( )`",
+    '"': "names stand without quotes",
+    "'": "names stand without quotes",
+    "\\": "a statement may go on in the next line without a mark",
+    "?": "names are made of letters, digits and `_`",
+}
+
+
+# The tables of docs/FORMAT.md
+
+
+@dataclass(frozen=True)
+class Row:
+    """A line of a table: the phase, the words, where such a fault is, and what to do."""
+
+    phase: str
+    words: tuple[str, ...]
+    where: str
+    advice: str
+
+
+def read_rows(document: str) -> tuple[list[Row], list[Row]]:
+    """The rows of the two tables of refusals: those of a problem and those of a layout."""
+    section = document[document.index("## When a text is refused") :]
+    problem: list[Row] = []
+    layout: list[Row] = []
+    phase = ""
+    for line in section.splitlines():
+        cells = [cell.strip() for cell in line.strip().strip("|").split(" | ")]
+        if not line.startswith("| ") or "Word" in cells:
+            continue
+        if line.startswith("| |"):
+            cells = ["", *[cell for cell in cells if cell]][-4:]
+        if len(cells) == 4:
+            phase = cells[0].lstrip("| ").strip() or phase
+            problem.append(Row(phase, words_in(cells[1]), cells[2], cells[3]))
+        elif len(cells) == 3:
+            layout.append(Row("layout", words_in(cells[0]), cells[1], cells[2]))
+    return problem, layout
+
+
+def words_in(cell: str) -> tuple[str, ...]:
+    return tuple(part.strip(" `|") for part in cell.split(","))
+
+
+def format_rows() -> tuple[list[Row], list[Row]]:
+    return read_rows((TOP / "docs" / "FORMAT.md").read_text(encoding="utf-8"))
+
+
+# Where a fault is
+
+
+@dataclass(frozen=True)
+class Source:
+    """A file with its bytes, and how many bytes of the whole input stand before it."""
+
+    name: str
+    text: bytes
+    before: int = 0
+
+
+@dataclass(frozen=True)
+class Spot:
+    """A place in a file: line and column from 1, the column counted in characters, and the line."""
+
+    file: str
+    line: int
+    column: int
+    content: str
+
+    def caret(self, width: int) -> str:
+        """A line that marks so many characters under the line of the spot, tabs kept as they are."""
+        lead = "".join("\t" if sign == "\t" else " " for sign in self.content[: self.column - 1])
+        return lead + "^" * max(1, min(width, len(self.content) - self.column + 1))
+
+
+def spot_of(source: Source, place: int) -> Spot:
+    text, at = source.text, place - source.before
+    begin = text.rfind(b"\n", 0, at) + 1
+    end = text.find(b"\n", at)
+    content = decoded(text[begin : len(text) if end < 0 else end]).rstrip("\r")
+    return Spot(source.name, text.count(b"\n", 0, at) + 1, len(decoded(text[begin:at])) + 1, content)
+
+
+def decoded(text: bytes) -> str:
+    return text.decode("utf-8", errors="replace")
+
+
+@dataclass(frozen=True)
+class Refusal:
+    """A refusal in one of the two texts, with the tokens of that text and the number of the token at the place."""
+
+    word: str
+    source: Source
+    at: int
+    problem: bytes
+    is_layout: bool
+
+    @cached_property
+    def tokens(self) -> list[Token]:
+        return read_tokens(self.source.text, strict=False)
+
+    @cached_property
+    def index(self) -> int:
+        """The number of the first token that begins at the place or behind it."""
+        return next((number for number, token in enumerate(self.tokens) if token.start >= self.at), len(self.tokens))
+
+    @property
+    def token(self) -> str:
+        return self.tokens[self.index].text if self.index < len(self.tokens) and self.tokens[self.index].start == self.at else ""
+
+    def before(self, steps: int = 1) -> str:
+        return self.tokens[self.index - steps].text if self.index >= steps else ""
+
+    def after(self, steps: int = 1) -> str:
+        return self.tokens[self.index + steps].text if self.index + steps < len(self.tokens) else ""
+
+    @cached_property
+    def first(self) -> int:
+        """The number of the first token of the statement."""
+        at = self.index
+        while at > 0 and self.tokens[at - 1].text != ";" and at > 4:
+            at -= 1
+        return at
+
+    @property
+    def statement(self) -> str:
+        """The word with which the statement begins."""
+        return self.tokens[self.first].text if self.first < len(self.tokens) else ""
+
+    def made(self, word: str) -> list[str]:
+        """The names behind such a word at the beginning of a statement, in the sequence of the problem."""
+        tokens = read_tokens(self.problem, strict=False)
+        starts = [n for n, token in enumerate(tokens) if token.text == word and (n == 4 or n > 4 and tokens[n - 1].text == ";")]
+        return [tokens[n + 1].text for n in starts if n + 1 < len(tokens)]
+
+    def attributes(self) -> list[str]:
+        tokens = read_tokens(self.problem, strict=False)
+        found: list[str] = []
+        inside = False
+        for token, behind in zip(tokens, tokens[1:]):
+            inside = (inside or token.text == "with") and token.text != ";"
+            if inside and token.kind == "name" and behind.text == "=":
+                found.append(token.text)
+        return list(dict.fromkeys(found))
+
+    def variables(self) -> list[str]:
+        """The variables and parameters that this statement has up to the place."""
+        before = self.tokens[self.first : self.index]
+        pairs = list(zip(before, before[1:]))
+        quantified = [name.text for name, mark in pairs if name.kind == "name" and mark.text == "in"]
+        parameters = [name.text for name, mark in pairs[2:] if name.kind == "name" and mark.text == ":" and self.statement == "macro"]
+        return list(dict.fromkeys(quantified + parameters))
+
+    def dims(self) -> int:
+        tokens = read_tokens(self.problem, strict=False)
+        return int(tokens[3].text) if len(tokens) > 3 and tokens[3].kind == "number" else 0
+
+
+# Which row of the table a refusal belongs to
+
+
+def row_of(refusal: Refusal, rows: tuple[list[Row], list[Row]]) -> Row:
+    fitting = [row for row in rows[1 if refusal.is_layout else 0] if refusal.word in row.words]
+    needle = "" if refusal.is_layout else needle_of(refusal)
+    named = next((row for row in fitting if needle in row.where), fitting[0])
+    if "as above" in named.where:
+        return row_of(Refusal(refusal.word, refusal.source, refusal.at, refusal.problem, False), rows)
+    return named
+
+
+def needle_of(refusal: Refusal) -> str:
+    """Words of the row that is meant, where a word has several."""
+    if refusal.word == "limit":
+        return limit_needle(refusal)
+    if refusal.word == "twice":
+        return "that `objects ( )` has" if is_in_collection(refusal) else "a name that its list has"
+    if refusal.word == "unknown":
+        if refusal.statement in ("object", "order"):
+            return "a shape behind `as`"
+        return "a field that" if refusal.before() == "." else "in a formula: a name"
+    return ""
+
+
+def limit_needle(refusal: Refusal) -> str:
+    if refusal.index < 4:
+        return "a version that is not 1"
+    if refusal.before() in ("div", "mod"):
+        return "the number behind `div`"
+    if refusal.token == "box" or refusal.tokens[refusal.index].kind == "name":
+        return "a name past its limit"
+    if refusal.before() in ("box", "size", "at", "within", "sides") and members(refusal) != refusal.dims():
+        return "the first token of offsets"
+    return "an end of a range or an offset"
+
+
+def members(refusal: Refusal) -> int:
+    """How many numbers, ranges or sides stand from the place on."""
+    count = 0
+    last = ".."
+    for token in refusal.tokens[refusal.index :]:
+        if token.text in ("low", "high") or token.kind == "number" and last != "..":
+            count += 1
+        elif token.kind == "number" and count == 0:
+            count = 1
+        elif token.kind != "number" and token.text not in ("-", ".."):
+            break
+        last = token.text if token.text != "-" else last
+    return count
+
+
+def is_in_collection(refusal: Refusal) -> bool:
+    at = refusal.index - 1
+    while at > 0 and (refusal.tokens[at].kind == "name" or refusal.tokens[at].text == ","):
+        at -= 1
+    return at > 0 and refusal.tokens[at].text == "(" and refusal.tokens[at - 1].text == "objects"
+
+
+# What may be meant
+
+
+def near(name: str, others: list[str]) -> list[str]:
+    return difflib.get_close_matches(name, [other for other in others if other != name], n=3, cutoff=0.6)
+
+
+def did_you_mean(name: str, others: list[str]) -> list[str]:
+    found = near(name, others)
+    if found:
+        return ["did you mean " + " or ".join(f"`{other}`" for other in found) + "?"]
+    return []
+
+
+def listed(title: str, names: list[str], most: int = 12) -> list[str]:
+    if not names:
+        return [f"{title}: none"]
+    shown = ", ".join(f"`{name}`" for name in names[:most])
+    return [f"{title}: {shown}" + (f" and {len(names) - most} more" if len(names) > most else "")]
+
+
+def hints(refusal: Refusal) -> list[str]:
+    """Lines that say what stands there, what may stand there, and what may be meant."""
+    finders = LAYOUT_HINTS if refusal.is_layout and refusal.word in LAYOUT_HINTS else PROBLEM_HINTS
+    return finders[refusal.word](refusal) if refusal.word in finders else []
+
+
+def byte_hints(refusal: Refusal) -> list[str]:
+    rest = decoded(refusal.source.text[refusal.at : refusal.at + 4])
+    sign = rest[:1]
+    if sign in SPOKEN_BYTES:
+        return [f"`{sign}` is no symbol: {SPOKEN_BYTES[sign]}"]
+    if sign.isalpha():
+        return [f"`{sign}` is no letter of names: they are made of a to z, A to Z, digits and `_`; it may stand in a comment"]
+    return [f"`{sign}` may stand in a comment alone"] if sign.isprintable() else []
+
+
+def number_hints(refusal: Refusal) -> list[str]:
+    word = refusal.token
+    behind = refusal.after() if refusal.index + 1 < len(refusal.tokens) and refusal.tokens[refusal.index + 1].start == refusal.at + len(word) else ""
+    if behind:
+        return [f"`{word}{behind}` is neither a number nor a name: a name begins with a letter or `_`, such as `_{word}{behind}`; units are not written"]
+    return [f"{word} is above 1000000000"]
+
+
+def name_hints(refusal: Refusal) -> list[str]:
+    return [f"the name has {len(refusal.token)} bytes"]
+
+
+def syntax_hints(refusal: Refusal) -> list[str]:
+    fault = syntax_fault(refusal)
+    lines: list[str] = []
+    if fault is None or fault.place != refusal.at:
+        return lines
+    expected = [word.strip("`") for word in fault.expected]
+    token = refusal.token
+    lines.append("here may stand " + ", ".join(fault.expected))
+    if token in RESERVED and "a name" in expected:
+        lines.append(f"`{token}` is a reserved word and no name")
+    elif token and token not in expected:
+        lines.extend(did_you_mean(token, [word for word in expected if word.isalpha()]))
+    if ";" in expected and (token in STATEMENTS or token == "end"):
+        lines.append("the statement before is not ended: a `;` is missing behind " + f"`{refusal.before()}`")
+    lines.extend(habit_hints(refusal, expected))
+    return lines
+
+
+def habit_hints(refusal: Refusal, expected: list[str]) -> list[str]:
+    """What people write who are used to other languages."""
+    token, before = refusal.token, refusal.before()
+    if token == "=" and before in ("=", "<", ">"):
+        return ["`=`, `<=` and `>=` are each one mark, without white space in it"]
+    if token == ">" and before == "<":
+        return ["write `!=`"]
+    if token == ">" and before in ("=", "-"):
+        return ["write `implies`"]
+    if token == "/":
+        return ["write `div`, or begin a comment with `#`"]
+    if token == "(" and "[" in expected:
+        return ["the brackets of formulas are `[ ]`; `( )` are those of expressions"]
+    if token in ("and", "or", "implies", "iff", "]") and "<=" in expected:
+        return ["a formula compares: an expression alone is none"]
+    if token == "[":
+        return ["`[ ]` are the brackets of formulas; expressions have `( )`"]
+    if token == "-" and ".." in expected:
+        return ["a range is written with `..`, such as `0..9`"]
+    return []
+
+
+def syntax_fault(refusal: Refusal) -> TextFault | None:
+    """The fault of the grammar as the reader of these scripts finds it."""
+    reader = Reader(refusal.tokens, len(refusal.source.text))
+    try:
+        reader.layout() if refusal.is_layout else reader.problem()
+        reader.finish()
+    except TextFault as fault:
+        return fault
+    return None
+
+
+def unknown_hints(refusal: Refusal) -> list[str]:
+    name, before = refusal.token, refusal.before()
+    if refusal.statement == "object" or before == "shape":
+        return did_you_mean(name, refusal.made("shape")) or listed("shapes", refusal.made("shape"))
+    if refusal.statement == "order" or is_in_collection(refusal):
+        return did_you_mean(name, refusal.made("object")) or listed("objects", refusal.made("object"))
+    if before == ".":
+        return field_hints(refusal)
+    if before in ("@", "$"):
+        return macro_hints(refusal)
+    if name in refusal.variables():
+        return [
+            f"`{name}` is in sight in the body of its quantifier alone, which has ended here: put a compound body in `[ ]`",
+        ]
+    return did_you_mean(name, refusal.variables() + refusal.made("object")) or listed("objects", refusal.made("object"))
+
+
+def field_hints(refusal: Refusal) -> list[str]:
+    places = range(1, refusal.dims() + 1)
+    of_objects = ["id", "sid", *(f"x{place}" for place in places), *refusal.attributes()]
+    of_boxes = [f"{letter}{place}" for letter in "tl" for place in places]
+    meant = did_you_mean(refusal.token, of_objects + of_boxes)
+    return meant + listed("fields of objects", of_objects) + listed("fields of boxes", of_boxes)
+
+
+def macro_hints(refusal: Refusal) -> list[str]:
+    names = refusal.made("macro")
+    if refusal.token in names:
+        return [f"the macro `{refusal.token}` is made further down, or is this one: put its statement above"]
+    return did_you_mean(refusal.token, names) or listed("macros", names)
+
+
+def twice_hints(refusal: Refusal) -> list[str]:
+    token = refusal.token
+    if token in ("id", "sid") or len(token) == 2 and token[0] == "x" and token[1] in "123456789":
+        return [f"every object has the field `{token}` anyway"]
+    if token in STATEMENTS:
+        earlier = [n for n in range(4, refusal.index) if refusal.tokens[n].text == token and refusal.tokens[n - 1].text in (";", refusal.tokens[3].text)]
+    else:
+        earlier = [n for n in range(refusal.index) if refusal.tokens[n].text == token and is_same_list(refusal, n)]
+    if not earlier:
+        return []
+    spot = spot_of(refusal.source, refusal.tokens[earlier[0]].start)
+    return [f"`{token}` stands first in line {spot.line}, column {spot.column}"]
+
+
+def is_same_list(refusal: Refusal, at: int) -> bool:
+    """Whether the token at this number may belong to the list of the token at the place."""
+    if refusal.before() in STATEMENTS:
+        return refusal.tokens[at - 1].text == refusal.before()
+    return at >= refusal.first
+
+
+def kind_hints(refusal: Refusal) -> list[str]:
+    token = refusal.token
+    if token in ("@", "$"):
+        other = "$" if token == "@" else "@"
+        return [f"`{refusal.after()}` is called with `{other}`: `@` is for macros with `means`, `$` for those with `is`"]
+    if token == ".":
+        return [f"`{refusal.before()}` is a number and has no fields"]
+    if refusal.before() == "of":
+        return listed("objects", refusal.made("object"))
+    if token in refusal.made("object") + refusal.variables():
+        return [f"`{token}` alone is no number here; a field of it may be meant, such as `{token}.x1`"]
+    return []
+
+
+def args_hints(refusal: Refusal) -> list[str]:
+    tokens = read_tokens(refusal.problem, strict=False)
+    name = refusal.after()
+    for at, token in enumerate(tokens[:-1]):
+        if token.text == "macro" and tokens[at + 1].text == name:
+            end = next(n for n in range(at, len(tokens)) if tokens[n].text == ")")
+            return [f"it is made as `{' '.join(part.text for part in tokens[at : end + 1])}`"]
+    return []
+
+
+def limit_hints(refusal: Refusal) -> list[str]:
+    needle = limit_needle(refusal)
+    if needle.startswith("the first token"):
+        return [f"{members(refusal)} stand there, and {refusal.dims()} are wanted: one for each dimension"]
+    if needle.startswith("a version"):
+        return ["a text begins with `geost 1 dims K`, where K is 1 to 4"]
+    return []
+
+
+def range_hints(refusal: Refusal) -> list[str]:
+    text = "".join(token.text for token in refusal.tokens[refusal.index : refusal.index + 5])
+    low, _, rest = text.partition("..")
+    high = rest[: 1 + len(rest[1:]) - len(rest[1:].lstrip("0123456789"))]
+    return [f"`{high}..{low}` may be meant"]
+
+
+def order_hints(refusal: Refusal) -> list[str]:
+    end = next((n for n in range(refusal.index, len(refusal.tokens)) if refusal.tokens[n].text == ";"), len(refusal.tokens))
+    listed_names = {token.text for token in refusal.tokens[refusal.index : end]}
+    return listed("it leaves out", [name for name in refusal.made("object") if name not in listed_names])
+
+
+def product_hints(refusal: Refusal) -> list[str]:
+    made = parsed_problem(refusal)
+    rule = next((rule for rule in made.rules if rule.name == refusal.token), None) if made else None
+    if rule is None or not hasattr(rule.body, "__match_args__"):
+        return []
+    bodies = [rule.body, *(macro.body for macro in made.macros)] if made else []
+    bad = [part for body in bodies for part in all_parts(body) if multiplies(part)]  # type: ignore[arg-type]
+    return [f"see `{print_expr(part)}`" for part in bad[:3]]  # type: ignore[arg-type]
+
+
+def parsed_problem(refusal: Refusal) -> Problem | None:
+    try:
+        return Reader(read_tokens(refusal.problem), len(refusal.problem)).problem()
+    except TextFault:
+        return None
+
+
+def has_coordinate(part: Formula | Expr) -> bool:
+    fields = [found for found in all_parts(part) if isinstance(found, FieldOf)]
+    return any(len(found.name) == 2 and found.name[0] == "x" and found.name[1].isdigit() for found in fields)
+
+
+def multiplies(part: Formula | Expr) -> bool:
+    """Whether this part multiplies coordinates or has them where only numbers may stand, as far as it is seen without its calls."""
+    if isinstance(part, Extreme):
+        return has_coordinate(part)
+    if not isinstance(part, Chain) or part.steps[0][0] in "+-":
+        return False
+    factors = [part.first, *(factor for _, factor in part.steps)]
+    divides = any(mark != "*" for mark, _ in part.steps)
+    return sum(map(has_coordinate, factors)) > 1 or divides and has_coordinate(part.first)
+
+
+def layout_order_hints(refusal: Refusal) -> list[str]:
+    names = refusal.made("object")
+    before = [n for n in range(refusal.index) if refusal.tokens[n].text == "as"]
+    if len(before) < len(names):
+        return [f"the line of `{names[len(before)]}` has to stand here: one line for each object, in the sequence of the problem"]
+    return [f"the problem has {len(names)} objects, and each has its line already"]
+
+
+def layout_object(refusal: Refusal) -> str:
+    """The object in whose line the place is."""
+    return next((refusal.tokens[n - 1].text for n in range(refusal.index, 0, -1) if n < len(refusal.tokens) and refusal.tokens[n].text == "as"), "")
+
+
+def layout_unknown_hints(refusal: Refusal) -> list[str]:
+    made = parsed_problem(refusal)
+    if made is None:
+        return []
+    shapes = list(made.object(layout_object(refusal)).shapes)
+    return did_you_mean(refusal.token, shapes) + listed(f"shapes of `{layout_object(refusal)}`", shapes)
+
+
+def layout_range_hints(refusal: Refusal) -> list[str]:
+    made = parsed_problem(refusal)
+    if made is None:
+        return []
+    start = next(n for n in range(refusal.index, 0, -1) if refusal.tokens[n].text == "at")
+    dimension = sum(token.kind == "number" for token in refusal.tokens[start : refusal.index])
+    low, high = made.object(layout_object(refusal)).ranges[dimension]
+    return [f"x{dimension + 1} of `{layout_object(refusal)}` lies in {low}..{high}"]
+
+
+PROBLEM_HINTS = {
+    "byte": byte_hints,
+    "number": number_hints,
+    "name": name_hints,
+    "syntax": syntax_hints,
+    "limit": limit_hints,
+    "twice": twice_hints,
+    "unknown": unknown_hints,
+    "range": range_hints,
+    "order": order_hints,
+    "kind": kind_hints,
+    "args": args_hints,
+    "product": product_hints,
+}
+LAYOUT_HINTS = {
+    "order": layout_order_hints,
+    "unknown": layout_unknown_hints,
+    "limit": lambda refusal: [f"{refusal.dims()} coordinates are wanted: one for each dimension"],
+    "range": layout_range_hints,
+    "token": lambda refusal: [],
+}
+
+
+def explain_refusal(word: str, place: int, sources: list[Source], layout_from: int | None) -> list[str]:
+    """The lines that explain a refusal. The sources are the files of the input in their sequence; where the input has a layout, it begins
+    at the place `layout_from`."""
+    whole = b"".join(source.text for source in sources)
+    refusal = refusal_of(word, place, whole, layout_from)
+    spot = spot_of(source_at(sources, place), place)
+    row = row_of(refusal, format_rows())
+    return [
+        f"{spot.file}:{spot.line}:{spot.column}: {word}",
+        "    " + spot.content,
+        "    " + spot.caret(len(refusal.token)),
+        f"this is: {row.where}",
+        f"what to do: {row.advice}",
+        *hints(refusal),
+    ]
+
+
+def refusal_of(word: str, place: int, whole: bytes, layout_from: int | None) -> Refusal:
+    if layout_from is None:
+        return Refusal(word, Source("", whole), place, whole, False)
+    problem = whole[:layout_from]
+    if place < layout_from:
+        return Refusal(word, Source("", problem), place, problem, False)
+    return Refusal(word, Source("", whole[layout_from:], layout_from), place - layout_from, problem, True)
+
+
+def source_at(sources: list[Source], place: int) -> Source:
+    """The file in which the byte at this place stands; the last one for the end of the input."""
+    return next((source for source in sources if place < source.before + len(source.text)), sources[-1])

@@ -1,0 +1,61 @@
+"""What the tests of the scripts are made of."""
+
+from __future__ import annotations
+
+import subprocess
+import sys
+from collections.abc import Callable, Iterator
+from dataclasses import dataclass
+from pathlib import Path
+
+TOOLS = Path(__file__).resolve().parent.parent
+TOP = TOOLS.parent
+sys.path.insert(0, str(TOOLS))
+
+from geost_program import Program  # noqa: E402
+
+
+class Skipped(Exception):
+    """A test that this machine or this program cannot run, with the reason."""
+
+
+class Failed(Exception):
+    """A test that failed, with what was wanted and what came."""
+
+
+@dataclass(frozen=True)
+class Case:
+    """A named test. It returns where it passes, and raises Failed or Skipped else."""
+
+    name: str
+    run: Callable[[], None]
+
+
+@dataclass(frozen=True)
+class Setting:
+    """The program that is tested, and whether long measurements are wanted."""
+
+    program: Program
+    long: bool
+    processors: int
+
+
+Cases = Iterator[Case]
+
+
+def want(given: object, wanted: object, what: str) -> None:
+    if given != wanted:
+        raise Failed(f"{what}: {given!r} in place of {wanted!r}")
+
+
+def want_in(part: str, text: str) -> None:
+    if part not in text:
+        raise Failed(f"{part!r} does not stand in\n{text}")
+
+
+def run_tool(name: str, setting: Setting, arguments: list[str], text: bytes | str = b"") -> tuple[str, int]:
+    """What a script prints on both streams, and its status."""
+    given = text.encode() if isinstance(text, str) else text
+    command = [sys.executable, str(TOOLS / name), "--program", setting.program.path, *arguments]
+    done = subprocess.run(command, input=given, stdout=subprocess.PIPE, stderr=subprocess.STDOUT)
+    return done.stdout.decode(), done.returncode
