@@ -81,11 +81,11 @@ IsAnswered WriteFault = ⊥
 IsAnswered Memory = ⊥
 IsAnswered status = Unit {0}
 
-pub ends_given : (answer : List ℕ → List ℕ → Status → Type 0) (begins : List ℕ → List ℕ → Type 0) (left : Option (List ℕ)) (r0 r1 : ℕ) (w0 w1 : Option (List ℕ)) (f0 f1 : ℕ) (status : Status) → IsAnswered status → Gave answer left w0 w1 status → Ends answer begins left r0 r1 w0 w1 f0 f1 status
-ends_given answer begins left r0 r1 w0 w1 f0 f1 ReadFault i g = absurd i
-ends_given answer begins left r0 r1 w0 w1 f0 f1 WriteFault i g = absurd i
-ends_given answer begins left r0 r1 w0 w1 f0 f1 Memory i g = absurd i
-ends_given answer begins left r0 r1 w0 w1 f0 f1 _ i g = g
+pub ends_given : (answer : List ℕ → List ℕ → Status → Type 0) (begins : List ℕ → List ℕ → Type 0) (left : Option (List ℕ)) (r0 r1 : ℕ) (w0 w1 : Option (List ℕ)) (f0 f1 : ℕ) (status : Status) → IsAnswered status → r1 ≡ r0 → f1 ≡ f0 → Gave answer left w0 w1 status → Ends answer begins left r0 r1 w0 w1 f0 f1 status
+ends_given answer begins left r0 r1 w0 w1 f0 f1 ReadFault i r f g = absurd i
+ends_given answer begins left r0 r1 w0 w1 f0 f1 WriteFault i r f g = absurd i
+ends_given answer begins left r0 r1 w0 w1 f0 f1 Memory i r f g = absurd i
+ends_given answer begins left r0 r1 w0 w1 f0 f1 _ i r f g = (r, f, g)
 
 -- A command's way to end is one of the program's, since its answers are.
 front_as : (a b : List ℕ → List ℕ → Type 0) (left w0 w1 : Option (List ℕ)) → ((i t : List ℕ) → a i t → b i t) → WroteFront a left w0 w1 → WroteFront b left w0 w1
@@ -98,9 +98,9 @@ gave_as a b left w0 w1 s f h = record { input = h.input; text = h.text; told = h
 pub ends_as : (a b : List ℕ → List ℕ → Status → Type 0) (p q : List ℕ → List ℕ → Type 0) (left : Option (List ℕ)) (r0 r1 : ℕ) (w0 w1 : Option (List ℕ)) (f0 f1 : ℕ) (status : Status) → ((i t : List ℕ) (s : Status) → a i t s → b i t s) → ((i t : List ℕ) → p i t → q i t) →
     Ends a p left r0 r1 w0 w1 f0 f1 status → Ends b q left r0 r1 w0 w1 f0 f1 status
 ends_as a b p q left r0 r1 w0 w1 f0 f1 ReadFault f g h = h
-ends_as a b p q left r0 r1 w0 w1 f0 f1 WriteFault f g h = (h.0, front_as p q left w0 w1 g h.1)
-ends_as a b p q left r0 r1 w0 w1 f0 f1 Memory f g h = front_as p q left w0 w1 g h
-ends_as a b p q left r0 r1 w0 w1 f0 f1 status f g h = gave_as a b left w0 w1 status f h
+ends_as a b p q left r0 r1 w0 w1 f0 f1 WriteFault f g h = (h.0, h.1, front_as p q left w0 w1 g h.2)
+ends_as a b p q left r0 r1 w0 w1 f0 f1 Memory f g h = (h.0, h.1, front_as p q left w0 w1 g h.2)
+ends_as a b p q left r0 r1 w0 w1 f0 f1 status f g h = (h.0, h.1, gave_as a b left w0 w1 status f h.2)
 
 pub ends_command : (words : List (List ℕ)) (command : Command) (left : Option (List ℕ)) (r0 r1 : ℕ) (w0 w1 : Option (List ℕ)) (f0 f1 : ℕ) (status : Status) → HasForm words command →
     Ends (AnswerTo command) (BeginsOf command) left r0 r1 w0 w1 f0 f1 status → Ends (Answer words) (Begins words) left r0 r1 w0 w1 f0 f1 status
@@ -125,9 +125,10 @@ began_bad words left w0 w1 none (front, back, is, bytes) = inr (record {
 
 -- words that have no form
 pub ends_unread : (words : List (List ℕ)) (left : Option (List ℕ)) (r : ℕ) (w0 w1 : Option (List ℕ)) (f0 f1 : ℕ) (status : Status) → HasNoForm words → EndsUnread w0 w1 f0 f1 status → Ends (Answer words) (Begins words) left r r w0 w1 f0 f1 status
-ends_unread words left r w0 w1 f0 f1 BadWords none h = record { input = (some_input left).0; text = codes "bad words\n"; told = (some_input left).1; answers = inr (no_form words none); bytes = h }
-ends_unread words left r w0 w1 f0 f1 WriteFault none (rose, h) = (rose, began_bad words left w0 w1 none h)
-ends_unread words left r w0 w1 f0 f1 Memory none h = began_bad words left w0 w1 none h
+ends_unread words left r w0 w1 f0 f1 BadWords none h =
+    (refl, h.0, record { input = (some_input left).0; text = codes "bad words\n"; told = (some_input left).1; answers = inr (no_form words none); bytes = h.1 })
+ends_unread words left r w0 w1 f0 f1 WriteFault none (rose, h) = (refl, rose, began_bad words left w0 w1 none h)
+ends_unread words left r w0 w1 f0 f1 Memory none (same, h) = (refl, same, began_bad words left w0 w1 none h)
 ends_unread words left r w0 w1 f0 f1 _ none h = absurd h
 
 is_answered : (d : Decision) → IsAnswered (decision_status d)
@@ -142,18 +143,19 @@ is_answered (decisions.Broken p i) = tt
 gave_text : (R : List ℕ → List ℕ → Type 0) (answer : List ℕ → List ℕ → Status → Type 0) (left w0 w1 : Option (List ℕ)) (text out : List ℕ) (status : Status) → Lifts R answer → WasRead R left text → answer text out status → Appends w0 w1 out → Gave answer left w0 w1 status
 gave_text R answer left w0 w1 text out status lifts (input, told, h) a bytes = record { input = input; text = out; told = told; answers = lifts input text out status h a; bytes = bytes }
 
-given : (R : List ℕ → List ℕ → Type 0) (answer : List ℕ → List ℕ → Status → Type 0) (left : Option (List ℕ)) (r0 r1 : ℕ) (w0 w1 : Option (List ℕ)) (f0 f1 : ℕ) (text : List ℕ) (d : Decision) (result : Status) → Lifts R answer → WasRead R left text
-    → answer text (decision_text d) (decision_status d) → (result ≡ decision_status d) × Appends w0 w1 (decision_text d) → Ends answer (FrontOf answer) left r0 r1 w0 w1 f0 f1 result
-given R answer left r0 r1 w0 w1 f0 f1 text d result lifts h a (same, bytes) =
+given : (R : List ℕ → List ℕ → Type 0) (answer : List ℕ → List ℕ → Status → Type 0) (left : Option (List ℕ)) (r0 r1 : ℕ) (w0 w1 : Option (List ℕ)) (f0 f1 : ℕ) (text : List ℕ) (d : Decision) (result : Status) → Lifts R answer → WasRead R left text → r1 ≡ r0
+    → answer text (decision_text d) (decision_status d) → (f1 ≡ f0) × (result ≡ decision_status d) × Appends w0 w1 (decision_text d) → Ends answer (FrontOf answer) left r0 r1 w0 w1 f0 f1 result
+given R answer left r0 r1 w0 w1 f0 f1 text d result lifts h r a (f, same, bytes) =
     subst (λ (x : Status). Ends answer (FrontOf answer) left r0 r1 w0 w1 f0 f1 x) (sym same)
-    (ends_given answer (FrontOf answer) left r0 r1 w0 w1 f0 f1 (decision_status d) (is_answered d) (gave_text R answer left w0 w1 text (decision_text d) (decision_status d) lifts h a bytes))
+    (ends_given answer (FrontOf answer) left r0 r1 w0 w1 f0 f1 (decision_status d) (is_answered d) r f (gave_text R answer left w0 w1 text (decision_text d) (decision_status d) lifts h a bytes))
 
 -- a command that has decided, and wrote what it decided
-pub ends_text : (R : List ℕ → List ℕ → Type 0) (answer : List ℕ → List ℕ → Status → Type 0) (left : Option (List ℕ)) (r0 r1 : ℕ) (w0 w1 : Option (List ℕ)) (f0 f1 : ℕ) (text seen : List ℕ) (d : Decision) (result : Status) → Lifts R answer → WasRead R left text → seen ≡ text
+pub ends_text : (R : List ℕ → List ℕ → Type 0) (answer : List ℕ → List ℕ → Status → Type 0) (left : Option (List ℕ)) (r0 r1 : ℕ) (w0 w1 : Option (List ℕ)) (f0 f1 : ℕ) (text seen : List ℕ) (d : Decision) (result : Status) → Lifts R answer → WasRead R left text → r1 ≡ r0 → seen ≡ text
     → answer seen (decision_text d) (decision_status d) → Finishes (decision_text d) (decision_status d) w0 w1 f0 f1 result → Ends answer (FrontOf answer) left r0 r1 w0 w1 f0 f1 result
-ends_text R answer left r0 r1 w0 w1 f0 f1 text seen d WriteFault lifts h e a f = (f.0, began R answer left w0 w1 text (decision_text d) (decision_status d) lifts h (subst (λ (t : List ℕ). answer t (decision_text d) (decision_status d)) e a) f.1)
-ends_text R answer left r0 r1 w0 w1 f0 f1 text seen d Memory lifts h e a f = began R answer left w0 w1 text (decision_text d) (decision_status d) lifts h (subst (λ (t : List ℕ). answer t (decision_text d) (decision_status d)) e a) f
-ends_text R answer left r0 r1 w0 w1 f0 f1 text seen d status lifts h e a f = given R answer left r0 r1 w0 w1 f0 f1 text d status lifts h (subst (λ (t : List ℕ). answer t (decision_text d) (decision_status d)) e a) f
+ends_text R answer left r0 r1 w0 w1 f0 f1 text seen d WriteFault lifts h r e a f = (r, f.0, began R answer left w0 w1 text (decision_text d) (decision_status d) lifts h (subst (λ (t : List ℕ). answer t (decision_text d) (decision_status d)) e a) f.1)
+ends_text R answer left r0 r1 w0 w1 f0 f1 text seen d Memory lifts h r e a f =
+    (r, f.0, began R answer left w0 w1 text (decision_text d) (decision_status d) lifts h (subst (λ (t : List ℕ). answer t (decision_text d) (decision_status d)) e a) f.1)
+ends_text R answer left r0 r1 w0 w1 f0 f1 text seen d status lifts h r e a f = given R answer left r0 r1 w0 w1 f0 f1 text d status lifts h r (subst (λ (t : List ℕ). answer t (decision_text d) (decision_status d)) e a) f
 
 -- a tuple has the form of one
 pub shaped_tuple : (p : ProblemData) (t : Tuple) → IsTuple p t → IsShaped p t

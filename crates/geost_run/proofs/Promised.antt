@@ -77,10 +77,10 @@ complete words c input left r0 r1 w0 w1 f0 f1 No form told a no_read no_write h 
 complete words c input left r0 r1 w0 w1 f0 f1 Budget form told a no_read no_write h = inr (inr (inl refl))
 complete words c input left r0 r1 w0 w1 f0 f1 Memory form told a no_read no_write h = inr (inr (inr refl))
 complete words c input left r0 r1 w0 w1 f0 f1 ReadFault form told a no_read no_write h = absurd (no_read h.0)
-complete words c input left r0 r1 w0 w1 f0 f1 WriteFault form told a no_read no_write h = absurd (no_write h.0)
-complete words c input left r0 r1 w0 w1 f0 f1 BadWords form told a no_read no_write h = absurd (no-bad-words words c h.input h.text form h.answers)
-complete words c input left r0 r1 w0 w1 f0 f1 BadToken form told a no_read no_write h = absurd (no-bad-token words c h.input h.text form h.answers)
-complete words c input left r0 r1 w0 w1 f0 f1 Refused form told a no_read no_write h =
+complete words c input left r0 r1 w0 w1 f0 f1 WriteFault form told a no_read no_write h = absurd (no_write h.1)
+complete words c input left r0 r1 w0 w1 f0 f1 BadWords form told a no_read no_write (r, f, h) = absurd (no-bad-words words c h.input h.text form h.answers)
+complete words c input left r0 r1 w0 w1 f0 f1 BadToken form told a no_read no_write (r, f, h) = absurd (no-bad-token words c h.input h.text form h.answers)
+complete words c input left r0 r1 w0 w1 f0 f1 Refused form told a no_read no_write (r, f, h) =
     let same : h.input ≡ input = subst (λ (o : Option (List ℕ)). Tells o h.input) told h.told in
     absurd (not-refused-by words c input h.text form a (subst (λ (i : List ℕ). Answer words i h.text Refused) same h.answers))
 

@@ -1,4 +1,4 @@
-use Rattle.std.proofs.Common.{◌≡◌, ◌≤◌, ◌-◌, arith, length, ap, rules, inr, refl}
+use Rattle.std.proofs.Common.{◌≡◌, ◌≤◌, ◌-◌, ◌∙◌, arith, length, ap, rules, inr, refl}
 use Rattle.std.proofs.lemmas.Grind.{common_steps}
 use Rattle.std.proofs.lemmas.Result.{MatchResult-at_ok, MatchResult-at_err, IfOk-at_ok}
 use Rattle.geost_run.proofs.Taking.{none_behind, more_behind, kept_behind, taken_most, read_enough, ended_behind, ended_most, piece_is}
@@ -8,7 +8,7 @@ pub reading-init : goal.reading-init
 reading-init g c = record {
   taken = none_behind _ _ _;
   size = search rules;
-  later = omega arith;
+  same = refl;
 }
 
 pub reading-preserved : goal.reading-preserved
@@ -21,7 +21,7 @@ reading-preserved g c =
     record {
       taken = more_behind c.args.most _ _ _ _ _ _ c.take.new.into c.in_ok-count.count c.reading.invariant.taken bytes.0 (omega (arith, size, room)) items;
       size = grind (arith, common_steps, c.take.auto.into, c.reading.invariant.size, c.min-room.ensures);
-      later = omega (arith, c.reading.invariant.later, c.take.ensures.cause.later);
+      same = IfOk-at_ok _ c.in_ok-count.ensures.count c.take.ensures.cause.stays ∙ c.reading.invariant.same;
     }
 
 pub returns-after-reading-clause-text : goal.returns-after-reading-clause-text

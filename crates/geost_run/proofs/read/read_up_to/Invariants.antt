@@ -2,12 +2,12 @@ use Rattle.std.proofs.Common.{◌≡◌, ◌≤◌, ◌-◌, length}
 use Rattle.geost_run.proofs.Taking.{HasTaken}
 use Rattle.geost_run.proofs.read.read_up_to.Given as goal
 
--- the text is what was there and what was taken, which is not too much, and the count of faults did not fall
+-- the text is what was there and what was taken, which is not too much, and the count of faults stayed
 abbrev pub invariant-reading : goal.invariant-reading
 invariant-reading g l = record {
   taken : HasTaken l.most (g.S.Source.left l.fn.source) (g.S.Source.left l.source) l.fn.text.items l.text.items;
   size : length l.piece ≡ 4096;
-  later : g.S.Source.faults l.fn.source ≤ g.S.Source.faults l.source;
+  same : g.S.Source.faults l.source ≡ g.S.Source.faults l.fn.source;
 }
 
 abbrev pub decreases-reading : goal.decreases-reading
