@@ -1,0 +1,5 @@
+mod expansion;
+mod grounding;
+mod judging;
+mod linear;
+mod values;
