@@ -5,7 +5,7 @@ ghost use Rattle.geost_run.specs.Decision.{decision_text, decision_status, IsDec
 
 use crate::accepted::{Accepted, read_accepted};
 use crate::{Command, Decision};
-use geo_meaning::judging::{Judged, judge};
+use geo_meaning::judging::{Judged, judge_rules};
 use geo_tokens::fault::TextFault;
 use geo_tokens::first_end::first_text_end;
 use layout_search::{Outcome, search_first};
@@ -80,7 +80,7 @@ fn decide_judge(alloc: Global, text: &[u8]) -> Result<Decision, AllocError>
         Ok(layout) => layout,
         Err(fault) => return refuse(fault),
     };
-    match judge(&problem, rules.as_slice(), &layout) {
+    match judge_rules(&problem, rules.as_slice(), &layout) {
         Judged::Good => Ok(Decision::Good),
         Judged::Broken(number) => Ok(Decision::Broken(problem, number)),
     }

@@ -23,7 +23,7 @@ pub enum Decision {
     /// Every rule holds.
     Good,
     /// The rule of this number, from 1 in file order, is the first that does not hold.
-    Broken(Problem, usize),
+    Broken(Problem, u16),
 }
 
 impl Decision {

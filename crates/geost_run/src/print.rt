@@ -35,11 +35,11 @@ pub fn write_decision<W: Sink>(
     }
 }
 
-fn write_broken<W: Sink>(sink: &mut W, problem: &Problem, number: usize) -> Result<(), PutFault>
+fn write_broken<W: Sink>(sink: &mut W, problem: &Problem, number: u16) -> Result<(), PutFault>
     requires { (1 ≤ number) × (number ≤ length problem.now.rules) }
     ensures { Writes (W.written sink.old) (W.written sink.new) (W.faults sink.old) (W.faults sink.new) (W.quiet sink.old) (W.quiet sink.new) result (broken_rule (rule_name problem.now number)) }
 {
-    let rule = &problem.rules()[number - 1];
+    let rule = &problem.rules()[number as usize - 1];
     let pieces = [
         Piece::Bytes(b"broken "),
         Piece::Bytes(rule.name().as_bytes()),

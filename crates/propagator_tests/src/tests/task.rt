@@ -8,7 +8,7 @@ ghost use Rattle.rule_ground.specs.Start.{first_state};
 ghost use Rattle.propagator_tests.specs.Ready.{IsReady};
 
 use geo_conditions::{Cond, Layout};
-use geo_meaning::judging::{Judged, judge};
+use geo_meaning::judging::{Judged, judge_rules};
 use geo_tokens::fault::TextFault;
 use problem_text::problem::Problem;
 use problem_text::read::read_problem;
@@ -53,7 +53,7 @@ pub fn is_good(problem: &Problem, rules: &[PlainRule], layout: &Layout) -> bool
     requires ready { IsReady problem.now (map plain_rule_data rules.now) }
     requires tuple { IsTuple problem.now layout.now }
 {
-    match judge(problem, rules, layout) {
+    match judge_rules(problem, rules, layout) {
         Judged::Good => true,
         Judged::Broken(_) => false,
     }

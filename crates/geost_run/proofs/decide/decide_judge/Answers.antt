@@ -1,5 +1,4 @@
 use Rattle.std.proofs.Common.{◌≡◌, ◌≤◌, ◌++◌, List, ℕ, length, inl, inr, Err, refl, sym, subst, arith}
-use Rattle.problem_text.proofs.OneProblem.{accepted_well_formed}
 use Rattle.geost_run.specs.Texts.{in_first, in_second}
 use Rattle.geost_run.proofs.TwoTexts.{cut-at}
 use Rattle.layout_text.specs.FirstFault.{HasFaultFrom, AnswersLayout}
@@ -38,9 +37,6 @@ returns-in-Err-read_layout-clause-answer c =
 
 pub returns-in-Err-read_layout-clause-decided : goal.returns-in-Err-read_layout-clause-decided
 returns-in-Err-read_layout-clause-decided c = refused_as IsDecided c.in-Err-read_layout.fault c.refuse-in-Err-read_layout.result c.refuse-in-Err-read_layout.ensures (λ place word e. tt)
-
-pub judge-requires-clause-problem : goal.judge-requires-clause-problem
-judge-requires-clause-problem c = accepted_well_formed c.split_at.result.0.now c.in-Ok.accepted.problem c.in-Ok.ensures.accepted.spells
 
 pub returns-in-Good-clause-answer : goal.returns-in-Good-clause-answer
 returns-in-Good-clause-answer c =
