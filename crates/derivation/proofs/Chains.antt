@@ -9,7 +9,8 @@ use Rattle.derivation.specs.declared.event.Event.{Event}
 use Rattle.derivation.specs.declared.side.Side.{Side}
 use Rattle.derivation.specs.declared.side.Side.TheVariants.{Upto, From}
 use Rattle.derivation.specs.Cuts.{near}
-use Rattle.derivation.specs.Chains.{Link, link_events, moved, Narrows, after, Holds, links_events, behind, EachHolds, Leads, Ending, ending_events, EndHolds, Closes}
+use Rattle.derivation.specs.Events.{Continues}
+use Rattle.derivation.specs.Chains.{Link, link_events, moved, Narrows, after, Holds, links_events, behind, EachHolds, Leads, Ending, ending_events, EndHolds, Closes, IsLed, IsClosed}
 
 events_append : (ls ms : List Link) → links_events (ls ++ ms) ≡ links_events ls ++ links_events ms
 events_append [] ms = refl
@@ -75,3 +76,29 @@ moved_is_near S o (Upto d v) n =
 moved_is_near S o (From d v) n =
     let e : v ≡ int_max (low S o d) v = omega (arith, ints, clamps) in
     ap (λ (x : ℤ). let r : Region = record { lo = set (reach S o).region.lo d x; hi = (reach S o).region.hi } in r) e
+
+-- ---- chains behind the old events
+
+-- nothing changed
+pub led_same : (cs : List Cond) (S T : State) (old new : List Event) → T ≡ S → new ≡ old → IsLed cs S T old new
+led_same cs S T old new e f = ([], f ∙ sym (append-nil old), subst (Leads cs S []) (sym e) (leads_nil cs S))
+
+-- a list with a chain behind it went on
+pub led_continues : (cs : List Cond) (S T : State) (old new : List Event) → IsLed cs S T old new → Continues old new
+led_continues cs S T old new p = (p.0, p.1)
+
+-- one chain behind another
+pub led_on : (cs : List Cond) (S T U : State) (a b c : List Event) → IsLed cs S T a b → IsLed cs T U b c → IsLed cs S U a c
+led_on cs S T U a b c p q = (
+  p.0 ++ q.0,
+  q.1 ∙ ap (λ (xs : List Event). xs ++ q.0) p.1 ∙ append_assoc a p.0 q.0,
+  leads_on cs S T U p.0 q.0 p.2 q.2,
+)
+
+-- what closes behind a chain
+pub led_closed : (cs : List Cond) (S T : State) (a b c : List Event) → IsLed cs S T a b → IsClosed cs T b c → IsClosed cs S a c
+led_closed cs S T a b c p q = (
+  p.0 ++ q.0,
+  q.1 ∙ ap (λ (xs : List Event). xs ++ q.0) p.1 ∙ append_assoc a p.0 q.0,
+  closes_on cs S T p.0 q.0 p.2 q.2,
+)

@@ -92,3 +92,11 @@ pub record Closes (cs : List Cond) (S : State) (es : List Event) : Type 0 where
   pub events : es ≡ chain ++ ending_events ending
   pub leads : Leads cs S chain state
   pub holds : EndHolds cs state ending
+
+-- behind the old events stands a chain that leads from S to T
+abbrev pub IsLed : List Cond → State → State → List Event → List Event → Type 0
+IsLed cs S T old new = (es : List Event) × (new ≡ old ++ es) × Leads cs S es T
+
+-- behind the old events stands a chain from S that is closed
+abbrev pub IsClosed : List Cond → State → List Event → List Event → Type 0
+IsClosed cs S old new = (es : List Event) × (new ≡ old ++ es) × Closes cs S es

@@ -3,7 +3,7 @@ use Rattle.std.proofs.Common.{◌≡◌, ℕ, zero, suc, ◌+◌, ◌<◌, Bool,
 use Rattle.std.specs.Int.{int_min, int_max}
 use Rattle.std.proofs.lemmas.Int.{ints, clamps}
 use Rattle.std.proofs.lemmas.Bool.{cases_Bool, cases_eq, or_right}
-use Rattle.std.proofs.lemmas.List.{append-nil, get_or-set_same, get_or-set_other}
+use Rattle.std.proofs.lemmas.List.{get_or-set_same, get_or-set_other}
 use Rattle.std.proofs.Math.ListN.{length-set}
 use Rattle.geo_base.specs.Boxes.{coordinate, IsCrossed}
 use Rattle.geo_conditions.specs.declared.cond.Cond.{Cond}
@@ -17,13 +17,13 @@ use Rattle.derivation.specs.declared.side.Side.TheVariants.{Upto, From}
 use Rattle.derivation.specs.Cuts.{near, far, is_empty}
 use Rattle.derivation.specs.Covers.{CoverTree, Leaf, Fork, events_of, covers, refutes}
 use Rattle.derivation.specs.PlaceCovers.{RecordedCovers}
-use Rattle.derivation.proofs.Chains.{leads_nil, leads_on, closes_on}
 use Rattle.derivation.proofs.Listings.{bound_led}
 use Rattle.derivation.proofs.Empty.{fork_is, covers_empty}
 use Rattle.derivation.proofs.Parts.{ranges_of}
 use Rattle.fixpoint.specs.Points.{cut_to}
 use Rattle.fixpoint.specs.Defects.{LacksAll, LacksPoint, LacksLow, LacksHigh}
-use Rattle.fixpoint.specs.Recorded.{RecordedCover, LedTo, ClosedFrom}
+use Rattle.derivation.specs.Chains.{IsLed, IsClosed}
+use Rattle.fixpoint.specs.Recorded.{RecordedCover}
 use Rattle.fixpoint.proofs.PointSearch.{same_list, same_box, cut_in}
 
 -- ---- boxes
@@ -181,7 +181,7 @@ high_none cs S o d b v q e l n h p y =
 
 -- the low end rises by 1, with the covers up to it
 pub raise_led : (cs : List Cond) (S : State) (o d : ℕ) (b : Region) (v w : ℤ) (old mid end : List Event) → v ≡ low S o d → w ≡ low S o d +ℤ pos 1 → b ≡ part_to (reach S o).region d v → LacksLow cs S o d
-    → mid ≡ old ++ (Raise (record { 0 = o }) d w ∷ []) → RecordedCovers cs S o b mid end → LedTo cs S (set S o (with_low (reach S o) d (low S o d +ℤ pos 1))) old end
+    → mid ≡ old ++ (Raise (record { 0 = o }) d w ∷ []) → RecordedCovers cs S o b mid end → IsLed cs S (set S o (with_low (reach S o) d (low S o d +ℤ pos 1))) old end
 raise_led cs S o d b v w old mid end q f e l m r =
     let u : ℤ = low S o d +ℤ pos 1 in
     let least : v ≡ int_min (high S o d) (u +ℤ negsuc 0) = omega (arith, ints, clamps, l.wide) in
@@ -191,7 +191,7 @@ raise_led cs S o d b v w old mid end q f e l m r =
 
 -- the high end falls by 1, with the covers from it on
 pub lower_led : (cs : List Cond) (S : State) (o d : ℕ) (b : Region) (v w : ℤ) (old mid end : List Event) → v ≡ high S o d → w ≡ high S o d +ℤ negsuc 0 → b ≡ from_on (reach S o).region d v → LacksHigh cs S o d
-    → mid ≡ old ++ (Lower (record { 0 = o }) d w ∷ []) → RecordedCovers cs S o b mid end → LedTo cs S (set S o (with_high (reach S o) d (high S o d +ℤ negsuc 0))) old end
+    → mid ≡ old ++ (Lower (record { 0 = o }) d w ∷ []) → RecordedCovers cs S o b mid end → IsLed cs S (set S o (with_high (reach S o) d (high S o d +ℤ negsuc 0))) old end
 lower_led cs S o d b v w old mid end q f e l m r =
     let u : ℤ = high S o d +ℤ negsuc 0 in
     let most : v ≡ int_max (low S o d) (u +ℤ pos 1) = omega (arith, ints, clamps, l.wide) in
@@ -201,26 +201,6 @@ lower_led cs S o d b v w old mid end q f e l m r =
 
 -- ---- chains behind the old events
 
--- nothing is recorded yet
-pub led_start : (cs : List Cond) (S : State) (old : List Event) → LedTo cs S S old old
-led_start cs S old = ([], sym (append-nil old), leads_nil cs S)
-
--- one chain behind another
-pub led_on : (cs : List Cond) (S R Q : State) (old mid end : List Event) → LedTo cs S R old mid → LedTo cs R Q mid end → LedTo cs S Q old end
-led_on cs S R Q old mid end p q = (
-  p.0 ++ q.0,
-  q.1 ∙ ap (λ (xs : List Event). xs ++ q.0) p.1 ∙ append_assoc old p.0 q.0,
-  leads_on cs S R Q p.0 q.0 p.2 q.2,
-)
-
--- a chain, and then what closes
-pub closed_on : (cs : List Cond) (S R : State) (old mid end : List Event) → LedTo cs S R old mid → ClosedFrom cs R mid end → ClosedFrom cs S old end
-closed_on cs S R old mid end p q = (
-  p.0 ++ q.0,
-  q.1 ∙ ap (λ (xs : List Event). xs ++ q.0) p.1 ∙ append_assoc old p.0 q.0,
-  closes_on cs S R p.0 q.0 p.2 q.2,
-)
-
 -- a chain that is known from a state that is the same
-pub led_from : (cs : List Cond) (S X T : State) (step : State → State) (old now : List Event) → X ≡ S → T ≡ step S → LedTo cs X (step X) old now → LedTo cs S T old now
-led_from cs S X T step old now e f h = subst (λ (Y : State). LedTo cs S Y old now) (sym f) (subst (λ (Y : State). LedTo cs Y (step Y) old now) e h)
+pub led_from : (cs : List Cond) (S X T : State) (step : State → State) (old now : List Event) → X ≡ S → T ≡ step S → IsLed cs X (step X) old now → IsLed cs S T old now
+led_from cs S X T step old now e f h = subst (λ (Y : State). IsLed cs S Y old now) (sym f) (subst (λ (Y : State). IsLed cs Y (step Y) old now) e h)

@@ -4,7 +4,7 @@ use Rattle.geo_conditions.specs.declared.cond.Cond.{Cond}
 use Rattle.geo_conditions.specs.Reach.{State, Region}
 use Rattle.derivation.specs.declared.event.Event.{Event}
 use Rattle.derivation.specs.Covers.{CoverTree, events_of, covers}
-use Rattle.derivation.specs.Chains.{Leads, Closes}
+use Rattle.derivation.specs.Chains.{IsLed, IsClosed}
 use Rattle.fixpoint.specs.declared.mending.Outcome.{Outcome}
 use Rattle.fixpoint.specs.declared.mending.Outcome.TheVariants.{Dead, Changed, Fine}
 
@@ -14,16 +14,8 @@ pub record RecordedCover (cs : List Cond) (S : State) (o s : ℕ) (b : Region) (
   pub events : now ≡ old ++ events_of tree
   pub covered : covers cs S o s b tree ≡ true
 
--- behind the old events there is now a chain that leads from S to T
-abbrev pub LedTo : List Cond → State → State → List Event → List Event → Type 0
-LedTo cs S T old now = (es : List Event) × (now ≡ old ++ es) × Leads cs S es T
-
--- behind the old events there is now a chain from S that is closed
-abbrev pub ClosedFrom : List Cond → State → List Event → List Event → Type 0
-ClosedFrom cs S old now = (es : List Event) × (now ≡ old ++ es) × Closes cs S es
-
 -- from S to T: dead, the chain is closed, and else it leads there
 abbrev pub RecordsOutcome : List Cond → State → Outcome → State → List Event → List Event → Type 0
-RecordsOutcome cs S Dead T old now = ClosedFrom cs S old now
-RecordsOutcome cs S Changed T old now = LedTo cs S T old now
-RecordsOutcome cs S Fine T old now = LedTo cs S T old now
+RecordsOutcome cs S Dead T old now = IsClosed cs S old now
+RecordsOutcome cs S Changed T old now = IsLed cs S T old now
+RecordsOutcome cs S Fine T old now = IsLed cs S T old now

@@ -12,7 +12,8 @@ ghost use Rattle.derivation.specs.Covers.{refutes};
 ghost use Rattle.derivation.specs.Events.{Continues};
 ghost use Rattle.derivation.specs.PlaceCovers.{RecordedBelow, RecordedCovers};
 ghost use Rattle.fixpoint.specs.Defects.{LacksAll, LacksPoint, LacksLow, LacksHigh};
-ghost use Rattle.fixpoint.specs.Recorded.{RecordedCover, LedTo, ClosedFrom};
+ghost use Rattle.derivation.specs.Chains.{IsLed, IsClosed};
+ghost use Rattle.fixpoint.specs.Recorded.{RecordedCover};
 
 use super::points::{cut_to, first_refuted_at};
 use derivation::{Event, Recorder};
@@ -211,7 +212,7 @@ pub fn record_dead<const K: usize, R: Recorder>(
     requires number { i ≤ length cs.now }
     requires refuted { refutes cs.now i s.now ≡ true }
     ensures closed { OnOk result (R.keeps ≡ true
-        → ClosedFrom cs.now s.now (R.list rec.old) (R.list rec.new)) }
+        → IsClosed cs.now s.now (R.list rec.old) (R.list rec.new)) }
     ensures events { R.keeps ≡ true → Continues (R.list rec.old) (R.list rec.new) }
     ensures refused { OnErr result
         (min (R.refusals rec.old + 1) (2 ^ 64 - 1) ≤ R.refusals rec.new) }
@@ -236,7 +237,7 @@ pub fn record_gone<const K: usize, R: Recorder>(
     requires fits { All (λ c. FitsIn c s.now) cs.now }
     requires lacks { LacksAll cs.now s.now o.0 }
     ensures closed { OnOk result (R.keeps ≡ true
-        → ClosedFrom cs.now s.now (R.list rec.old) (R.list rec.new)) }
+        → IsClosed cs.now s.now (R.list rec.old) (R.list rec.new)) }
     ensures events { R.keeps ≡ true → Continues (R.list rec.old) (R.list rec.new) }
     ensures refused { OnErr result
         (min (R.refusals rec.old + 1) (2 ^ 64 - 1) ≤ R.refusals rec.new) }
@@ -265,7 +266,7 @@ pub fn record_drop<const K: usize, R: Recorder>(
     requires list { length cs.now ≤ 1000000000 }
     requires fits { All (λ c. FitsIn c s.now) cs.now }
     requires lacks { LacksPoint cs.now s.now o.0 place }
-    ensures led { OnOk result (R.keeps ≡ true → LedTo cs.now s.now
+    ensures led { OnOk result (R.keeps ≡ true → IsLed cs.now s.now
         (slice_set s.now o.0 (without (reach s.now o.0) place)) (R.list rec.old) (R.list rec.new)) }
     ensures events { R.keeps ≡ true → Continues (R.list rec.old) (R.list rec.new) }
     ensures refused { OnErr result
@@ -297,7 +298,7 @@ pub fn record_raise<const K: usize, R: Recorder>(
     requires fits { All (λ c. FitsIn c s.now) cs.now }
     requires dimension { d < K }
     requires lacks { LacksLow cs.now s.now o.0 d }
-    ensures led { OnOk result (R.keeps ≡ true → LedTo cs.now s.now
+    ensures led { OnOk result (R.keeps ≡ true → IsLed cs.now s.now
         (slice_set s.now o.0 (with_low (reach s.now o.0) d (low s.now o.0 d +ℤ pos 1)))
         (R.list rec.old) (R.list rec.new)) }
     ensures events { R.keeps ≡ true → Continues (R.list rec.old) (R.list rec.new) }
@@ -333,7 +334,7 @@ pub fn record_lower<const K: usize, R: Recorder>(
     requires fits { All (λ c. FitsIn c s.now) cs.now }
     requires dimension { d < K }
     requires lacks { LacksHigh cs.now s.now o.0 d }
-    ensures led { OnOk result (R.keeps ≡ true → LedTo cs.now s.now
+    ensures led { OnOk result (R.keeps ≡ true → IsLed cs.now s.now
         (slice_set s.now o.0 (with_high (reach s.now o.0) d (high s.now o.0 d +ℤ negsuc 0)))
         (R.list rec.old) (R.list rec.new)) }
     ensures events { R.keeps ≡ true → Continues (R.list rec.old) (R.list rec.new) }

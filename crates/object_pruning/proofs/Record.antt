@@ -2,7 +2,7 @@
 use Rattle.std.proofs.Common.{◌≡◌, ℕ, zero, suc, ◌+◌, ◌<◌, ◌≤◌, Bool, true, false, List, [], ◌∷◌, ◌++◌, length, set, take, refl, sym, ap, ◌∙◌, subst, arith, ℤ, pos, negsuc, ◌+ℤ◌, ◌≤ℤ◌, append_assoc, Option, Some, None}
 use Rattle.std.specs.Int.{int_min, int_max}
 use Rattle.std.proofs.lemmas.Int.{ints, clamps}
-use Rattle.std.proofs.lemmas.List.{append-nil, length-append}
+use Rattle.std.proofs.lemmas.List.{length-append}
 use Rattle.std.proofs.Math.Seq.{take-append_seam, set-append_seam}
 use Rattle.geo_base.specs.Boxes.{coordinate}
 use Rattle.geo_base.specs.Ways.{toward}
@@ -17,14 +17,14 @@ use Rattle.derivation.specs.Covers.{dimension_of}
 use Rattle.derivation.specs.Cuts.{far}
 use Rattle.derivation.specs.Events.{Continues}
 use Rattle.derivation.specs.PlaceCovers.{covers_events, RecordedBelow, RecordedCovers, SmallerBox}
-use Rattle.derivation.specs.Chains.{Leads, Narrows, bound_event}
-use Rattle.derivation.proofs.Chains.{leads_nil, leads_on, closes_on}
+use Rattle.derivation.specs.Chains.{Narrows, bound_event}
 use Rattle.derivation.proofs.SmallerCovers.{box_same, box_within, upto_smaller, from_smaller, covers_smaller}
 use Rattle.derivation.proofs.Listings.{recorded_start, recorded_skip, recorded_more, recorded_end, drop_led, bound_led, gone_closed}
 use Rattle.sweep.specs.Sweep.{IsCovered, part_before}
 use Rattle.object_pruning.specs.declared.kept.Placed.{Placed}
 use Rattle.object_pruning.specs.Ends.{IsSooner}
-use Rattle.object_pruning.specs.Record.{IsLed, IsClosed, end_side, with_end, IsNotBeyond, ListsPlace, AreListed}
+use Rattle.derivation.specs.Chains.{IsLed, IsClosed}
+use Rattle.object_pruning.specs.Record.{end_side, with_end, IsNotBeyond, ListsPlace, AreListed}
 
 -- ---- lists of events
 
@@ -45,30 +45,6 @@ pub mark_before : (old mid new : List Event) (m : ℕ) (e : Event) → m ≡ len
 mark_before old mid new m e h k f = omega (arith, mark_in old mid m h k, ap length f, length-append mid (e ∷ []))
 
 -- ---- chains
-
--- nothing changed
-pub led_same : (cs : List Cond) (S T : State) (old new : List Event) → T ≡ S → new ≡ old → IsLed cs S T old new
-led_same cs S T old new e f = ([], f ∙ sym (append-nil old), subst (Leads cs S []) (sym e) (leads_nil cs S))
-
--- a list with a chain behind it went on
-pub led_continues : (cs : List Cond) (S T : State) (old new : List Event) → IsLed cs S T old new → Continues old new
-led_continues cs S T old new p = (p.0, p.1)
-
--- one chain behind another
-pub led_on : (cs : List Cond) (S T U : State) (a b c : List Event) → IsLed cs S T a b → IsLed cs T U b c → IsLed cs S U a c
-led_on cs S T U a b c p q = (
-  p.0 ++ q.0,
-  q.1 ∙ ap (λ (xs : List Event). xs ++ q.0) p.1 ∙ append_assoc a p.0 q.0,
-  leads_on cs S T U p.0 q.0 p.2 q.2,
-)
-
--- what closes behind a chain
-pub led_closed : (cs : List Cond) (S T : State) (a b c : List Event) → IsLed cs S T a b → IsClosed cs T b c → IsClosed cs S a c
-led_closed cs S T a b c p q = (
-  p.0 ++ q.0,
-  q.1 ∙ ap (λ (xs : List Event). xs ++ q.0) p.1 ∙ append_assoc a p.0 q.0,
-  closes_on cs S T p.0 q.0 p.2 q.2,
-)
 
 -- a place that is dropped, and the cover of the whole region
 pub drop_recorded : (K : ℕ) (cs : List Cond) (picks : List ℕ) (S : State) (o s : ℕ) (old mid new : List Event) → has S o s ≡ true → mid ≡ old ++ (Drop (record { 0 = o }) s ∷ [])

@@ -10,7 +10,8 @@ ghost use Rattle.derivation.specs.Events.{Continues};
 ghost use Rattle.sweep.specs.Picks.{ArePicks, picked};
 ghost use Rattle.object_pruning.specs.Ends.{HasSome, IsFirstAt, IsOutermostPoint, IsSooner, end};
 ghost use Rattle.object_pruning.specs.Pruning.{CanBe};
-ghost use Rattle.object_pruning.specs.Record.{AreListed, IsLed, IsNotBeyond, ListsPlace, end_side, with_end};
+ghost use Rattle.derivation.specs.Chains.{IsLed};
+ghost use Rattle.object_pruning.specs.Record.{AreListed, IsNotBeyond, ListsPlace, end_side, with_end};
 
 use super::first_point::first_point;
 use super::kept::{Placed, end_of};

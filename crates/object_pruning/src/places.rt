@@ -10,7 +10,7 @@ ghost use Rattle.sweep.specs.Picks.{ArePicks, picked};
 ghost use Rattle.object_pruning.specs.Ends.{DropsPlaces};
 ghost use Rattle.object_pruning.specs.Kept.{AllSupport};
 ghost use Rattle.object_pruning.specs.Pruning.{CanBe};
-ghost use Rattle.object_pruning.specs.Record.{IsLed};
+ghost use Rattle.derivation.specs.Chains.{IsLed};
 ghost use Rattle.object_pruning.specs.Same.{SameBut};
 
 use super::first_point::first_point;

@@ -12,7 +12,8 @@ use Rattle.derivation.specs.declared.event.Event.TheVariants.{EndCovers}
 use Rattle.derivation.proofs.Continuing.{continues_same, continues_on}
 use Rattle.sweep.specs.Picks.{picked}
 use Rattle.object_pruning.specs.Ends.{end}
-use Rattle.object_pruning.specs.Record.{IsLed, end_side, with_end}
+use Rattle.derivation.specs.Chains.{IsLed}
+use Rattle.object_pruning.specs.Record.{end_side, with_end}
 use Rattle.object_pruning.proofs.Ends.{outermost_in}
 use Rattle.object_pruning.proofs.Record.{added, mark_in, mark_before, cut_to_mark, end_recorded}
 use Rattle.object_pruning.proofs.outer_points.sought_end.Goals as goal
