@@ -1,9 +1,9 @@
 -- What is recorded behind the old events.
-use Rattle.std.specs.Prelude.{◌≡◌, ℕ, true, List, ◌++◌}
+use Rattle.std.specs.Prelude.{◌≡◌, ℕ, true, List, length, ◌++◌}
 use Rattle.geo_conditions.specs.declared.cond.Cond.{Cond}
-use Rattle.geo_conditions.specs.Reach.{State, Region}
+use Rattle.geo_conditions.specs.Reach.{State, Region, dims}
 use Rattle.derivation.specs.declared.event.Event.{Event}
-use Rattle.derivation.specs.Covers.{CoverTree, events_of, covers}
+use Rattle.derivation.specs.Covers.{CoverTree, events_of, covers, HasNumbersIn}
 use Rattle.derivation.specs.Chains.{IsLed, IsClosed}
 use Rattle.fixpoint.specs.declared.mending.Outcome.{Outcome}
 use Rattle.fixpoint.specs.declared.mending.Outcome.TheVariants.{Dead, Changed, Fine}
@@ -13,6 +13,7 @@ pub record RecordedCover (cs : List Cond) (S : State) (o s : ℕ) (b : Region) (
   pub tree : CoverTree
   pub events : now ≡ old ++ events_of tree
   pub covered : covers cs S o s b tree ≡ true
+  pub numbers : HasNumbersIn (dims S o) (length cs) tree
 
 -- from S to T: dead, the chain is closed, and else it leads there
 abbrev pub RecordsOutcome : List Cond → State → Outcome → State → List Event → List Event → Type 0

@@ -11,6 +11,8 @@ ghost use Rattle.derivation.specs.declared.event.Event.{Event};
 ghost use Rattle.derivation.specs.Covers.{refutes};
 ghost use Rattle.derivation.specs.Events.{Continues};
 ghost use Rattle.derivation.specs.PlaceCovers.{RecordedBelow, RecordedCovers};
+ghost use Rattle.geo_state.specs.Trail.{IsSmall};
+ghost use Rattle.fixpoint.specs.Points.{IsSmallRegion};
 ghost use Rattle.fixpoint.specs.Defects.{LacksAll, LacksPoint, LacksLow, LacksHigh};
 ghost use Rattle.derivation.specs.Chains.{IsLed, IsClosed};
 ghost use Rattle.fixpoint.specs.Recorded.{RecordedCover};
@@ -82,6 +84,7 @@ fn record_points<const K: usize, R: Recorder>(
     requires list { length cs.now ≤ 1000000000 }
     requires fits { All (λ c. FitsIn c s.now) cs.now }
     requires object { o.0 < length s.now }
+    requires small { IsSmallRegion (region_of b.now) }
     requires dimension { d ≤ K }
     requires lows { length b.now.lo.coordinates ≡ K }
     requires highs { length b.now.hi.coordinates ≡ K }
@@ -108,6 +111,7 @@ fn record_points<const K: usize, R: Recorder>(
             Ok(()) => Ok(()),
         };
     }
+    let _objects = s.objects();
     let last = b.hi.get(d);
     for v in b.lo.get(d)..last {
         match record_event(rec, Event::Cut(d, v)) {
@@ -138,6 +142,7 @@ fn record_place<const K: usize, R: Recorder>(
     requires list { length cs.now ≤ 1000000000 }
     requires fits { All (λ c. FitsIn c s.now) cs.now }
     requires object { o.0 < length s.now }
+    requires small { IsSmallRegion (region_of b.now) }
     requires place { 1 ≤ place }
     requires lows { length b.now.lo.coordinates ≡ K }
     requires highs { length b.now.hi.coordinates ≡ K }
@@ -176,6 +181,7 @@ fn record_places<const K: usize, R: Recorder>(
     requires list { length cs.now ≤ 1000000000 }
     requires fits { All (λ c. FitsIn c s.now) cs.now }
     requires object { o.0 < length s.now }
+    requires small { IsSmallRegion (region_of b.now) }
     requires lows { length b.now.lo.coordinates ≡ K }
     requires highs { length b.now.hi.coordinates ≡ K }
     requires none { (n : ℕ) → has s.now o.0 n ≡ true
@@ -235,6 +241,7 @@ pub fn record_gone<const K: usize, R: Recorder>(
     requires k { K ≤ MAX_DIMS }
     requires list { length cs.now ≤ 1000000000 }
     requires fits { All (λ c. FitsIn c s.now) cs.now }
+    requires small { IsSmall s.now }
     requires lacks { LacksAll cs.now s.now o.0 }
     ensures closed { OnOk result (R.keeps ≡ true
         → IsClosed cs.now s.now (R.list rec.old) (R.list rec.new)) }
@@ -265,6 +272,7 @@ pub fn record_drop<const K: usize, R: Recorder>(
     requires k { K ≤ MAX_DIMS }
     requires list { length cs.now ≤ 1000000000 }
     requires fits { All (λ c. FitsIn c s.now) cs.now }
+    requires small { IsSmall s.now }
     requires lacks { LacksPoint cs.now s.now o.0 place }
     ensures led { OnOk result (R.keeps ≡ true → IsLed cs.now s.now
         (slice_set s.now o.0 (without (reach s.now o.0) place)) (R.list rec.old) (R.list rec.new)) }
@@ -297,6 +305,7 @@ pub fn record_raise<const K: usize, R: Recorder>(
     requires list { length cs.now ≤ 1000000000 }
     requires fits { All (λ c. FitsIn c s.now) cs.now }
     requires dimension { d < K }
+    requires small { IsSmall s.now }
     requires lacks { LacksLow cs.now s.now o.0 d }
     ensures led { OnOk result (R.keeps ≡ true → IsLed cs.now s.now
         (slice_set s.now o.0 (with_low (reach s.now o.0) d (low s.now o.0 d +ℤ pos 1)))
@@ -333,6 +342,7 @@ pub fn record_lower<const K: usize, R: Recorder>(
     requires list { length cs.now ≤ 1000000000 }
     requires fits { All (λ c. FitsIn c s.now) cs.now }
     requires dimension { d < K }
+    requires small { IsSmall s.now }
     requires lacks { LacksHigh cs.now s.now o.0 d }
     ensures led { OnOk result (R.keeps ≡ true → IsLed cs.now s.now
         (slice_set s.now o.0 (with_high (reach s.now o.0) d (high s.now o.0 d +ℤ negsuc 0)))

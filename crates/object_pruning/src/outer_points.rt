@@ -76,6 +76,7 @@ fn point_at<const K: usize, I: Indexical<K>, R: Recorder>(
     if !s.has_shape(o, place) {
         return Ok(None);
     }
+    let _objects = s.objects();
     rec.add(Event::Cover(place))?;
     match first_point(s, o, place, list, picks, way, rec)? {
         Some(point) => Ok(Some(Placed { place, point })),

@@ -52,6 +52,7 @@ fn sought_point<const K: usize, I: Indexical<K>, R: Recorder>(
     ensures refusals { R.refusals rec.old ≤ R.refusals rec.new }
     ensures no_record { R.keeps ≡ false → IsOk result }
 {
+    let _objects = s.objects();
     let way = Way::new(0, false);
     let mark = rec.mark();
     rec.add(Event::Drop(o, place))?;
