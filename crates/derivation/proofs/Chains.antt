@@ -1,15 +1,15 @@
 -- How chains of a derivation come together.
-use Rattle.std.proofs.Common.{◌≡◌, ℕ, ℤ, List, [], ◌∷◌, ◌++◌, set, refl, sym, ap, ◌∙◌, subst, arith, append_assoc}
+use Rattle.std.proofs.Common.{◌≡◌, ℕ, ℤ, List, [], ◌∷◌, ◌++◌, refl, sym, ap, ◌∙◌, subst, arith, append_assoc}
 use Rattle.std.specs.Int.{int_min, int_max}
 use Rattle.std.proofs.lemmas.Int.{ints, clamps}
 use Rattle.std.proofs.lemmas.List.{append-nil}
 use Rattle.geo_conditions.specs.declared.cond.Cond.{Cond}
-use Rattle.geo_conditions.specs.Reach.{State, Region, reach, low, high}
+use Rattle.geo_conditions.specs.Reach.{State, reach, low, high, with_low, with_high}
 use Rattle.derivation.specs.declared.event.Event.{Event}
 use Rattle.derivation.specs.declared.side.Side.{Side}
 use Rattle.derivation.specs.declared.side.Side.TheVariants.{Upto, From}
-use Rattle.derivation.specs.Cuts.{near}
-use Rattle.derivation.specs.Chains.{Link, link_events, moved, Narrows, after, Holds, links_events, behind, EachHolds, Leads, Ending, ending_events, EndHolds, Closes}
+use Rattle.derivation.specs.Events.{Continues}
+use Rattle.derivation.specs.Chains.{Link, link_events, moved, cut_to_side, Narrows, after, Holds, links_events, behind, EachHolds, Leads, Ending, ending_events, EndHolds, Closes, IsLed, IsClosed}
 
 events_append : (ls ms : List Link) → links_events (ls ++ ms) ≡ links_events ls ++ links_events ms
 events_append [] ms = refl
@@ -68,10 +68,36 @@ closes_on cs S T es fs p q = record {
 }
 
 -- where it does not widen, moving an end is an intersection
-pub moved_is_near : (S : State) (o : ℕ) (side : Side) → Narrows S o side → (moved side (reach S o)).region ≡ near side (reach S o).region
-moved_is_near S o (Upto d v) n =
+pub moved_is_cut : (S : State) (o : ℕ) (side : Side) → Narrows S o side → moved side (reach S o) ≡ cut_to_side side (reach S o)
+moved_is_cut S o (Upto d v) n =
     let e : v ≡ int_min (high S o d) v = omega (arith, ints, clamps) in
-    ap (λ (x : ℤ). let r : Region = record { lo = (reach S o).region.lo; hi = set (reach S o).region.hi d x } in r) e
-moved_is_near S o (From d v) n =
+    ap (λ (x : ℤ). with_high (reach S o) d x) e
+moved_is_cut S o (From d v) n =
     let e : v ≡ int_max (low S o d) v = omega (arith, ints, clamps) in
-    ap (λ (x : ℤ). let r : Region = record { lo = set (reach S o).region.lo d x; hi = (reach S o).region.hi } in r) e
+    ap (λ (x : ℤ). with_low (reach S o) d x) e
+
+-- ---- chains behind the old events
+
+-- nothing changed
+pub led_same : (cs : List Cond) (S T : State) (old new : List Event) → T ≡ S → new ≡ old → IsLed cs S T old new
+led_same cs S T old new e f = ([], f ∙ sym (append-nil old), subst (Leads cs S []) (sym e) (leads_nil cs S))
+
+-- a list with a chain behind it went on
+pub led_continues : (cs : List Cond) (S T : State) (old new : List Event) → IsLed cs S T old new → Continues old new
+led_continues cs S T old new p = (p.0, p.1)
+
+-- one chain behind another
+pub led_on : (cs : List Cond) (S T U : State) (a b c : List Event) → IsLed cs S T a b → IsLed cs T U b c → IsLed cs S U a c
+led_on cs S T U a b c p q = (
+  p.0 ++ q.0,
+  q.1 ∙ ap (λ (xs : List Event). xs ++ q.0) p.1 ∙ append_assoc a p.0 q.0,
+  leads_on cs S T U p.0 q.0 p.2 q.2,
+)
+
+-- what closes behind a chain
+pub led_closed : (cs : List Cond) (S T : State) (a b c : List Event) → IsLed cs S T a b → IsClosed cs T b c → IsClosed cs S a c
+led_closed cs S T a b c p q = (
+  p.0 ++ q.0,
+  q.1 ∙ ap (λ (xs : List Event). xs ++ q.0) p.1 ∙ append_assoc a p.0 q.0,
+  closes_on cs S T p.0 q.0 p.2 q.2,
+)

@@ -1,6 +1,6 @@
 -- A tree whose leaves are refuted on boxes that have all points of their parts covers the box, leaf by leaf on the very part that the
 -- cuts leave.
-use Rattle.std.proofs.Common.{◌≡◌, ℕ, zero, suc, ◌<◌, Bool, true, false, ◌&&◌, List, length, refl, sym, ap, ◌∙◌, subst, inl, inr, arith, ℤ, ◌≤ℤ◌, Option, Some, None}
+use Rattle.std.proofs.Common.{◌≡◌, ℕ, zero, suc, ◌<◌, ◌≤◌, Bool, true, false, ◌&&◌, List, length, refl, sym, ap, ◌∙◌, subst, inl, inr, arith, ℤ, ◌≤ℤ◌, Option, Some, None}
 use Rattle.std.specs.Prelude.{slice_get, Contains}
 use Rattle.std.proofs.lemmas.Int.{ints}
 use Rattle.std.proofs.lemmas.Bool.{cases_Bool, or_left, or_right, not-true, not_from_false}
@@ -12,7 +12,7 @@ use Rattle.geo_conditions.specs.Reach.{State, Region, dims, with_at}
 use Rattle.geo_conditions.specs.Conditions.{possible, FitsIn, AllFit}
 use Rattle.geo_conditions.proofs.SmallerBoxes.{refuted_smaller_box}
 use Rattle.derivation.specs.Cuts.{near, far, is_empty}
-use Rattle.derivation.specs.Covers.{CoverTree, Leaf, Fork, is_refuted, refutes, covers, HasCutsIn, NamesOnly}
+use Rattle.derivation.specs.Covers.{CoverTree, Leaf, Fork, is_refuted, refutes, covers, HasCutsIn, HasNumbersIn, NamesOnly}
 use Rattle.derivation.specs.Points.{OnNear, OnFar, CoversPoints}
 use Rattle.derivation.proofs.Empty.{fork_is}
 use Rattle.derivation.proofs.Parts.{near_out, far_out, near_sizes, far_sizes, ranges_of}
@@ -84,3 +84,9 @@ covered_names k refuted numbers named (Fork side x y) b P l m f e =
       covered_names k refuted numbers named x (near side b) (λ q. P q × OnNear side q) n.0 n.1 (λ q i. let z = near_out side k q b e.0.0 l m i in (f q z.0, z.1)) e.1,
       covered_names k refuted numbers named y (far side b) (λ q. P q × OnFar side q) r.0 r.1 (λ q i. let z = far_out side k q b e.0.0 l m i in (f q z.0, z.1)) e.2,
     )
+
+-- with leaves that name only picked numbers, its numbers are within the list
+pub covered_numbers : (k m : ℕ) (numbers : List ℕ) → ((i : ℕ) → Contains numbers i → i ≤ m) → (t : CoverTree) (b : Region) → HasCutsIn k t → NamesOnly numbers b t → HasNumbersIn k m t
+covered_numbers k m numbers few (Leaf i) b c (inl n) = inl (few i n)
+covered_numbers k m numbers few (Leaf i) b c (inr n) = inr n.0
+covered_numbers k m numbers few (Fork side x y) b c n = (c.0, covered_numbers k m numbers few x (near side b) c.1 n.0, covered_numbers k m numbers few y (far side b) c.2 n.1)

@@ -5,3 +5,4 @@ pub mod Leaves
 pub mod Chains
 pub mod SmallerCovers
 pub mod Listings
+pub mod Refuting

@@ -4,15 +4,15 @@ use Rattle.std.specs.Prelude.{nat_le, if◌then◌else◌}
 use Rattle.std.proofs.lemmas.Bool.{false≢true, le-leb, lt-leb, eq-eqb, and_from}
 use Rattle.std.proofs.lemmas.List.{append-nil}
 use Rattle.geo_conditions.specs.declared.cond.Cond.{Cond}
-use Rattle.geo_conditions.specs.Reach.{State, Region, reach, has, without, Exists}
+use Rattle.geo_conditions.specs.Reach.{State, Region, reach, has, without, dims}
 use Rattle.derivation.specs.declared.event.Event.{Event}
 use Rattle.derivation.specs.declared.event.Event.TheVariants.{Drop, Gone, Cover, EndCovers}
 use Rattle.derivation.specs.declared.side.Side.{Side}
-use Rattle.derivation.specs.Covers.{CoverTree, events_of, covers, dimension_of}
+use Rattle.derivation.specs.Covers.{CoverTree, events_of, covers, IsCut, HasNumbersIn}
 use Rattle.derivation.specs.Cuts.{far}
-use Rattle.derivation.specs.PlaceCovers.{PlaceCover, open_events, next_at, next_place, is_that, is_nothing, all_cover, CoversBelow, RecordedBelow, RecordedCovers, covers_events}
+use Rattle.derivation.specs.PlaceCovers.{PlaceCover, open_events, next_at, next_place, is_that, is_nothing, all_cover, CoversBelow, HaveNumbersIn, RecordedBelow, RecordedCovers, covers_events}
 use Rattle.derivation.specs.Chains.{Drops, Bounds, bound_event, moved, Narrows, Leads, Closes, IsGone}
-use Rattle.derivation.proofs.Chains.{leads_one, closes_end}
+use Rattle.derivation.proofs.Chains.{leads_one, closes_end, moved_is_cut}
 
 -- ---- the next place
 
@@ -82,6 +82,10 @@ module _ (cs : List Cond) (S : State) (o : ℕ) (b : Region) where
 
 -- ---- their record
 
+numbers_more : (k m : ℕ) (list : List PlaceCover) (c : PlaceCover) → HaveNumbersIn k m list → HasNumbersIn k m c.tree → HaveNumbersIn k m (list ++ c ∷ [])
+numbers_more k m [] c h n = (n, tt)
+numbers_more k m (d ∷ list) c h n = (h.0, numbers_more k m list c h.1 n)
+
 open_more : (list : List PlaceCover) (c : PlaceCover) → open_events (list ++ c ∷ []) ≡ open_events list ++ (Cover c.place ∷ events_of c.tree)
 open_more [] c = ap (λ (es : List Event). Cover c.place ∷ es) (append-nil (events_of c.tree))
 open_more (m ∷ list) c = ap (λ (es : List Event). Cover m.place ∷ (events_of m.tree ++ es)) (open_more list c) ∙ ap (λ (es : List Event). Cover m.place ∷ es) (sym (append_assoc (events_of m.tree) (open_events list) (Cover c.place ∷ events_of c.tree)))
@@ -89,20 +93,22 @@ open_more (m ∷ list) c = ap (λ (es : List Event). Cover m.place ∷ (events_o
 module _ (cs : List Cond) (S : State) (o : ℕ) (b : Region) where
   -- no place is recorded
   pub recorded_start : (old : List Event) → RecordedBelow cs S o b 1 old old
-  recorded_start old = record { list = []; events = sym (append-nil old); below = below_start cs S o b }
+  recorded_start old = record { list = []; events = sym (append-nil old); below = below_start cs S o b; numbers = tt }
 
   -- a place that is not there
   pub recorded_skip : (n : ℕ) (old now : List Event) → 1 ≤ n → has S o n ≡ false → RecordedBelow cs S o b n old now → RecordedBelow cs S o b (n + 1) old now
-  recorded_skip n old now l h r = record { list = r.list; events = r.events; below = below_skip cs S o b n r.list l h r.below }
+  recorded_skip n old now l h r = record { list = r.list; events = r.events; below = below_skip cs S o b n r.list l h r.below; numbers = r.numbers }
 
   -- a place that is there, and then its cover
-  pub recorded_more : (n : ℕ) (t : CoverTree) (old now mid end : List Event) → 1 ≤ n → has S o n ≡ true → mid ≡ now ++ (Cover n ∷ []) → end ≡ mid ++ events_of t → covers cs S o n b t ≡ true → RecordedBelow cs S o b n old now → RecordedBelow cs S o b (n + 1) old end
-  recorded_more n t old now mid end l h f g v r = record {
+  pub recorded_more : (n : ℕ) (t : CoverTree) (old now mid end : List Event) → 1 ≤ n → has S o n ≡ true → mid ≡ now ++ (Cover n ∷ []) → end ≡ mid ++ events_of t → covers cs S o n b t ≡ true
+      → HasNumbersIn (dims S o) (length cs) t → RecordedBelow cs S o b n old now → RecordedBelow cs S o b (n + 1) old end
+  recorded_more n t old now mid end l h f g v w r = record {
     list = r.list ++ record { place = n; tree = t } ∷ [];
     events =
         g ∙ ap (λ (xs : List Event). xs ++ events_of t) (f ∙ ap (λ (xs : List Event). xs ++ (Cover n ∷ [])) r.events ∙ append_assoc old (open_events r.list) (Cover n ∷ [])) ∙ append_assoc old (open_events r.list ++ (Cover n ∷ [])) (events_of t)
         ∙ ap (λ (xs : List Event). old ++ xs) (append_assoc (open_events r.list) (Cover n ∷ []) (events_of t) ∙ sym (open_more r.list (record { place = n; tree = t })));
     below = below_more cs S o b n r.list t l h v r.below;
+    numbers = numbers_more (dims S o) (length cs) r.list (record { place = n; tree = t }) r.numbers w;
   }
 
   -- past the last place, the end of the list
@@ -111,26 +117,27 @@ module _ (cs : List Cond) (S : State) (o : ℕ) (b : Region) where
     list = r.list;
     events = e ∙ ap (λ (xs : List Event). xs ++ (EndCovers ∷ [])) r.events ∙ append_assoc old (open_events r.list) (EndCovers ∷ []);
     all = below_end cs S o b n r.list h r.below;
+    numbers = r.numbers;
   }
 
 -- ---- whole links and endings, as they are recorded
 
 -- a place is dropped: its event, and then the cover of the whole region
-pub drop_led : (cs : List Cond) (S T : State) (o s : ℕ) (t : CoverTree) (old mid end : List Event) → has S o s ≡ true → covers cs S o s (reach S o).region t ≡ true → mid ≡ old ++ (Drop (record { 0 = o }) s ∷ []) → end ≡ mid ++ events_of t
+pub drop_led : (cs : List Cond) (S T : State) (o s : ℕ) (t : CoverTree) (old mid end : List Event) → has S o s ≡ true → covers cs S o s (reach S o).region t ≡ true → HasNumbersIn (dims S o) (length cs) t → mid ≡ old ++ (Drop (record { 0 = o }) s ∷ []) → end ≡ mid ++ events_of t
     → T ≡ set S o (without (reach S o) s) → (es : List Event) × (end ≡ old ++ es) × Leads cs S es T
-drop_led cs S T o s t old mid end h v f g e = (
+drop_led cs S T o s t old mid end h v w f g e = (
   Drop (record { 0 = o }) s ∷ events_of t,
   g ∙ ap (λ (xs : List Event). xs ++ events_of t) f ∙ append_assoc old (Drop (record { 0 = o }) s ∷ []) (events_of t),
-  subst (Leads cs S (Drop (record { 0 = o }) s ∷ events_of t)) (sym e) (leads_one cs S (Drops o s t) (h, v)),
+  subst (Leads cs S (Drop (record { 0 = o }) s ∷ events_of t)) (sym e) (leads_one cs S (Drops o s t) (h, v, w)),
 )
 
 -- a bound moves: its event, and then a whole list of covers of the rest
-pub bound_led : (cs : List Cond) (S T : State) (o : ℕ) (side : Side) (old mid end : List Event) → Exists S o (dimension_of side) → Narrows S o side → mid ≡ old ++ (bound_event o side ∷ []) → RecordedCovers cs S o (far side (reach S o).region) mid end
+pub bound_led : (cs : List Cond) (S T : State) (o : ℕ) (side : Side) (old mid end : List Event) → o < length S → IsCut (dims S o) side → Narrows S o side → mid ≡ old ++ (bound_event o side ∷ []) → RecordedCovers cs S o (far side (reach S o).region) mid end
     → T ≡ set S o (moved side (reach S o)) → (es : List Event) × (end ≡ old ++ es) × Leads cs S es T
-bound_led cs S T o side old mid end x n f r e = (
+bound_led cs S T o side old mid end x k n f r e = (
   bound_event o side ∷ covers_events r.list,
   r.events ∙ ap (λ (xs : List Event). xs ++ covers_events r.list) f ∙ append_assoc old (bound_event o side ∷ []) (covers_events r.list),
-  subst (Leads cs S (bound_event o side ∷ covers_events r.list)) (sym e) (leads_one cs S (Bounds o side r.list) (x, n, r.all)),
+  subst (Leads cs S (bound_event o side ∷ covers_events r.list)) (sym (e ∙ ap (set S o) (moved_is_cut S o side n))) (leads_one cs S (Bounds o side r.list) (x, k, n, r.all, r.numbers)),
 )
 
 -- an object has no point: its event, and then a whole list of covers of its region
@@ -138,5 +145,5 @@ pub gone_closed : (cs : List Cond) (S : State) (o : ℕ) (old mid end : List Eve
 gone_closed cs S o old mid end there f r = (
   Gone (record { 0 = o }) ∷ covers_events r.list,
   r.events ∙ ap (λ (xs : List Event). xs ++ covers_events r.list) f ∙ append_assoc old (Gone (record { 0 = o }) ∷ []) (covers_events r.list),
-  closes_end cs S (IsGone o r.list) (there, r.all),
+  closes_end cs S (IsGone o r.list) (there, r.all, r.numbers),
 )

@@ -1,5 +1,5 @@
 -- Covers: trees of cuts of a box, which show that an object has no point in the box.
-use Rattle.std.specs.Prelude.{true, ◌≡◌, ◌⊎◌, ◌&&◌, ◌||◌, ◌<◌, Contains, ◌≤ℤ◌, not, ℕ, zero, suc, Bool, false, List, [], ◌∷◌, ◌++◌, slice_get, Option, Some, None, ℤ, pos, negsuc}
+use Rattle.std.specs.Prelude.{true, ◌≡◌, ◌⊎◌, ◌&&◌, ◌||◌, ◌<◌, ◌≤◌, Contains, ◌≤ℤ◌, not, ℕ, zero, suc, Bool, false, List, [], ◌∷◌, ◌++◌, slice_get, Option, Some, None, ℤ, pos, negsuc}
 use Rattle.geo_conditions.specs.declared.cond.Cond.{Cond}
 use Rattle.geo_conditions.specs.Reach.{State, Region, with_at}
 use Rattle.geo_conditions.specs.Conditions.{possible}
@@ -55,6 +55,15 @@ IsCut k side = (dimension_of side < k) × (negsuc 999999999 ≤ℤ number_of sid
 abbrev pub HasCutsIn : ℕ → CoverTree → Type 0
 HasCutsIn k (Leaf i) = Unit {0}
 HasCutsIn k (Fork side x y) = IsCut k side × HasCutsIn k x × HasCutsIn k y
+
+-- The number names one of m conditions. Over an empty box the number 1 may stand, even where there is no condition.
+abbrev pub IsNumber : ℕ → ℕ → Type 0
+IsNumber m i = (i ≤ m) ⊎ (i ≡ 1)
+
+-- the numbers of the tree: each cut is one in k dimensions, and each leaf names one of m conditions
+abbrev pub HasNumbersIn : ℕ → ℕ → CoverTree → Type 0
+HasNumbersIn k m (Leaf i) = IsNumber m i
+HasNumbersIn k m (Fork side x y) = IsCut k side × HasNumbersIn k m x × HasNumbersIn k m y
 
 -- each leaf names one of the numbers; only over an empty box may the number 1 stand
 abbrev pub NamesOnly : List ℕ → Region → CoverTree → Type 0

@@ -2,10 +2,10 @@
 use Rattle.std.specs.Prelude.{if◌then◌else◌, nat_le, ◌≡◌, ◌≤ℤ◌, ◌&&◌, ◌==◌, ◌+◌, ℕ, suc, Bool, true, false, List, [], ◌∷◌, ◌++◌, length, Option, Some, None}
 use Rattle.geo_base.specs.Boxes.{coordinate}
 use Rattle.geo_conditions.specs.declared.cond.Cond.{Cond}
-use Rattle.geo_conditions.specs.Reach.{State, Region, reach}
+use Rattle.geo_conditions.specs.Reach.{State, Region, reach, dims}
 use Rattle.derivation.specs.declared.event.Event.{Event}
 use Rattle.derivation.specs.declared.event.Event.TheVariants.{Cover, EndCovers}
-use Rattle.derivation.specs.Covers.{CoverTree, events_of, covers}
+use Rattle.derivation.specs.Covers.{CoverTree, events_of, covers, HasNumbersIn}
 
 -- a cover of a place
 pub record PlaceCover : Type 0 where
@@ -44,6 +44,11 @@ abbrev pub all_cover : List Cond → State → ℕ → Region → ℕ → List P
 all_cover cs S o b n [] = is_nothing (next_place n (reach S o).places)
 all_cover cs S o b n (c ∷ more) = is_that (next_place n (reach S o).places) c.place && (covers cs S o c.place b c.tree && all_cover cs S o b (c.place + 1) more)
 
+-- the same of the trees of a list of covers
+abbrev pub HaveNumbersIn : ℕ → ℕ → List PlaceCover → Type 0
+HaveNumbersIn k m [] = Unit {0}
+HaveNumbersIn k m (c ∷ more) = HasNumbersIn k m c.tree × HaveNumbersIn k m more
+
 -- the covers name the places that are left below n, and each covers the box: with covers from n on they are a whole list
 pub record CoversBelow (cs : List Cond) (S : State) (o : ℕ) (b : Region) (n : ℕ) (list : List PlaceCover) : Type 0 where
   pub whole : (more : List PlaceCover) → all_cover cs S o b n more ≡ true → all_cover cs S o b 1 (list ++ more) ≡ true
@@ -53,12 +58,14 @@ pub record RecordedBelow (cs : List Cond) (S : State) (o : ℕ) (b : Region) (n 
   pub list : List PlaceCover
   pub events : now ≡ old ++ open_events list
   pub below : CoversBelow cs S o b n list
+  pub numbers : HaveNumbersIn (dims S o) (length cs) list
 
 -- behind the old events there is now a whole list of covers
 pub record RecordedCovers (cs : List Cond) (S : State) (o : ℕ) (b : Region) (old now : List Event) : Type 0 where
   pub list : List PlaceCover
   pub events : now ≡ old ++ covers_events list
   pub all : all_cover cs S o b 1 list ≡ true
+  pub numbers : HaveNumbersIn (dims S o) (length cs) list
 
 -- the first box lies in the second, by ends
 pub record SmallerBox (c b : Region) : Type 0 where

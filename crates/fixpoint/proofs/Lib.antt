@@ -2,5 +2,4 @@ pub mod PointSearch
 pub mod Narrowed
 pub mod Finding
 pub mod Passing
-pub mod Refuting
 pub mod Recorded

@@ -3,11 +3,12 @@ use Rattle.std.proofs.Common.{◌≡◌, ℕ, zero, suc, ◌+◌, ◌<◌, Bool,
 use Rattle.std.specs.Int.{int_min, int_max}
 use Rattle.std.proofs.lemmas.Int.{ints, clamps}
 use Rattle.std.proofs.lemmas.Bool.{cases_Bool, cases_eq, or_right}
-use Rattle.std.proofs.lemmas.List.{append-nil, get_or-set_same, get_or-set_other}
+use Rattle.std.proofs.lemmas.List.{get_or-set_same, get_or-set_other}
 use Rattle.std.proofs.Math.ListN.{length-set}
 use Rattle.geo_base.specs.Boxes.{coordinate, IsCrossed}
 use Rattle.geo_conditions.specs.declared.cond.Cond.{Cond}
-use Rattle.geo_conditions.specs.Reach.{State, Region, reach, has, low, high, InBox, with_at, with_low, with_high, just}
+use Rattle.geo_state.specs.Trail.{IsSmall, IsSmallNumber}
+use Rattle.geo_conditions.specs.Reach.{State, Region, reach, has, low, high, dims, InBox, with_at, with_low, with_high, just}
 use Rattle.geo_conditions.specs.Supported.{NoneRefuted, HasNoPoint}
 use Rattle.geo_conditions.proofs.Points.{in_just}
 use Rattle.geo_conditions.proofs.Greatest.{at_set}
@@ -15,15 +16,16 @@ use Rattle.derivation.specs.declared.event.Event.{Event}
 use Rattle.derivation.specs.declared.event.Event.TheVariants.{Cut, Raise, Lower}
 use Rattle.derivation.specs.declared.side.Side.TheVariants.{Upto, From}
 use Rattle.derivation.specs.Cuts.{near, far, is_empty}
-use Rattle.derivation.specs.Covers.{CoverTree, Leaf, Fork, events_of, covers, refutes}
+use Rattle.derivation.specs.Covers.{CoverTree, Leaf, Fork, events_of, covers, refutes, IsCut, HasNumbersIn}
 use Rattle.derivation.specs.PlaceCovers.{RecordedCovers}
-use Rattle.derivation.proofs.Chains.{leads_nil, leads_on, closes_on}
 use Rattle.derivation.proofs.Listings.{bound_led}
+use Rattle.derivation.proofs.Refuting.{refutes_within}
 use Rattle.derivation.proofs.Empty.{fork_is, covers_empty}
 use Rattle.derivation.proofs.Parts.{ranges_of}
-use Rattle.fixpoint.specs.Points.{cut_to}
+use Rattle.fixpoint.specs.Points.{cut_to, IsSmallRegion}
 use Rattle.fixpoint.specs.Defects.{LacksAll, LacksPoint, LacksLow, LacksHigh}
-use Rattle.fixpoint.specs.Recorded.{RecordedCover, LedTo, ClosedFrom}
+use Rattle.derivation.specs.Chains.{IsLed, IsClosed}
+use Rattle.fixpoint.specs.Recorded.{RecordedCover}
 use Rattle.fixpoint.proofs.PointSearch.{same_list, same_box, cut_in}
 
 -- ---- boxes
@@ -54,6 +56,29 @@ cut_single b c d v k l q one e h =
       | inr ne ↦ get_or-set_other b.lo d e v (pos 0) ne ∙ one e (omega arith) ∙ sym (get_or-set_other b.hi d e v (pos 0) ne)
     ])
 
+-- ---- boxes with small ends
+
+-- the region of an object of a small state
+pub small_region : (S : State) (o : ℕ) (b : Region) → IsSmall S → b ≡ (reach S o).region → IsSmallRegion b
+small_region S o b small e = subst IsSmallRegion (sym e) (λ d. small o d)
+
+-- one end changed
+pub small_hi : (b c : Region) (d : ℕ) (v : ℤ) → IsSmallNumber v → c.lo ≡ b.lo → c.hi ≡ set b.hi d v → IsSmallRegion b → IsSmallRegion c
+small_hi b c d v n lo hi small e = (
+  subst (λ (xs : List ℤ). IsSmallNumber (coordinate xs e)) (sym lo) (small e).0,
+  subst (λ (xs : List ℤ). IsSmallNumber (coordinate xs e)) (sym hi) (at_set (λ j x. IsSmallNumber x) b.hi d v (λ l. n) (λ j. (small j).1) e),
+)
+
+pub small_lo : (b c : Region) (d : ℕ) (v : ℤ) → IsSmallNumber v → c.lo ≡ set b.lo d v → c.hi ≡ b.hi → IsSmallRegion b → IsSmallRegion c
+small_lo b c d v n lo hi small e = (
+  subst (λ (xs : List ℤ). IsSmallNumber (coordinate xs e)) (sym lo) (at_set (λ j x. IsSmallNumber x) b.lo d v (λ l. n) (λ j. (small j).0) e),
+  subst (λ (xs : List ℤ). IsSmallNumber (coordinate xs e)) (sym hi) (small e).1,
+)
+
+-- both ends changed
+pub small_cut : (b c : Region) (d : ℕ) (v : ℤ) → IsSmallNumber v → c ≡ cut_to b d v → IsSmallRegion b → IsSmallRegion c
+small_cut b c d v n q small = subst IsSmallRegion (sym q) (λ e. (at_set (λ j x. IsSmallNumber x) b.lo d v (λ l. n) (λ j. (small j).0) e, at_set (λ j x. IsSmallNumber x) b.hi d v (λ l. n) (λ j. (small j).1) e))
+
 -- ---- lists with one number changed
 
 set_read : (xs : List ℤ) (d : ℕ) → set xs d (coordinate xs d) ≡ xs
@@ -69,12 +94,12 @@ set_twice (x ∷ xs) (suc d) v w = ap (λ (ys : List ℤ). x ∷ ys) (set_twice 
 -- ---- a cover of a box, number by number
 
 -- a leaf over an empty box
-pub cover_empty : (cs : List Cond) (S : State) (o s i : ℕ) (b : Region) (old now : List Event) → is_empty b ≡ true → now ≡ old ++ events_of (Leaf i) → RecordedCover cs S o s b old now
-cover_empty cs S o s i b old now e n = record { tree = Leaf i; events = n; covered = covers_empty cs S o s b (Leaf i) e }
+pub cover_empty : (cs : List Cond) (S : State) (o s : ℕ) (b : Region) (old now : List Event) → is_empty b ≡ true → now ≡ old ++ events_of (Leaf 1) → RecordedCover cs S o s b old now
+cover_empty cs S o s b old now e n = record { tree = Leaf 1; events = n; covered = covers_empty cs S o s b (Leaf 1) e; numbers = inr refl }
 
 -- a leaf that names a refuted condition
 pub cover_refuted : (cs : List Cond) (S : State) (o s i : ℕ) (b : Region) (old now : List Event) → refutes cs i (with_at S o s b) ≡ true → now ≡ old ++ events_of (Leaf i) → RecordedCover cs S o s b old now
-cover_refuted cs S o s i b old now e n = record { tree = Leaf i; events = n; covered = or_right (is_empty b) (refutes cs i (with_at S o s b)) e }
+cover_refuted cs S o s i b old now e n = record { tree = Leaf i; events = n; covered = or_right (is_empty b) (refutes cs i (with_at S o s b)) e; numbers = inl (refutes_within cs i (with_at S o s b) e) }
 
 -- the part of the box from a number on
 abbrev pub from_on : Region → ℕ → ℤ → Region
@@ -82,13 +107,13 @@ from_on b d v = record { lo = set b.lo d v; hi = b.hi }
 
 -- with a cover of the part from v on, the events so far are a cover of the box
 pub record RecordedUpTo (cs : List Cond) (S : State) (o s : ℕ) (b : Region) (d : ℕ) (v : ℤ) (old now : List Event) : Type 0 where
-  pub whole : (u : CoverTree) (end : List Event) → covers cs S o s (from_on b d v) u ≡ true → end ≡ now ++ events_of u → RecordedCover cs S o s b old end
+  pub whole : (u : CoverTree) (end : List Event) → covers cs S o s (from_on b d v) u ≡ true → HasNumbersIn (dims S o) (length cs) u → end ≡ now ++ events_of u → RecordedCover cs S o s b old end
 
 -- nothing is cut yet
 pub upto_start : (cs : List Cond) (S : State) (o s : ℕ) (b : Region) (d : ℕ) (v : ℤ) (old : List Event) → v ≡ coordinate b.lo d → RecordedUpTo cs S o s b d v old old
 upto_start cs S o s b d v old q =
     let same : from_on b d v ≡ b = ap (λ (xs : List ℤ). let r : Region = record { lo = xs; hi = b.hi } in r) (ap (set b.lo d) q ∙ set_read b.lo d) in
-    record { whole = λ u end h e. record { tree = u; events = e; covered = subst (λ (r : Region). covers cs S o s r u ≡ true) same h } }
+    record { whole = λ u end h n e. record { tree = u; events = e; covered = subst (λ (r : Region). covers cs S o s r u ≡ true) same h; numbers = n } }
 
 near_is : (b : Region) (d : ℕ) (v : ℤ) → v ≤ℤ coordinate b.hi d → cut_to b d v ≡ near (Upto d v) (from_on b d v)
 near_is b d v h =
@@ -102,14 +127,14 @@ far_is b d v w k q =
     ap (λ (x : List ℤ). let r : Region = record { lo = x; hi = b.hi } in r) (ap (set b.lo d) e ∙ sym (set_twice b.lo d v (int_max (coordinate (set b.lo d v) d) (v +ℤ pos 1))))
 
 -- one number more is cut off
-pub upto_more : (cs : List Cond) (S : State) (o s : ℕ) (b c : Region) (d : ℕ) (v w : ℤ) (old now mid next : List Event) → d < length b.lo → v ≤ℤ coordinate b.hi d → c ≡ cut_to b d v → w ≡ v +ℤ pos 1 → mid ≡ now ++ (Cut d v ∷ []) → RecordedCover cs S o s c mid next
+pub upto_more : (cs : List Cond) (S : State) (o s : ℕ) (b c : Region) (d : ℕ) (v w : ℤ) (old now mid next : List Event) → IsCut (dims S o) (Upto d v) → d < length b.lo → v ≤ℤ coordinate b.hi d → c ≡ cut_to b d v → w ≡ v +ℤ pos 1 → mid ≡ now ++ (Cut d v ∷ []) → RecordedCover cs S o s c mid next
     → RecordedUpTo cs S o s b d v old now → RecordedUpTo cs S o s b d w old next
-upto_more cs S o s b c d v w old now mid next k l q f m t r = record {
-  whole = λ u end h e.
+upto_more cs S o s b c d v w old now mid next cut k l q f m t r = record {
+  whole = λ u end h n e.
       let here = subst (λ (x : Region). covers cs S o s x t.tree ≡ true) (q ∙ near_is b d v l) t.covered in
       let there = subst (λ (x : Region). covers cs S o s x u ≡ true) (far_is b d v w k f) h in
       r.whole (Fork (Upto d v) t.tree u) end
-      (fork_is cs S o s (from_on b d v) (Upto d v) t.tree u ∙ ap (λ (x : Bool). x && covers cs S o s (far (Upto d v) (from_on b d v)) u) here ∙ there)
+      (fork_is cs S o s (from_on b d v) (Upto d v) t.tree u ∙ ap (λ (x : Bool). x && covers cs S o s (far (Upto d v) (from_on b d v)) u) here ∙ there) (cut, t.numbers, n)
       (e ∙ ap (λ (xs : List Event). xs ++ events_of u) (t.events ∙ ap (λ (xs : List Event). xs ++ events_of t.tree) m)
       ∙ append_assoc (now ++ (Cut d v ∷ [])) (events_of t.tree) (events_of u)
       ∙ append_assoc now (Cut d v ∷ []) (events_of t.tree ++ events_of u));
@@ -119,7 +144,7 @@ upto_more cs S o s b c d v w old now mid next k l q f m t r = record {
 pub upto_end : (cs : List Cond) (S : State) (o s : ℕ) (b c : Region) (d : ℕ) (v : ℤ) (old now end : List Event) → v ≡ coordinate b.hi d → c ≡ cut_to b d v → RecordedCover cs S o s c now end → RecordedUpTo cs S o s b d v old now → RecordedCover cs S o s b old end
 upto_end cs S o s b c d v old now end f q t r =
     let same : cut_to b d v ≡ from_on b d v = ap (λ (x : List ℤ). let y : Region = record { lo = set b.lo d v; hi = x } in y) (ap (set b.hi d) f ∙ set_read b.hi d) in
-    r.whole t.tree end (subst (λ (x : Region). covers cs S o s x t.tree ≡ true) (q ∙ same) t.covered) t.events
+    r.whole t.tree end (subst (λ (x : Region). covers cs S o s x t.tree ≡ true) (q ∙ same) t.covered) t.numbers t.events
 
 -- ---- an object without points
 
@@ -180,47 +205,29 @@ high_none cs S o d b v q e l n h p y =
     l.lacks (n, p, record { place = h; point = i.0; unrefuted = y.unrefuted }, (omega (arith, ints, i.1, i.0.below d)))
 
 -- the low end rises by 1, with the covers up to it
-pub raise_led : (cs : List Cond) (S : State) (o d : ℕ) (b : Region) (v w : ℤ) (old mid end : List Event) → v ≡ low S o d → w ≡ low S o d +ℤ pos 1 → b ≡ part_to (reach S o).region d v → LacksLow cs S o d
-    → mid ≡ old ++ (Raise (record { 0 = o }) d w ∷ []) → RecordedCovers cs S o b mid end → LedTo cs S (set S o (with_low (reach S o) d (low S o d +ℤ pos 1))) old end
-raise_led cs S o d b v w old mid end q f e l m r =
+pub raise_led : (cs : List Cond) (S : State) (o d : ℕ) (b : Region) (v w : ℤ) (old mid end : List Event) → v ≡ low S o d → w ≡ low S o d +ℤ pos 1 → b ≡ part_to (reach S o).region d v → IsSmall S → LacksLow cs S o d
+    → mid ≡ old ++ (Raise (record { 0 = o }) d w ∷ []) → RecordedCovers cs S o b mid end → IsLed cs S (set S o (with_low (reach S o) d (low S o d +ℤ pos 1))) old end
+raise_led cs S o d b v w old mid end q f e small l m r =
     let u : ℤ = low S o d +ℤ pos 1 in
     let least : v ≡ int_min (high S o d) (u +ℤ negsuc 0) = omega (arith, ints, clamps, l.wide) in
     let same : b ≡ far (From d u) (reach S o).region = e ∙ ap (part_to (reach S o).region d) least in
-    bound_led cs S (set S o (with_low (reach S o) d u)) o (From d u) old mid end (l.object, l.dimension) (omega (arith, ints))
+    bound_led cs S (set S o (with_low (reach S o) d u)) o (From d u) old mid end l.object
+    (l.dimension, omega (arith, ints, (small o d).0.0), omega (arith, ints, (small o d).0.1)) (omega (arith, ints))
     (m ∙ ap (λ (x : ℤ). old ++ (Raise (record { 0 = o }) d x ∷ [])) f) (subst (λ (x : Region). RecordedCovers cs S o x mid end) same r) refl
 
 -- the high end falls by 1, with the covers from it on
-pub lower_led : (cs : List Cond) (S : State) (o d : ℕ) (b : Region) (v w : ℤ) (old mid end : List Event) → v ≡ high S o d → w ≡ high S o d +ℤ negsuc 0 → b ≡ from_on (reach S o).region d v → LacksHigh cs S o d
-    → mid ≡ old ++ (Lower (record { 0 = o }) d w ∷ []) → RecordedCovers cs S o b mid end → LedTo cs S (set S o (with_high (reach S o) d (high S o d +ℤ negsuc 0))) old end
-lower_led cs S o d b v w old mid end q f e l m r =
+pub lower_led : (cs : List Cond) (S : State) (o d : ℕ) (b : Region) (v w : ℤ) (old mid end : List Event) → v ≡ high S o d → w ≡ high S o d +ℤ negsuc 0 → b ≡ from_on (reach S o).region d v → IsSmall S → LacksHigh cs S o d
+    → mid ≡ old ++ (Lower (record { 0 = o }) d w ∷ []) → RecordedCovers cs S o b mid end → IsLed cs S (set S o (with_high (reach S o) d (high S o d +ℤ negsuc 0))) old end
+lower_led cs S o d b v w old mid end q f e small l m r =
     let u : ℤ = high S o d +ℤ negsuc 0 in
     let most : v ≡ int_max (low S o d) (u +ℤ pos 1) = omega (arith, ints, clamps, l.wide) in
     let same : b ≡ far (Upto d u) (reach S o).region = e ∙ ap (from_on (reach S o).region d) most in
-    bound_led cs S (set S o (with_high (reach S o) d u)) o (Upto d u) old mid end (l.object, l.dimension) (omega (arith, ints))
+    bound_led cs S (set S o (with_high (reach S o) d u)) o (Upto d u) old mid end l.object
+    (l.dimension, omega (arith, ints, (small o d).1.0), omega (arith, ints, (small o d).1.1)) (omega (arith, ints))
     (m ∙ ap (λ (x : ℤ). old ++ (Lower (record { 0 = o }) d x ∷ [])) f) (subst (λ (x : Region). RecordedCovers cs S o x mid end) same r) refl
 
 -- ---- chains behind the old events
 
--- nothing is recorded yet
-pub led_start : (cs : List Cond) (S : State) (old : List Event) → LedTo cs S S old old
-led_start cs S old = ([], sym (append-nil old), leads_nil cs S)
-
--- one chain behind another
-pub led_on : (cs : List Cond) (S R Q : State) (old mid end : List Event) → LedTo cs S R old mid → LedTo cs R Q mid end → LedTo cs S Q old end
-led_on cs S R Q old mid end p q = (
-  p.0 ++ q.0,
-  q.1 ∙ ap (λ (xs : List Event). xs ++ q.0) p.1 ∙ append_assoc old p.0 q.0,
-  leads_on cs S R Q p.0 q.0 p.2 q.2,
-)
-
--- a chain, and then what closes
-pub closed_on : (cs : List Cond) (S R : State) (old mid end : List Event) → LedTo cs S R old mid → ClosedFrom cs R mid end → ClosedFrom cs S old end
-closed_on cs S R old mid end p q = (
-  p.0 ++ q.0,
-  q.1 ∙ ap (λ (xs : List Event). xs ++ q.0) p.1 ∙ append_assoc old p.0 q.0,
-  closes_on cs S R p.0 q.0 p.2 q.2,
-)
-
 -- a chain that is known from a state that is the same
-pub led_from : (cs : List Cond) (S X T : State) (step : State → State) (old now : List Event) → X ≡ S → T ≡ step S → LedTo cs X (step X) old now → LedTo cs S T old now
-led_from cs S X T step old now e f h = subst (λ (Y : State). LedTo cs S Y old now) (sym f) (subst (λ (Y : State). LedTo cs Y (step Y) old now) e h)
+pub led_from : (cs : List Cond) (S X T : State) (step : State → State) (old now : List Event) → X ≡ S → T ≡ step S → IsLed cs X (step X) old now → IsLed cs S T old now
+led_from cs S X T step old now e f h = subst (λ (Y : State). IsLed cs S Y old now) (sym f) (subst (λ (Y : State). IsLed cs Y (step Y) old now) e h)

@@ -1,10 +1,10 @@
 -- What is recorded behind the old events.
-use Rattle.std.specs.Prelude.{◌≡◌, ℕ, true, List, ◌++◌}
+use Rattle.std.specs.Prelude.{◌≡◌, ℕ, true, List, length, ◌++◌}
 use Rattle.geo_conditions.specs.declared.cond.Cond.{Cond}
-use Rattle.geo_conditions.specs.Reach.{State, Region}
+use Rattle.geo_conditions.specs.Reach.{State, Region, dims}
 use Rattle.derivation.specs.declared.event.Event.{Event}
-use Rattle.derivation.specs.Covers.{CoverTree, events_of, covers}
-use Rattle.derivation.specs.Chains.{Leads, Closes}
+use Rattle.derivation.specs.Covers.{CoverTree, events_of, covers, HasNumbersIn}
+use Rattle.derivation.specs.Chains.{IsLed, IsClosed}
 use Rattle.fixpoint.specs.declared.mending.Outcome.{Outcome}
 use Rattle.fixpoint.specs.declared.mending.Outcome.TheVariants.{Dead, Changed, Fine}
 
@@ -13,17 +13,10 @@ pub record RecordedCover (cs : List Cond) (S : State) (o s : ℕ) (b : Region) (
   pub tree : CoverTree
   pub events : now ≡ old ++ events_of tree
   pub covered : covers cs S o s b tree ≡ true
-
--- behind the old events there is now a chain that leads from S to T
-abbrev pub LedTo : List Cond → State → State → List Event → List Event → Type 0
-LedTo cs S T old now = (es : List Event) × (now ≡ old ++ es) × Leads cs S es T
-
--- behind the old events there is now a chain from S that is closed
-abbrev pub ClosedFrom : List Cond → State → List Event → List Event → Type 0
-ClosedFrom cs S old now = (es : List Event) × (now ≡ old ++ es) × Closes cs S es
+  pub numbers : HasNumbersIn (dims S o) (length cs) tree
 
 -- from S to T: dead, the chain is closed, and else it leads there
 abbrev pub RecordsOutcome : List Cond → State → Outcome → State → List Event → List Event → Type 0
-RecordsOutcome cs S Dead T old now = ClosedFrom cs S old now
-RecordsOutcome cs S Changed T old now = LedTo cs S T old now
-RecordsOutcome cs S Fine T old now = LedTo cs S T old now
+RecordsOutcome cs S Dead T old now = IsClosed cs S old now
+RecordsOutcome cs S Changed T old now = IsLed cs S T old now
+RecordsOutcome cs S Fine T old now = IsLed cs S T old now

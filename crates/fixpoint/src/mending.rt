@@ -6,7 +6,8 @@ ghost use Rattle.geo_conditions.specs.Supported.{NoneInside};
 ghost use Rattle.derivation.specs.Events.{Continues};
 ghost use Rattle.fixpoint.specs.Defects.{IsDefect, LacksPoint, LacksLow, LacksHigh};
 ghost use Rattle.fixpoint.specs.Passes.{IsNarrower, Repairs, Passes};
-ghost use Rattle.fixpoint.specs.Recorded.{LedTo, ClosedFrom, RecordsOutcome};
+ghost use Rattle.derivation.specs.Chains.{IsLed, IsClosed};
+ghost use Rattle.fixpoint.specs.Recorded.{RecordsOutcome};
 
 use super::defects::{Defect, object_defect};
 use super::points::first_refuted;
@@ -44,8 +45,8 @@ fn mend<const K: usize, R: Recorder>(
     ensures same { OnErr result (t.new.state ≡ t.old.state) }
     ensures levels { (t.new.levels ≡ t.old.levels) × (t.new.restores ≡ t.old.restores) }
     ensures record { IfOk result (λ m. R.keeps ≡ true → MatchBool m
-        (LedTo cs.now t.old.state t.new.state (R.list rec.old) (R.list rec.new))
-        (ClosedFrom cs.now t.old.state (R.list rec.old) (R.list rec.new))) }
+        (IsLed cs.now t.old.state t.new.state (R.list rec.old) (R.list rec.new))
+        (IsClosed cs.now t.old.state (R.list rec.old) (R.list rec.new))) }
     ensures events { R.keeps ≡ true → Continues (R.list rec.old) (R.list rec.new) }
     ensures refused { OnErr result
         (min (R.refusals rec.old + 1) (2 ^ 64 - 1) ≤ R.refusals rec.new) }
@@ -88,7 +89,7 @@ fn take<const K: usize, R: Recorder>(
     ensures same { OnErr result (t.new.state ≡ t.old.state) }
     ensures levels { (t.new.levels ≡ t.old.levels) × (t.new.restores ≡ t.old.restores) }
     ensures led { OnOk result (R.keeps ≡ true
-        → LedTo cs.now t.old.state t.new.state (R.list rec.old) (R.list rec.new)) }
+        → IsLed cs.now t.old.state t.new.state (R.list rec.old) (R.list rec.new)) }
     ensures events { R.keeps ≡ true → Continues (R.list rec.old) (R.list rec.new) }
     ensures refused { OnErr result
         (min (R.refusals rec.old + 1) (2 ^ 64 - 1) ≤ R.refusals rec.new) }
@@ -120,7 +121,7 @@ fn raise<const K: usize, R: Recorder>(
     ensures same { OnErr result (t.new.state ≡ t.old.state) }
     ensures levels { (t.new.levels ≡ t.old.levels) × (t.new.restores ≡ t.old.restores) }
     ensures led { OnOk result (R.keeps ≡ true
-        → LedTo cs.now t.old.state t.new.state (R.list rec.old) (R.list rec.new)) }
+        → IsLed cs.now t.old.state t.new.state (R.list rec.old) (R.list rec.new)) }
     ensures events { R.keeps ≡ true → Continues (R.list rec.old) (R.list rec.new) }
     ensures refused { OnErr result
         (min (R.refusals rec.old + 1) (2 ^ 64 - 1) ≤ R.refusals rec.new) }
@@ -157,7 +158,7 @@ fn lower<const K: usize, R: Recorder>(
     ensures same { OnErr result (t.new.state ≡ t.old.state) }
     ensures levels { (t.new.levels ≡ t.old.levels) × (t.new.restores ≡ t.old.restores) }
     ensures led { OnOk result (R.keeps ≡ true
-        → LedTo cs.now t.old.state t.new.state (R.list rec.old) (R.list rec.new)) }
+        → IsLed cs.now t.old.state t.new.state (R.list rec.old) (R.list rec.new)) }
     ensures events { R.keeps ≡ true → Continues (R.list rec.old) (R.list rec.new) }
     ensures refused { OnErr result
         (min (R.refusals rec.old + 1) (2 ^ 64 - 1) ≤ R.refusals rec.new) }

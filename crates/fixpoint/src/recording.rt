@@ -11,8 +11,11 @@ ghost use Rattle.derivation.specs.declared.event.Event.{Event};
 ghost use Rattle.derivation.specs.Covers.{refutes};
 ghost use Rattle.derivation.specs.Events.{Continues};
 ghost use Rattle.derivation.specs.PlaceCovers.{RecordedBelow, RecordedCovers};
+ghost use Rattle.geo_state.specs.Trail.{IsSmall};
+ghost use Rattle.fixpoint.specs.Points.{IsSmallRegion};
 ghost use Rattle.fixpoint.specs.Defects.{LacksAll, LacksPoint, LacksLow, LacksHigh};
-ghost use Rattle.fixpoint.specs.Recorded.{RecordedCover, LedTo, ClosedFrom};
+ghost use Rattle.derivation.specs.Chains.{IsLed, IsClosed};
+ghost use Rattle.fixpoint.specs.Recorded.{RecordedCover};
 
 use super::points::{cut_to, first_refuted_at};
 use derivation::{Event, Recorder};
@@ -81,6 +84,7 @@ fn record_points<const K: usize, R: Recorder>(
     requires list { length cs.now ≤ 1000000000 }
     requires fits { All (λ c. FitsIn c s.now) cs.now }
     requires object { o.0 < length s.now }
+    requires small { IsSmallRegion (region_of b.now) }
     requires dimension { d ≤ K }
     requires lows { length b.now.lo.coordinates ≡ K }
     requires highs { length b.now.hi.coordinates ≡ K }
@@ -107,6 +111,7 @@ fn record_points<const K: usize, R: Recorder>(
             Ok(()) => Ok(()),
         };
     }
+    let _objects = s.objects();
     let last = b.hi.get(d);
     for v in b.lo.get(d)..last {
         match record_event(rec, Event::Cut(d, v)) {
@@ -137,6 +142,7 @@ fn record_place<const K: usize, R: Recorder>(
     requires list { length cs.now ≤ 1000000000 }
     requires fits { All (λ c. FitsIn c s.now) cs.now }
     requires object { o.0 < length s.now }
+    requires small { IsSmallRegion (region_of b.now) }
     requires place { 1 ≤ place }
     requires lows { length b.now.lo.coordinates ≡ K }
     requires highs { length b.now.hi.coordinates ≡ K }
@@ -175,6 +181,7 @@ fn record_places<const K: usize, R: Recorder>(
     requires list { length cs.now ≤ 1000000000 }
     requires fits { All (λ c. FitsIn c s.now) cs.now }
     requires object { o.0 < length s.now }
+    requires small { IsSmallRegion (region_of b.now) }
     requires lows { length b.now.lo.coordinates ≡ K }
     requires highs { length b.now.hi.coordinates ≡ K }
     requires none { (n : ℕ) → has s.now o.0 n ≡ true
@@ -211,7 +218,7 @@ pub fn record_dead<const K: usize, R: Recorder>(
     requires number { i ≤ length cs.now }
     requires refuted { refutes cs.now i s.now ≡ true }
     ensures closed { OnOk result (R.keeps ≡ true
-        → ClosedFrom cs.now s.now (R.list rec.old) (R.list rec.new)) }
+        → IsClosed cs.now s.now (R.list rec.old) (R.list rec.new)) }
     ensures events { R.keeps ≡ true → Continues (R.list rec.old) (R.list rec.new) }
     ensures refused { OnErr result
         (min (R.refusals rec.old + 1) (2 ^ 64 - 1) ≤ R.refusals rec.new) }
@@ -234,9 +241,10 @@ pub fn record_gone<const K: usize, R: Recorder>(
     requires k { K ≤ MAX_DIMS }
     requires list { length cs.now ≤ 1000000000 }
     requires fits { All (λ c. FitsIn c s.now) cs.now }
+    requires small { IsSmall s.now }
     requires lacks { LacksAll cs.now s.now o.0 }
     ensures closed { OnOk result (R.keeps ≡ true
-        → ClosedFrom cs.now s.now (R.list rec.old) (R.list rec.new)) }
+        → IsClosed cs.now s.now (R.list rec.old) (R.list rec.new)) }
     ensures events { R.keeps ≡ true → Continues (R.list rec.old) (R.list rec.new) }
     ensures refused { OnErr result
         (min (R.refusals rec.old + 1) (2 ^ 64 - 1) ≤ R.refusals rec.new) }
@@ -264,8 +272,9 @@ pub fn record_drop<const K: usize, R: Recorder>(
     requires k { K ≤ MAX_DIMS }
     requires list { length cs.now ≤ 1000000000 }
     requires fits { All (λ c. FitsIn c s.now) cs.now }
+    requires small { IsSmall s.now }
     requires lacks { LacksPoint cs.now s.now o.0 place }
-    ensures led { OnOk result (R.keeps ≡ true → LedTo cs.now s.now
+    ensures led { OnOk result (R.keeps ≡ true → IsLed cs.now s.now
         (slice_set s.now o.0 (without (reach s.now o.0) place)) (R.list rec.old) (R.list rec.new)) }
     ensures events { R.keeps ≡ true → Continues (R.list rec.old) (R.list rec.new) }
     ensures refused { OnErr result
@@ -296,8 +305,9 @@ pub fn record_raise<const K: usize, R: Recorder>(
     requires list { length cs.now ≤ 1000000000 }
     requires fits { All (λ c. FitsIn c s.now) cs.now }
     requires dimension { d < K }
+    requires small { IsSmall s.now }
     requires lacks { LacksLow cs.now s.now o.0 d }
-    ensures led { OnOk result (R.keeps ≡ true → LedTo cs.now s.now
+    ensures led { OnOk result (R.keeps ≡ true → IsLed cs.now s.now
         (slice_set s.now o.0 (with_low (reach s.now o.0) d (low s.now o.0 d +ℤ pos 1)))
         (R.list rec.old) (R.list rec.new)) }
     ensures events { R.keeps ≡ true → Continues (R.list rec.old) (R.list rec.new) }
@@ -332,8 +342,9 @@ pub fn record_lower<const K: usize, R: Recorder>(
     requires list { length cs.now ≤ 1000000000 }
     requires fits { All (λ c. FitsIn c s.now) cs.now }
     requires dimension { d < K }
+    requires small { IsSmall s.now }
     requires lacks { LacksHigh cs.now s.now o.0 d }
-    ensures led { OnOk result (R.keeps ≡ true → LedTo cs.now s.now
+    ensures led { OnOk result (R.keeps ≡ true → IsLed cs.now s.now
         (slice_set s.now o.0 (with_high (reach s.now o.0) d (high s.now o.0 d +ℤ negsuc 0)))
         (R.list rec.old) (R.list rec.new)) }
     ensures events { R.keeps ≡ true → Continues (R.list rec.old) (R.list rec.new) }

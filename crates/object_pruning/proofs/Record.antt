@@ -1,30 +1,34 @@
 -- What a pruning adds to a record: chains, and covers of what an end cuts off.
-use Rattle.std.proofs.Common.{◌≡◌, ℕ, zero, suc, ◌+◌, ◌<◌, ◌≤◌, Bool, true, false, List, [], ◌∷◌, ◌++◌, length, set, take, refl, sym, ap, ◌∙◌, subst, arith, ℤ, pos, negsuc, ◌+ℤ◌, ◌≤ℤ◌, append_assoc, Option, Some, None}
+use Rattle.std.proofs.Common.{◌≡◌, ℕ, zero, suc, ◌+◌, ◌-◌, ◌<◌, ◌≤◌, Bool, true, false, List, [], ◌∷◌, ◌++◌, length, set, take, refl, sym, ap, ◌∙◌, subst, arith, ℤ, pos, negsuc, ◌+ℤ◌, ◌≤ℤ◌, append_assoc, Option, Some, None}
 use Rattle.std.specs.Int.{int_min, int_max}
 use Rattle.std.proofs.lemmas.Int.{ints, clamps}
-use Rattle.std.proofs.lemmas.List.{append-nil, length-append}
+use Rattle.std.proofs.lemmas.List.{length-append}
+use Rattle.std.proofs.lemmas.List.Elements.{All-contains}
 use Rattle.std.proofs.Math.Seq.{take-append_seam, set-append_seam}
 use Rattle.geo_base.specs.Boxes.{coordinate}
 use Rattle.geo_base.specs.Ways.{toward}
 use Rattle.geo_conditions.specs.declared.cond.Cond.{Cond}
 use Rattle.geo_conditions.specs.Conditions.{AllFit}
-use Rattle.geo_conditions.specs.Reach.{State, Region, reach, has, low, high, dims, with_low, with_high, without, Exists}
+use Rattle.geo_conditions.specs.Reach.{State, Region, reach, has, low, high, dims, with_low, with_high, without}
 use Rattle.geo_conditions.proofs.Monotone.{le_trans}
 use Rattle.geo_state.proofs.Narrower.{low_within, high_within}
 use Rattle.derivation.specs.declared.event.Event.{Event}
 use Rattle.derivation.specs.declared.event.Event.TheVariants.{Drop, Gone, Cover, EndCovers}
-use Rattle.derivation.specs.Covers.{dimension_of}
+use Rattle.derivation.specs.Covers.{IsCut, HasNumbersIn}
 use Rattle.derivation.specs.Cuts.{far}
 use Rattle.derivation.specs.Events.{Continues}
 use Rattle.derivation.specs.PlaceCovers.{covers_events, RecordedBelow, RecordedCovers, SmallerBox}
-use Rattle.derivation.specs.Chains.{Leads, Narrows, bound_event}
-use Rattle.derivation.proofs.Chains.{leads_nil, leads_on, closes_on}
+use Rattle.derivation.specs.Chains.{Narrows, bound_event}
 use Rattle.derivation.proofs.SmallerCovers.{box_same, box_within, upto_smaller, from_smaller, covers_smaller}
 use Rattle.derivation.proofs.Listings.{recorded_start, recorded_skip, recorded_more, recorded_end, drop_led, bound_led, gone_closed}
+use Rattle.geo_state.specs.Trail.{IsSmall, IsSmallNumber}
+use Rattle.derivation.proofs.Leaves.{covered_numbers}
+use Rattle.sweep.specs.Picks.{ArePicks}
 use Rattle.sweep.specs.Sweep.{IsCovered, part_before}
 use Rattle.object_pruning.specs.declared.kept.Placed.{Placed}
 use Rattle.object_pruning.specs.Ends.{IsSooner}
-use Rattle.object_pruning.specs.Record.{IsLed, IsClosed, end_side, with_end, IsNotBeyond, ListsPlace, AreListed}
+use Rattle.derivation.specs.Chains.{IsLed, IsClosed}
+use Rattle.object_pruning.specs.Record.{end_side, with_end, IsNotBeyond, ListsPlace, AreListed}
 
 -- ---- lists of events
 
@@ -46,34 +50,15 @@ mark_before old mid new m e h k f = omega (arith, mark_in old mid m h k, ap leng
 
 -- ---- chains
 
--- nothing changed
-pub led_same : (cs : List Cond) (S T : State) (old new : List Event) → T ≡ S → new ≡ old → IsLed cs S T old new
-led_same cs S T old new e f = ([], f ∙ sym (append-nil old), subst (Leads cs S []) (sym e) (leads_nil cs S))
-
--- a list with a chain behind it went on
-pub led_continues : (cs : List Cond) (S T : State) (old new : List Event) → IsLed cs S T old new → Continues old new
-led_continues cs S T old new p = (p.0, p.1)
-
--- one chain behind another
-pub led_on : (cs : List Cond) (S T U : State) (a b c : List Event) → IsLed cs S T a b → IsLed cs T U b c → IsLed cs S U a c
-led_on cs S T U a b c p q = (
-  p.0 ++ q.0,
-  q.1 ∙ ap (λ (xs : List Event). xs ++ q.0) p.1 ∙ append_assoc a p.0 q.0,
-  leads_on cs S T U p.0 q.0 p.2 q.2,
-)
-
--- what closes behind a chain
-pub led_closed : (cs : List Cond) (S T : State) (a b c : List Event) → IsLed cs S T a b → IsClosed cs T b c → IsClosed cs S a c
-led_closed cs S T a b c p q = (
-  p.0 ++ q.0,
-  q.1 ∙ ap (λ (xs : List Event). xs ++ q.0) p.1 ∙ append_assoc a p.0 q.0,
-  closes_on cs S T p.0 q.0 p.2 q.2,
-)
+-- a cover that a sweep left has its numbers within the list
+sweep_numbers : (K : ℕ) (cs : List Cond) (picks : List ℕ) (S : State) (o s : ℕ) (b : Region) (old new : List Event) → ArePicks (length cs) picks → dims S o ≡ K → (c : IsCovered K cs picks S o s b old new) → HasNumbersIn (dims S o) (length cs) c.tree
+sweep_numbers K cs picks S o s b old new a k c =
+    subst (λ (n : ℕ). HasNumbersIn n (length cs) c.tree) (sym k) (covered_numbers K (length cs) picks (λ i n. let p = All-contains (λ (j : ℕ). (0 < j) × (j - 1 < length cs)) picks i a n in omega (arith, p.0, p.1)) c.tree b c.cuts c.names)
 
 -- a place that is dropped, and the cover of the whole region
-pub drop_recorded : (K : ℕ) (cs : List Cond) (picks : List ℕ) (S : State) (o s : ℕ) (old mid new : List Event) → has S o s ≡ true → mid ≡ old ++ (Drop (record { 0 = o }) s ∷ [])
+pub drop_recorded : (K : ℕ) (cs : List Cond) (picks : List ℕ) (S : State) (o s : ℕ) (old mid new : List Event) → ArePicks (length cs) picks → dims S o ≡ K → has S o s ≡ true → mid ≡ old ++ (Drop (record { 0 = o }) s ∷ [])
     → IsCovered K cs picks S o s (reach S o).region mid new → IsLed cs S (set S o (without (reach S o) s)) old new
-drop_recorded K cs picks S o s old mid new h f c = drop_led cs S (set S o (without (reach S o) s)) o s c.tree old mid new h c.covers f c.events refl
+drop_recorded K cs picks S o s old mid new a k h f c = drop_led cs S (set S o (without (reach S o) s)) o s c.tree old mid new h c.covers (sweep_numbers K cs picks S o s (reach S o).region mid new a k c) f c.events refl
 
 -- ---- an object without a place
 
@@ -119,22 +104,22 @@ pub lists_absent : (cs : List Cond) (S : State) (o d : ℕ) (up : Bool) (v : ℤ
 lists_absent cs S o d up v n mid l h = λ old r. recorded_skip cs S o (far (end_side up d v) (reach S o).region) n old mid l h r
 
 -- a place, and the cover of a box that has all of it
-lists_box : (K : ℕ) (cs : List Cond) (picks : List ℕ) (S : State) (o d : ℕ) (up : Bool) (v : ℤ) (n : ℕ) (b : Region) (mid cover new : List Event) → AllFit cs S → o < length S → 1 ≤ n → has S o n ≡ true
+lists_box : (K : ℕ) (cs : List Cond) (picks : List ℕ) (S : State) (o d : ℕ) (up : Bool) (v : ℤ) (n : ℕ) (b : Region) (mid cover new : List Event) → ArePicks (length cs) picks → dims S o ≡ K → AllFit cs S → o < length S → 1 ≤ n → has S o n ≡ true
     → SmallerBox (far (end_side up d v) (reach S o).region) b → cover ≡ mid ++ (Cover n ∷ []) → IsCovered K cs picks S o n b cover new → ListsPlace cs S o d up v n mid new
-lists_box K cs picks S o d up v n b mid cover new fits there l h small f c = λ old r.
+lists_box K cs picks S o d up v n b mid cover new a k fits there l h small f c = λ old r.
     let part = far (end_side up d v) (reach S o).region in
-    recorded_more cs S o part n c.tree old mid cover new l h f c.events (covers_smaller cs S o n c.tree part b fits there small c.covers) r
+    recorded_more cs S o part n c.tree old mid cover new l h f c.events (covers_smaller cs S o n c.tree part b fits there small c.covers) (sweep_numbers K cs picks S o n b cover new a k c) r
 
 -- a place without a point
-pub lists_none : (K : ℕ) (cs : List Cond) (picks : List ℕ) (S : State) (o d : ℕ) (up : Bool) (v : ℤ) (n : ℕ) (mid cover new : List Event) → AllFit cs S → o < length S → 1 ≤ n → has S o n ≡ true
+pub lists_none : (K : ℕ) (cs : List Cond) (picks : List ℕ) (S : State) (o d : ℕ) (up : Bool) (v : ℤ) (n : ℕ) (mid cover new : List Event) → ArePicks (length cs) picks → dims S o ≡ K → AllFit cs S → o < length S → 1 ≤ n → has S o n ≡ true
     → cover ≡ mid ++ (Cover n ∷ []) → IsCovered K cs picks S o n (reach S o).region cover new → ListsPlace cs S o d up v n mid new
-lists_none K cs picks S o d up v n mid cover new fits there l h f c = lists_box K cs picks S o d up v n (reach S o).region mid cover new fits there l h (cut_off_in S o d up v) f c
+lists_none K cs picks S o d up v n mid cover new a k fits there l h f c = lists_box K cs picks S o d up v n (reach S o).region mid cover new a k fits there l h (cut_off_in S o d up v) f c
 
 -- a place with a point that does not come before the end
-pub lists_some : (K : ℕ) (cs : List Cond) (picks : List ℕ) (S : State) (o d : ℕ) (up : Bool) (v : ℤ) (n : ℕ) (p : List ℤ) (mid cover new : List Event) → AllFit cs S → o < length S → 1 ≤ n → has S o n ≡ true
+pub lists_some : (K : ℕ) (cs : List Cond) (picks : List ℕ) (S : State) (o d : ℕ) (up : Bool) (v : ℤ) (n : ℕ) (p : List ℤ) (mid cover new : List Event) → ArePicks (length cs) picks → dims S o ≡ K → AllFit cs S → o < length S → 1 ≤ n → has S o n ≡ true
     → toward up v ≤ℤ toward up (coordinate p d) → cover ≡ mid ++ (Cover n ∷ []) → IsCovered K cs picks S o n (part_before d up p (reach S o).region) cover new → ListsPlace cs S o d up v n mid new
-lists_some K cs picks S o d up v n p mid cover new fits there l h e f c =
-    lists_box K cs picks S o d up v n (part_before d up p (reach S o).region) mid cover new fits there l h (cut_off_before (reach S o).region d up v p e) f c
+lists_some K cs picks S o d up v n p mid cover new a k fits there l h e f c =
+    lists_box K cs picks S o d up v n (part_before d up p (reach S o).region) mid cover new a k fits there l h (cut_off_before (reach S o).region d up v p e) f c
 
 -- ---- an end that moves
 
@@ -148,18 +133,19 @@ narrows : (S : State) (o d : ℕ) (up : Bool) (v : ℤ) → low S o d ≤ℤ v �
 narrows S o d true v l h = l
 narrows S o d false v l h = h
 
-there_is : (S : State) (o d : ℕ) (up : Bool) (v : ℤ) → o < length S → d < dims S o → Exists S o (dimension_of (end_side up d v))
-there_is S o d true v h k = (h, k)
-there_is S o d false v h k = (h, k)
+is_cut : (S : State) (o d : ℕ) (up : Bool) (v : ℤ) → d < dims S o → IsSmallNumber v → IsCut (dims S o) (end_side up d v)
+is_cut S o d true v k n = (k, omega (arith, ints, n.0), omega (arith, ints, n.1))
+is_cut S o d false v k n = (k, omega (arith, ints, n.0), omega (arith, ints, n.1))
 
 -- its place holder, a cover for each place, and the end of their list; and then its event in the place of the place holder
-pub end_recorded : (cs : List Cond) (S : State) (o d : ℕ) (up : Bool) (v : ℤ) (old first mid last new : List Event) (x : Event) (m : ℕ) → o < length S → d < dims S o → low S o d ≤ℤ v → v ≤ℤ high S o d → m ≡ length old
+pub end_recorded : (cs : List Cond) (S : State) (o d : ℕ) (up : Bool) (v : ℤ) (old first mid last new : List Event) (x : Event) (m : ℕ) → o < length S → d < dims S o → IsSmall S → low S o d ≤ℤ v → v ≤ℤ high S o d → m ≡ length old
     → first ≡ old ++ (x ∷ []) → AreListed cs S o d up v first mid → last ≡ mid ++ (EndCovers ∷ []) → new ≡ set last m (bound_event o (end_side up d v)) → IsLed cs S (with_end S o d up v) old new
-end_recorded cs S o d up v old first mid last new x m there k l h e f a g q =
+end_recorded cs S o d up v old first mid last new x m there k small l h e f a g q =
     let side = end_side up d v in
     let part = far side (reach S o).region in
     let r : RecordedCovers cs S o part first last = recorded_end cs S o part a.0 first mid last a.1 g a.2 in
     let begun = old ++ (bound_event o side ∷ []) in
     let c : RecordedCovers cs S o part begun new =
-    record { list = r.list; events = q ∙ held old (covers_events r.list) x (bound_event o side) last m e (r.events ∙ ap (λ (xs : List Event). xs ++ covers_events r.list) f); all = r.all } in
-    bound_led cs S (with_end S o d up v) o side old begun new (there_is S o d up v there k) (narrows S o d up v l h) refl c refl
+    record { list = r.list; events = q ∙ held old (covers_events r.list) x (bound_event o side) last m e (r.events ∙ ap (λ (xs : List Event). xs ++ covers_events r.list) f); all = r.all; numbers = r.numbers } in
+    bound_led cs S (with_end S o d up v) o side old begun new there
+    (is_cut S o d up v k (omega (arith, ints, l, (small o d).0.0), omega (arith, ints, h, (small o d).1.1))) (narrows S o d up v l h) refl c refl

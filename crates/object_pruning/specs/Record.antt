@@ -14,14 +14,6 @@ use Rattle.object_pruning.specs.declared.kept.Placed.{Placed}
 use Rattle.object_pruning.specs.declared.prune.Pruned.{Pruned}
 use Rattle.object_pruning.specs.declared.prune.Pruned.TheVariants.{Empty, Changed, Same}
 
--- behind the old events stands a chain that leads from S to T
-abbrev pub IsLed : List Cond → State → State → List Event → List Event → Type 0
-IsLed cs S T old new = (es : List Event) × (new ≡ old ++ es) × Leads cs S es T
-
--- behind the old events stands a chain from S that is closed
-abbrev pub IsClosed : List Cond → State → List Event → List Event → Type 0
-IsClosed cs S old new = (es : List Event) × (new ≡ old ++ es) × Closes cs S es
-
 -- the side on which an interval lies whose low end, upwards, or else high end is v
 abbrev pub end_side : Bool → ℕ → ℤ → Side
 end_side true d v = From d v

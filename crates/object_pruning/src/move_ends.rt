@@ -8,7 +8,8 @@ ghost use Rattle.derivation.specs.Events.{Continues};
 ghost use Rattle.sweep.specs.Picks.{ArePicks, picked};
 ghost use Rattle.object_pruning.specs.Ends.{HasSome, MovesEnd, MovesEnds};
 ghost use Rattle.object_pruning.specs.Kept.{AllSupport};
-ghost use Rattle.object_pruning.specs.Record.{IsLed, with_end};
+ghost use Rattle.derivation.specs.Chains.{IsLed};
+ghost use Rattle.object_pruning.specs.Record.{with_end};
 ghost use Rattle.object_pruning.specs.Same.{SameBut};
 
 use super::hints::knows_end;

@@ -10,7 +10,8 @@ ghost use Rattle.derivation.specs.Events.{Continues};
 ghost use Rattle.sweep.specs.Picks.{ArePicks, picked};
 ghost use Rattle.object_pruning.specs.Ends.{HasSome, IsFirstAt, IsOutermostPoint, IsSooner, end};
 ghost use Rattle.object_pruning.specs.Pruning.{CanBe};
-ghost use Rattle.object_pruning.specs.Record.{AreListed, IsLed, IsNotBeyond, ListsPlace, end_side, with_end};
+ghost use Rattle.derivation.specs.Chains.{IsLed};
+ghost use Rattle.object_pruning.specs.Record.{AreListed, IsNotBeyond, ListsPlace, end_side, with_end};
 
 use super::first_point::first_point;
 use super::kept::{Placed, end_of};
@@ -75,6 +76,7 @@ fn point_at<const K: usize, I: Indexical<K>, R: Recorder>(
     if !s.has_shape(o, place) {
         return Ok(None);
     }
+    let _objects = s.objects();
     rec.add(Event::Cover(place))?;
     match first_point(s, o, place, list, picks, way, rec)? {
         Some(point) => Ok(Some(Placed { place, point })),

@@ -10,7 +10,7 @@ ghost use Rattle.sweep.specs.Picks.{ArePicks, picked};
 ghost use Rattle.object_pruning.specs.Ends.{DropsPlaces};
 ghost use Rattle.object_pruning.specs.Kept.{AllSupport};
 ghost use Rattle.object_pruning.specs.Pruning.{CanBe};
-ghost use Rattle.object_pruning.specs.Record.{IsLed};
+ghost use Rattle.derivation.specs.Chains.{IsLed};
 ghost use Rattle.object_pruning.specs.Same.{SameBut};
 
 use super::first_point::first_point;
@@ -52,6 +52,7 @@ fn sought_point<const K: usize, I: Indexical<K>, R: Recorder>(
     ensures refusals { R.refusals rec.old ≤ R.refusals rec.new }
     ensures no_record { R.keeps ≡ false → IsOk result }
 {
+    let _objects = s.objects();
     let way = Way::new(0, false);
     let mark = rec.mark();
     rec.add(Event::Drop(o, place))?;

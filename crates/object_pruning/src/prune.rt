@@ -9,7 +9,8 @@ ghost use Rattle.derivation.specs.Events.{Continues};
 ghost use Rattle.sweep.specs.Picks.{ArePicks, picked};
 ghost use Rattle.object_pruning.specs.Kept.{AllSupport};
 ghost use Rattle.object_pruning.specs.Pruning.{PrunesTo};
-ghost use Rattle.object_pruning.specs.Record.{AreEventsOfPruning, IsClosed};
+ghost use Rattle.derivation.specs.Chains.{IsClosed};
+ghost use Rattle.object_pruning.specs.Record.{AreEventsOfPruning};
 ghost use Rattle.object_pruning.specs.Same.{SameBut};
 
 use super::kept::Placed;

@@ -14,7 +14,7 @@ use Rattle.geo_conditions.specs.Keeps.{Keeps}
 use Rattle.geo_conditions.proofs.Points.{supports_wider, unrefuted_wider}
 use Rattle.geo_conditions.proofs.Monotone.{le_trans}
 use Rattle.derivation.specs.Covers.{refutes}
-use Rattle.fixpoint.proofs.Refuting.{some_refuted}
+use Rattle.derivation.proofs.Refuting.{some_refuted}
 use Rattle.sweep.specs.Picks.{picked}
 use Rattle.sweep.proofs.PickedConditions.{picked_all}
 use Rattle.object_pruning.specs.declared.prune.Pruned.{Pruned}

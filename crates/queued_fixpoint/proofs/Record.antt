@@ -8,10 +8,10 @@ use Rattle.geo_conditions.specs.Reach.{State}
 use Rattle.derivation.specs.declared.event.Event.{Event}
 use Rattle.derivation.specs.Covers.{refutes}
 use Rattle.derivation.specs.Events.{Continues}
-use Rattle.derivation.proofs.Chains.{leads_nil, leads_on, closes_on}
+use Rattle.derivation.proofs.Chains.{leads_nil, led_on, led_closed}
 use Rattle.geo_state.specs.declared.propagate.Settled.TheVariants.{Kept, Dead}
 use Rattle.geo_state.specs.Settle.{Records}
-use Rattle.fixpoint.proofs.Refuting.{refutes_at}
+use Rattle.derivation.proofs.Refuting.{refutes_at}
 use Rattle.sweep.specs.Picks.{ArePicks, PicksAt}
 use Rattle.sweep.proofs.PickedConditions.{pick_in}
 use Rattle.object_pruning.specs.declared.prune.Pruned.TheVariants.{Empty, Changed}
@@ -23,19 +23,11 @@ records_start cs S old = ([], sym (append-nil old), leads_nil cs S)
 
 -- the events of a pruning behind a chain go on with it
 pub records_on : (cs : List Cond) (S R T : State) (old mid new : List Event) → Records cs S Kept R old mid → RecordsPruning cs R Changed T mid new → Records cs S Kept T old new
-records_on cs S R T old mid new p q = (
-  p.0 ++ q.0,
-  q.1 ∙ ap (λ (es : List Event). es ++ q.0) p.1 ∙ append_assoc old p.0 q.0,
-  leads_on cs S R T p.0 q.0 p.2 q.2,
-)
+records_on cs S R T old mid new p q = led_on cs S R T old mid new p q
 
 -- and those of a dead end close it
 pub records_dead : (cs : List Cond) (S R T : State) (old mid new : List Event) → Records cs S Kept R old mid → RecordsPruning cs R Empty T mid new → Records cs S Dead T old new
-records_dead cs S R T old mid new p q = (
-  p.0 ++ q.0,
-  q.1 ∙ ap (λ (es : List Event). es ++ q.0) p.1 ∙ append_assoc old p.0 q.0,
-  closes_on cs S R p.0 q.0 p.2 q.2,
-)
+records_dead cs S R T old mid new p q = led_closed cs S R old mid new p q
 
 -- whatever comes behind a chain continues the events before it
 pub continues_on : (cs : List Cond) (S R : State) (old mid new : List Event) → Records cs S Kept R old mid → Continues mid new → Continues old new

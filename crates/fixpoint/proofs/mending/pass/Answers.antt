@@ -6,9 +6,10 @@ use Rattle.geo_conditions.proofs.Points.{inside_self}
 use Rattle.derivation.specs.Covers.{refutes}
 use Rattle.fixpoint.specs.declared.mending.Outcome.{Outcome}
 use Rattle.fixpoint.specs.Passes.{Repairs}
-use Rattle.fixpoint.specs.Recorded.{LedTo, RecordsOutcome}
-use Rattle.fixpoint.proofs.Refuting.{some_refuted}
-use Rattle.fixpoint.proofs.Recorded.{led_on, closed_on}
+use Rattle.derivation.specs.Chains.{IsLed}
+use Rattle.fixpoint.specs.Recorded.{RecordsOutcome}
+use Rattle.derivation.proofs.Refuting.{some_refuted}
+use Rattle.derivation.proofs.Chains.{led_on, led_closed}
 use Rattle.fixpoint.proofs.Finding.{refuted_hopeless, all_supported}
 use Rattle.fixpoint.proofs.Narrowed.{Unless, FineBelow}
 use Rattle.fixpoint.proofs.Passing.{Along, along_changed, along_fine}
@@ -28,7 +29,7 @@ returns-in-Dead-clause-record g c = λ kept.
     let R = c.loop-o.t.state in
     let mid = g.R.Recorder.list c.loop-o.rec in
     let end = g.R.Recorder.list c.repair.new.rec in
-    closed_on cs c.args.t.now.state R (g.R.Recorder.list c.args.rec.now) mid end (c.loop-o.invariant.recorded kept) (subst (λ (a : Outcome). RecordsOutcome cs R a c.repair.new.t.state mid end) c.in-Dead.is (c.in_ok-outcome.ensures.record kept))
+    led_closed cs c.args.t.now.state R (g.R.Recorder.list c.args.rec.now) mid end (c.loop-o.invariant.recorded kept) (subst (λ (a : Outcome). RecordsOutcome cs R a c.repair.new.t.state mid end) c.in-Dead.is (c.in_ok-outcome.ensures.record kept))
 
 pub loop-o-preserved : goal.loop-o-preserved
 loop-o-preserved g c =
@@ -41,7 +42,7 @@ loop-o-preserved g c =
     let end = g.R.Recorder.list c.repair.new.rec in
     let i = c.loop-o.invariant in
     let a : Along cs S R c.loop-o.changed c.loop-o.o = (i.going, i.unless, i.fine) in
-    let b : Along cs S Q c.match-outcome.changed (c.loop-o.o + 1) × (g.R.Recorder.keeps ≡ true → LedTo cs R Q mid end) = elim c.match-outcome.branch [
+    let b : Along cs S Q c.match-outcome.changed (c.loop-o.o + 1) × (g.R.Recorder.keeps ≡ true → IsLed cs R Q mid end) = elim c.match-outcome.branch [
       | in-Changed w ↦ (
         along_changed cs S R Q c.loop-o.changed c.match-outcome.changed c.loop-o.o a (subst (λ (x : Outcome). Repairs cs R c.loop-o.o x Q) w.in-Changed.is c.in_ok-outcome.ensures.repairs) w.changed-is,
         λ kept. subst (λ (x : Outcome). RecordsOutcome cs R x Q mid end) w.in-Changed.is (c.in_ok-outcome.ensures.record kept),

@@ -1,5 +1,5 @@
 use Rattle.std.proofs.Common.{◌≡◌, ◌≤◌, true}
-use Rattle.fixpoint.specs.Recorded.{LedTo}
+use Rattle.derivation.specs.Chains.{IsLed}
 use Rattle.fixpoint.proofs.Narrowed.{Going, Unless, FineBelow}
 use Rattle.fixpoint.proofs.mending.pass.Given as goal
 
@@ -9,6 +9,6 @@ invariant-loop-o g l = record {
   unless : Unless l.changed l.cs l.fn.t.state l.t.state;
   fine : FineBelow l.changed l.cs l.t.state l.o;
   levels : (l.t.levels ≡ l.fn.t.levels) × (l.t.restores ≡ l.fn.t.restores);
-  recorded : g.R.Recorder.keeps ≡ true → LedTo l.cs l.fn.t.state l.t.state (g.R.Recorder.list l.fn.rec) (g.R.Recorder.list l.rec);
+  recorded : g.R.Recorder.keeps ≡ true → IsLed l.cs l.fn.t.state l.t.state (g.R.Recorder.list l.fn.rec) (g.R.Recorder.list l.rec);
   refusals : g.R.Recorder.refusals l.fn.rec ≤ g.R.Recorder.refusals l.rec;
 }

@@ -5,9 +5,9 @@ use Rattle.geo_conditions.specs.Supported.{NoneInside}
 use Rattle.fixpoint.specs.declared.defects.Defect.{Defect}
 use Rattle.fixpoint.specs.Defects.{ObjectFine, IsDefect}
 use Rattle.fixpoint.specs.Passes.{IsNarrower}
-use Rattle.fixpoint.specs.Recorded.{LedTo, ClosedFrom}
+use Rattle.derivation.specs.Chains.{IsLed, IsClosed}
 use Rattle.fixpoint.proofs.Narrowed.{Mended, Unless, going_on, unless_on}
-use Rattle.fixpoint.proofs.Recorded.{led_on, closed_on}
+use Rattle.derivation.proofs.Chains.{led_on, led_closed}
 use Rattle.fixpoint.proofs.mending.repair.Goals as goal
 
 pub loop-defect-preserved : goal.loop-defect-preserved
@@ -26,7 +26,7 @@ loop-defect-preserved g c =
           let old = g.R.Recorder.list c.args.rec.now in
           let mid = g.R.Recorder.list c.loop-defect.rec in
           let end = g.R.Recorder.list c.mend.new.rec in
-          led_on cs S R Q old mid end (i.recorded kept) (subst (λ (b : Bool). MatchBool b (LedTo cs R Q mid end) (ClosedFrom cs R mid end)) c.in-Ok-true.field-0-test (c.in-Ok-true.ensures.record kept));
+          led_on cs S R Q old mid end (i.recorded kept) (subst (λ (b : Bool). MatchBool b (IsLed cs R Q mid end) (IsClosed cs R mid end)) c.in-Ok-true.field-0-test (c.in-Ok-true.ensures.record kept));
       refusals = omega (arith, i.refusals, c.mend.ensures.refusals);
     }
 
@@ -37,7 +37,7 @@ returns-in-Ok-false-clause-record g c = λ kept.
     let old = g.R.Recorder.list c.args.rec.now in
     let mid = g.R.Recorder.list c.loop-defect.rec in
     let end = g.R.Recorder.list c.mend.new.rec in
-    closed_on cs c.args.t.now.state R old mid end (c.loop-defect.invariant.recorded kept) (subst (λ (b : Bool). MatchBool b (LedTo cs R c.mend.new.t.state mid end) (ClosedFrom cs R mid end)) c.in-Ok-false.field-0-test (c.in-Ok-false.ensures.record kept))
+    led_closed cs c.args.t.now.state R old mid end (c.loop-defect.invariant.recorded kept) (subst (λ (b : Bool). MatchBool b (IsLed cs R c.mend.new.t.state mid end) (IsClosed cs R mid end)) c.in-Ok-false.field-0-test (c.in-Ok-false.ensures.record kept))
 
 pub returns-else-changed-clause-repairs : goal.returns-else-changed-clause-repairs
 returns-else-changed-clause-repairs g c =

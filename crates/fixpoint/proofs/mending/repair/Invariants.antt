@@ -1,6 +1,6 @@
 use Rattle.std.proofs.Common.{◌≡◌, ◌≤◌, true}
 use Rattle.geo_conditions.specs.Keeps.{size}
-use Rattle.fixpoint.specs.Recorded.{LedTo}
+use Rattle.derivation.specs.Chains.{IsLed}
 use Rattle.fixpoint.proofs.Narrowed.{Going, Unless}
 use Rattle.fixpoint.proofs.mending.repair.Given as goal
 
@@ -9,7 +9,7 @@ invariant-loop-defect g l = record {
   going : Going l.cs l.fn.t.state l.t.state;
   unless : Unless l.changed l.cs l.fn.t.state l.t.state;
   levels : (l.t.levels ≡ l.fn.t.levels) × (l.t.restores ≡ l.fn.t.restores);
-  recorded : g.R.Recorder.keeps ≡ true → LedTo l.cs l.fn.t.state l.t.state (g.R.Recorder.list l.fn.rec) (g.R.Recorder.list l.rec);
+  recorded : g.R.Recorder.keeps ≡ true → IsLed l.cs l.fn.t.state l.t.state (g.R.Recorder.list l.fn.rec) (g.R.Recorder.list l.rec);
   refusals : g.R.Recorder.refusals l.fn.rec ≤ g.R.Recorder.refusals l.rec;
 }
 

@@ -3,7 +3,7 @@ use Rattle.fixpoint.specs.declared.mending.Outcome.{Outcome}
 use Rattle.fixpoint.specs.Passes.{Passes}
 use Rattle.fixpoint.specs.Recorded.{RecordsOutcome}
 use Rattle.fixpoint.proofs.Narrowed.{going_on}
-use Rattle.fixpoint.proofs.Recorded.{led_on, closed_on}
+use Rattle.derivation.proofs.Chains.{led_on, led_closed}
 use Rattle.fixpoint.proofs.plain.settle.Goals as goal
 
 pub returns-in-Ok-Dead-clause-record : goal.returns-in-Ok-Dead-clause-record
@@ -12,7 +12,7 @@ returns-in-Ok-Dead-clause-record g c = λ kept.
     let R = c.passes.t.state in
     let mid = g.R.Recorder.list c.passes.rec in
     let end = g.R.Recorder.list c.pass.new.rec in
-    closed_on cs c.args.t.now.state R (g.R.Recorder.list c.args.rec.now) mid end (c.passes.invariant.recorded kept) (subst (λ (a : Outcome). RecordsOutcome cs R a c.pass.new.t.state mid end) c.in-Ok-Dead.field-0-is (c.in-Ok-Dead.ensures.record kept))
+    led_closed cs c.args.t.now.state R (g.R.Recorder.list c.args.rec.now) mid end (c.passes.invariant.recorded kept) (subst (λ (a : Outcome). RecordsOutcome cs R a c.pass.new.t.state mid end) c.in-Ok-Dead.field-0-is (c.in-Ok-Dead.ensures.record kept))
 
 pub returns-in-Ok-Fine-clause-record : goal.returns-in-Ok-Fine-clause-record
 returns-in-Ok-Fine-clause-record g c = λ kept.

@@ -1,6 +1,6 @@
 use Rattle.std.proofs.Common.{◌≡◌, ◌≤◌, true}
 use Rattle.geo_conditions.specs.Keeps.{size}
-use Rattle.fixpoint.specs.Recorded.{LedTo}
+use Rattle.derivation.specs.Chains.{IsLed}
 use Rattle.fixpoint.proofs.Narrowed.{Going}
 use Rattle.fixpoint.proofs.plain.settle.Given as goal
 
@@ -8,7 +8,7 @@ abbrev pub invariant-passes : goal.invariant-passes
 invariant-passes g l = record {
   going : Going l.cs l.fn.t.state l.t.state;
   levels : (l.t.levels ≡ l.fn.t.levels) × (l.t.restores ≡ l.fn.t.restores);
-  recorded : g.R.Recorder.keeps ≡ true → LedTo l.cs l.fn.t.state l.t.state (g.R.Recorder.list l.fn.rec) (g.R.Recorder.list l.rec);
+  recorded : g.R.Recorder.keeps ≡ true → IsLed l.cs l.fn.t.state l.t.state (g.R.Recorder.list l.fn.rec) (g.R.Recorder.list l.rec);
   refusals : g.R.Recorder.refusals l.fn.rec ≤ g.R.Recorder.refusals l.rec;
 }
 

@@ -3,17 +3,20 @@ use Rattle.std.specs.Int.{w64}
 use mir.Val.{to_z, of_z}
 use Rattle.std.proofs.lemmas.Int.{ints}
 use Rattle.geo_base.specs.Boxes.{coordinate}
-use Rattle.geo_conditions.specs.Reach.{with_at}
+use Rattle.geo_conditions.specs.Reach.{with_at, dims}
 use Rattle.geo_conditions.specs.Regions.{region_of}
 use Rattle.geo_conditions.specs.Supported.{NoneRefuted, HasNoPoint}
+use Rattle.geo_state.specs.Trail.{IsSmallNumber}
 use Rattle.geo_state.proofs.Numbers.{kept64}
+use Rattle.geo_state.proofs.Shapes.{lo_long}
 use Rattle.derivation.proofs.Continuing.{continues_same, continues_on}
-use Rattle.fixpoint.proofs.Recorded.{RecordedUpTo, crossed_empty, cover_empty, point_refuted, cut_none, cut_single, upto_start, upto_more, upto_end}
+use Rattle.fixpoint.specs.Points.{IsSmallRegion}
+use Rattle.fixpoint.proofs.Recorded.{RecordedUpTo, crossed_empty, cover_empty, point_refuted, cut_none, cut_single, upto_start, upto_more, upto_end, small_cut}
 use Rattle.fixpoint.proofs.recording.+record_points.Goals as goal
 
 pub returns-in-Ok-clause-cover : goal.returns-in-Ok-clause-cover
 returns-in-Ok-clause-cover g t c = λ kept.
-    cover_empty c.args.cs.now c.args.s.now c.args.o.0 c.args.place 1 (region_of c.args.b.now) (g.R.Recorder.list c.args.rec.now) (g.R.Recorder.list c.record_event.new.rec) (crossed_empty g.row.K (region_of c.args.b.now) c.requires.lows c.requires.highs c.if-is_empty.ensures.ends) (c.in-Ok.ensures.added kept)
+    cover_empty c.args.cs.now c.args.s.now c.args.o.0 c.args.place (region_of c.args.b.now) (g.R.Recorder.list c.args.rec.now) (g.R.Recorder.list c.record_event.new.rec) (crossed_empty g.row.K (region_of c.args.b.now) c.requires.lows c.requires.highs c.if-is_empty.ensures.ends) (c.in-Ok.ensures.added kept)
 
 pub record_refuted-requires : goal.record_refuted-requires
 record_refuted-requires g t c =
@@ -41,6 +44,7 @@ record_points-requires g t c κs within =
     let k : c.args.d < length b.lo = omega (arith, c.requires.lows, c.requires.dimension, c.if-d.false) in
     let l : c.args.d < length b.hi = omega (arith, c.requires.highs, c.requires.dimension, c.if-d.false) in
     let single : (e : ℕ) → e < c.args.d + 1 → coordinate c.cut_to.result.lo.coordinates e ≡ coordinate c.cut_to.result.hi.coordinates e = cut_single b (region_of c.cut_to.result) c.args.d _ k l c.cut_to.ensures c.requires.single in
+    let small : IsSmallRegion (region_of c.cut_to.result) = small_cut b (region_of c.cut_to.result) c.args.d _ (omega (arith, ints, c.loop-v.invariant.from, (c.requires.small c.args.d).0.0), omega (arith, ints, c.loop-v.invariant.to, c.get-last.ensures, (c.requires.small c.args.d).1.1)) c.cut_to.ensures c.requires.small in
     let none : HasNoPoint c.args.cs.now c.args.s.now c.args.o.0 c.args.place (region_of c.cut_to.result) = cut_none c.args.cs.now c.args.s.now c.args.o.0 c.args.place b (region_of c.cut_to.result) c.args.d _ k l (omega (arith, ints, c.loop-v.invariant.from)) (omega (arith, ints, c.loop-v.invariant.to, c.get-last.ensures)) c.cut_to.ensures c.requires.none in
     search rules
 
@@ -52,10 +56,13 @@ pub loop-v-preserved : goal.loop-v-preserved
 loop-v-preserved g t c =
     let b = region_of c.args.b.now in
     let k : c.args.d < length b.lo = omega (arith, c.requires.lows, c.requires.dimension, c.if-d.false) in
+    let dimension : dims c.args.s.now c.args.o.0 ≡ g.row.K = lo_long g.row.K c.args.s.now c.args.o.0 c.objects-objects.ensures.shape c.requires.object in
+    let near : IsSmallNumber (to_z w64 c.loop-v.v-bits) = (omega (arith, ints, c.loop-v.invariant.from, (c.requires.small c.args.d).0.0), omega (arith, ints, c.loop-v.invariant.to, c.get-last.ensures, (c.requires.small c.args.d).1.1)) in
     record {
       from = omega (arith, ints, c.loop-v.invariant.from);
       to = omega (arith, ints, c.loop-v.invariant.to);
-      recorded = λ kept. upto_more c.args.cs.now c.args.s.now c.args.o.0 c.args.place b (region_of c.cut_to.result) c.args.d _ _ _ _ _ _ k (omega (arith, ints, c.loop-v.invariant.to, c.get-last.ensures)) c.cut_to.ensures (omega (arith, ints)) (c.in-Ok-record_event.ensures.added kept) (c.in-Ok-record_points.ensures.cover kept) (c.loop-v.invariant.recorded kept);
+      recorded = λ kept. upto_more c.args.cs.now c.args.s.now c.args.o.0 c.args.place b (region_of c.cut_to.result) c.args.d _ _ _ _ _ _
+          (omega (arith, dimension, c.requires.dimension, c.if-d.false), omega (arith, ints, near.0, near.1), omega (arith, ints, near.0, near.1)) k (omega (arith, ints, c.loop-v.invariant.to, c.get-last.ensures)) c.cut_to.ensures (omega (arith, ints)) (c.in-Ok-record_event.ensures.added kept) (c.in-Ok-record_points.ensures.cover kept) (c.loop-v.invariant.recorded kept);
       events = λ kept. continues_on _ _ _ (continues_on _ _ _ (c.loop-v.invariant.events kept) (c.record_event-in-loop-v.ensures.events kept)) (c.record_points.ensures.events kept);
       refusals = omega (arith, c.loop-v.invariant.refusals, c.record_event-in-loop-v.ensures.refusals, c.record_points.ensures.refusals);
     }
@@ -67,6 +74,7 @@ record_points-requires-2 g t c κs within =
     let k : c.args.d < length b.lo = omega (arith, c.requires.lows, d) in
     let l : c.args.d < length b.hi = omega (arith, c.requires.highs, d) in
     let single : (e : ℕ) → e < c.args.d + 1 → coordinate c.cut_to-2.result.lo.coordinates e ≡ coordinate c.cut_to-2.result.hi.coordinates e = cut_single b (region_of c.cut_to-2.result) c.args.d _ k l c.cut_to-2.ensures c.requires.single in
+    let small : IsSmallRegion (region_of c.cut_to-2.result) = small_cut b (region_of c.cut_to-2.result) c.args.d _ (omega (arith, ints, c.get-last.ensures, (c.requires.small c.args.d).1.0), omega (arith, ints, c.get-last.ensures, (c.requires.small c.args.d).1.1)) c.cut_to-2.ensures c.requires.small in
     let none : HasNoPoint c.args.cs.now c.args.s.now c.args.o.0 c.args.place (region_of c.cut_to-2.result) = cut_none c.args.cs.now c.args.s.now c.args.o.0 c.args.place b (region_of c.cut_to-2.result) c.args.d _ k l (omega (arith, ints, c.get-last.ensures, c.if-is_empty.ensures.ends c.args.d d)) (omega (arith, ints, c.get-last.ensures)) c.cut_to-2.ensures c.requires.none in
     search rules
 

@@ -4,12 +4,14 @@ use Rattle.geo_conditions.specs.Regions.{region_of}
 use Rattle.geo_conditions.specs.Supported.{HasNoPoint}
 use Rattle.derivation.specs.PlaceCovers.{RecordedCovers}
 use Rattle.derivation.proofs.Listings.{gone_closed}
-use Rattle.fixpoint.proofs.Recorded.{gone_none}
+use Rattle.fixpoint.specs.Points.{IsSmallRegion}
+use Rattle.fixpoint.proofs.Recorded.{gone_none, small_region}
 use Rattle.fixpoint.proofs.recording.record_gone.Goals as goal
 
 pub record_places-requires : goal.record_places-requires
 record_places-requires g c =
     let none : (n : ℕ) → has c.args.s.now c.args.o.0 n ≡ true → HasNoPoint c.args.cs.now c.args.s.now c.args.o.0 n (region_of c.region-region.result) = gone_none c.args.cs.now c.args.s.now c.args.o.0 (region_of c.region-region.result) c.region-region.ensures.value c.requires.lacks in
+    let small : IsSmallRegion (region_of c.region-region.result) = small_region c.args.s.now c.args.o.0 _ c.requires.small c.region-region.ensures.value in
     search rules
 
 pub returns-in-Ok-record_places-clause-closed : goal.returns-in-Ok-record_places-clause-closed

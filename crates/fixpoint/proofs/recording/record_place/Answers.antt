@@ -12,7 +12,7 @@ pub returns-in-Ok-record_points-clause-cover : goal.returns-in-Ok-record_points-
 returns-in-Ok-record_points-clause-cover g c = λ kept base r.
     let t = c.in-Ok-record_points.ensures.cover kept in
     recorded_more c.args.cs.now c.args.s.now c.args.o.0 (region_of c.args.b.now) c.args.place t.tree base (g.R.Recorder.list c.args.rec.now) (g.R.Recorder.list c.record_event.new.rec) (g.R.Recorder.list c.record_points.new.rec)
-    c.requires.place (sym c.has_shape.ensures ∙ c.if-not-has_shape.false) (c.in-Ok.ensures.added kept) t.events t.covered r
+    c.requires.place (sym c.has_shape.ensures ∙ c.if-not-has_shape.false) (c.in-Ok.ensures.added kept) t.events t.covered t.numbers r
 
 pub returns-in-Ok-record_points-clause-events : goal.returns-in-Ok-record_points-clause-events
 returns-in-Ok-record_points-clause-events g c = λ kept. continues_on _ _ _ (c.record_event.ensures.events kept) (c.record_points.ensures.events kept)

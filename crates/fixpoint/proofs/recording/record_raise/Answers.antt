@@ -1,4 +1,4 @@
-use Rattle.std.proofs.Common.{rules, ◌≡◌, ℕ, true, ap, sym, ◌∙◌, arith, length}
+use Rattle.std.proofs.Common.{rules, subst, ◌≡◌, ℕ, true, ap, sym, ◌∙◌, arith, length}
 use Rattle.std.proofs.lemmas.Int.{ints}
 use Rattle.std.specs.Int.{w64}
 use mir.Val.{to_z, of_z}
@@ -8,7 +8,9 @@ use Rattle.geo_conditions.specs.Reach.{Region, reach, has, low, high}
 use Rattle.geo_conditions.specs.Regions.{region_of}
 use Rattle.geo_conditions.specs.Supported.{HasNoPoint}
 use Rattle.geo_state.proofs.Numbers.{kept64}
-use Rattle.fixpoint.proofs.Recorded.{part_to, part_to_same, low_none, raise_led}
+use Rattle.geo_state.specs.Trail.{IsSmallNumber}
+use Rattle.fixpoint.specs.Points.{IsSmallRegion}
+use Rattle.fixpoint.proofs.Recorded.{part_to, part_to_same, low_none, raise_led, small_region, small_hi}
 use Rattle.fixpoint.proofs.recording.record_raise.Goals as goal
 
 pub record_places-requires : goal.record_places-requires
@@ -21,6 +23,9 @@ record_places-requires g c =
     let h : length c.region-region.result.hi.coordinates ≡ g.row.K = search rules in
     let same = ap (λ (x : Region). length x.lo) (sym c.region-region.ensures.value) ∙ l ∙ sym h ∙ ap (λ (x : Region). length x.hi) c.region-region.ensures.value in
     let none : (n : ℕ) → has c.args.s.now c.args.o.0 n ≡ true → HasNoPoint c.args.cs.now c.args.s.now c.args.o.0 n (region_of c.new-taken.result) = low_none c.args.cs.now c.args.s.now c.args.o.0 c.args.d (region_of c.new-taken.result) v same at part c.requires.lacks in
+    let region : IsSmallRegion (region_of c.region-region.result) = small_region c.args.s.now c.args.o.0 _ c.requires.small c.region-region.ensures.value in
+    let number : IsSmallNumber v = subst IsSmallNumber (sym at) (c.requires.small c.args.o.0 c.args.d).0 in
+    let small : IsSmallRegion (region_of c.new-taken.result) = small_hi (region_of c.region-region.result) (region_of c.new-taken.result) c.args.d v number (ap (λ (p : Point g.row.K). p.coordinates) c.new-taken.ensures.lo) (ap (λ (p : Point g.row.K). p.coordinates) c.new-taken.ensures.hi ∙ c.with.ensures.whole) region in
     search rules
 
 pub returns-in-Ok-record_places-clause-led : goal.returns-in-Ok-record_places-clause-led
@@ -32,4 +37,4 @@ returns-in-Ok-record_places-clause-led g c = λ kept.
     let part : region_of c.new-taken.result ≡ part_to (reach S c.args.o.0).region c.args.d v = part_to_same (region_of c.new-taken.result) (region_of c.region-region.result) (reach S c.args.o.0).region c.args.d v c.region-region.ensures.value
     (ap (λ (p : Point g.row.K). p.coordinates) c.new-taken.ensures.lo) (ap (λ (p : Point g.row.K). p.coordinates) c.new-taken.ensures.hi ∙ c.with.ensures.whole) in
     raise_led c.args.cs.now S c.args.o.0 c.args.d (region_of c.new-taken.result) v _ (g.R.Recorder.list c.args.rec.now) (g.R.Recorder.list c.record_event.new.rec) (g.R.Recorder.list c.record_places.new.rec)
-    at (omega (arith, ints, at, top, c.requires.lacks.wide)) part c.requires.lacks (c.in-Ok.ensures.added kept) (c.in-Ok-record_places.ensures.covers kept)
+    at (omega (arith, ints, at, top, c.requires.lacks.wide)) part c.requires.small c.requires.lacks (c.in-Ok.ensures.added kept) (c.in-Ok-record_places.ensures.covers kept)

@@ -9,9 +9,10 @@ use Rattle.derivation.specs.Chains.{moved}
 use Rattle.sweep.specs.Picks.{picked}
 use Rattle.object_pruning.specs.Ends.{IsOutermostPoint, IsTightEnd, end}
 use Rattle.object_pruning.specs.Kept.{AllSupport}
-use Rattle.object_pruning.specs.Record.{IsLed, end_side, with_end}
+use Rattle.derivation.specs.Chains.{IsLed}
+use Rattle.object_pruning.specs.Record.{end_side, with_end}
 use Rattle.object_pruning.proofs.Ends.{moves_none, moves_not, moves_set, outermost_in, outermost_small}
-use Rattle.object_pruning.proofs.Record.{led_same}
+use Rattle.derivation.proofs.Chains.{led_same}
 use Rattle.object_pruning.proofs.Supports.{supports_found, supports_set}
 use Rattle.object_pruning.proofs.move_ends.move_end.Goals as goal
 use Rattle.object_pruning.proofs.move_ends.move_end.Goals.{Then-v-end_of, After-set_end}

@@ -9,7 +9,7 @@ use Rattle.object_pruning.specs.Ends.{HasSome}
 use Rattle.object_pruning.specs.Same.{SameBut}
 use Rattle.object_pruning.proofs.Ends.{some_kept, moves_on, moves_end}
 use Rattle.object_pruning.proofs.Narrowing.{same_trans}
-use Rattle.object_pruning.proofs.Record.{led_on, led_continues}
+use Rattle.derivation.proofs.Chains.{led_on, led_continues}
 use Rattle.object_pruning.proofs.move_ends.move_ends.Goals as goal
 
 pub move_end-requires : goal.move_end-requires

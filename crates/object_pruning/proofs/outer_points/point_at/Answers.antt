@@ -1,7 +1,9 @@
 use Rattle.std.proofs.Common.{◌≡◌, true, false, map, sym, ◌∙◌}
 use Rattle.geo_conditions.specs.Reach.{reach, has}
 use Rattle.geo_conditions.specs.Supported.{IsFirstPoint}
+use Rattle.geo_state.proofs.Shapes.{lo_long}
 use Rattle.sweep.specs.Picks.{picked}
+use Rattle.sweep.proofs.PickedConditions.{mapped_picks}
 use Rattle.object_pruning.proofs.Cases.{from_none, from_some}
 use Rattle.object_pruning.proofs.Ends.{first_outermost}
 use Rattle.object_pruning.proofs.Record.{lists_absent, lists_none, lists_some}
@@ -36,7 +38,7 @@ returns-in-Some-clause-listed g c = λ kept v h.
     let list = g.R.Recorder.list in
     let t : has S o c.args.place ≡ true = sym c.has_shape.ensures ∙ c.if-not-has_shape.false in
     lists_some g.row.K (map g.I.Indexical.cond c.args.list.now) c.args.picks.now S o way.lead way.up v c.args.place c.in-Some.point.coordinates (list c.args.rec.now) (list c.add.new.self) (list c.first_point.new.rec)
-    c.requires.fits c.requires.object c.requires.place t h (c.in_ok-add.ensures.ok kept) (from_some _ _ c.in_ok-point.field-0 c.in-Some.point c.in-Some.is (c.in_ok-point.ensures.covered kept))
+    (mapped_picks g.I.Indexical.cond c.args.list.now c.args.picks.now c.requires.picks) (lo_long g.row.K c.args.s.now c.args.o.0 c.objects-objects.ensures.shape c.requires.object) c.requires.fits c.requires.object c.requires.place t h (c.in_ok-add.ensures.ok kept) (from_some _ _ c.in_ok-point.field-0 c.in-Some.point c.in-Some.is (c.in_ok-point.ensures.covered kept))
 
 pub returns-in-None-clause-listed : goal.returns-in-None-clause-listed
 returns-in-None-clause-listed g c = λ kept v h.
@@ -46,4 +48,4 @@ returns-in-None-clause-listed g c = λ kept v h.
     let list = g.R.Recorder.list in
     let t : has S o c.args.place ≡ true = sym c.has_shape.ensures ∙ c.if-not-has_shape.false in
     lists_none g.row.K (map g.I.Indexical.cond c.args.list.now) c.args.picks.now S o way.lead way.up v c.args.place (list c.args.rec.now) (list c.add.new.self) (list c.first_point.new.rec)
-    c.requires.fits c.requires.object c.requires.place t (c.in_ok-add.ensures.ok kept) (from_none _ _ c.in_ok-point.field-0 c.in-None.is (c.in_ok-point.ensures.covered kept))
+    (mapped_picks g.I.Indexical.cond c.args.list.now c.args.picks.now c.requires.picks) (lo_long g.row.K c.args.s.now c.args.o.0 c.objects-objects.ensures.shape c.requires.object) c.requires.fits c.requires.object c.requires.place t (c.in_ok-add.ensures.ok kept) (from_none _ _ c.in_ok-point.field-0 c.in-None.is (c.in_ok-point.ensures.covered kept))

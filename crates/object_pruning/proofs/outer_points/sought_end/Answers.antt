@@ -12,7 +12,8 @@ use Rattle.derivation.specs.declared.event.Event.TheVariants.{EndCovers}
 use Rattle.derivation.proofs.Continuing.{continues_same, continues_on}
 use Rattle.sweep.specs.Picks.{picked}
 use Rattle.object_pruning.specs.Ends.{end}
-use Rattle.object_pruning.specs.Record.{IsLed, end_side, with_end}
+use Rattle.derivation.specs.Chains.{IsLed}
+use Rattle.object_pruning.specs.Record.{end_side, with_end}
 use Rattle.object_pruning.proofs.Ends.{outermost_in}
 use Rattle.object_pruning.proofs.Record.{added, mark_in, mark_before, cut_to_mark, end_recorded}
 use Rattle.object_pruning.proofs.outer_points.sought_end.Goals as goal
@@ -76,7 +77,7 @@ led g c kept ne =
     let at : to_z w64 (of_z w64 c.get-v.result) ≡ v = kept64 c.get-v.result c.get-v.type_inv ∙ c.get-v.ensures in
     let within = outermost_in (picked all c.args.picks.now) S o d up v c.in_ok-q.ensures.point.1 in
     let k : d < dims S o = omega (arith, c.requires.dimension, lo_long g.row.K S o c.objects-objects.ensures.shape c.requires.object) in
-    end_recorded all S o d up v (list c.args.rec.now) (list c.add.new.self) (list c.outermost.new.rec) (list c.add-2.new.self) (list c.set.new.self) c.end_event.result c.mark-mark.result c.requires.object k within.0 within.1
+    end_recorded all S o d up v (list c.args.rec.now) (list c.add.new.self) (list c.outermost.new.rec) (list c.add-2.new.self) (list c.set.new.self) c.end_event.result c.mark-mark.result c.requires.object k c.requires.small within.0 within.1
     (c.mark-mark.ensures.kept kept) (c.in_ok-add.ensures.ok kept) (c.in_ok-q.ensures.listed kept ne) (c.in_ok-add-2.ensures.ok kept)
     (c.set.ensures.list kept ∙ ap (λ (e : Event). set (list c.add-2.new.self) c.mark-mark.result e) (c.end_event-2.ensures ∙ ap (λ (z : ℤ). bound_event o (end_side up d z)) at))
 

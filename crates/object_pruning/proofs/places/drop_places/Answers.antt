@@ -7,10 +7,10 @@ use Rattle.geo_state.proofs.Fits.{all_fit}
 use Rattle.sweep.specs.Picks.{picked}
 use Rattle.object_pruning.specs.Kept.{AllSupport}
 use Rattle.object_pruning.specs.Pruning.{CanBe}
-use Rattle.object_pruning.specs.Record.{IsLed}
+use Rattle.derivation.specs.Chains.{IsLed}
 use Rattle.object_pruning.proofs.Cases.{from_true, from_false}
 use Rattle.object_pruning.proofs.Ends.{drops_there, drops_gone, drops_absent, drops_as, drops_end}
-use Rattle.object_pruning.proofs.Record.{led_same, led_on}
+use Rattle.derivation.proofs.Chains.{led_same, led_on}
 use Rattle.object_pruning.proofs.Supports.{supports_as, supports_set}
 use Rattle.object_pruning.proofs.places.drop_places.Goals as goal
 use Rattle.object_pruning.proofs.places.drop_places.Goals.{then-has_shape+in_ok-has_point+then-branch, then-has_shape+in_ok-has_point+else-branch, else-has_shape}

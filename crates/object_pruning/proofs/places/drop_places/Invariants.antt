@@ -1,7 +1,7 @@
 use Rattle.std.specs.Prelude.{true, map, ◌+◌, ◌≡◌, ◌≤◌}
 use Rattle.sweep.specs.Picks.{picked}
 use Rattle.object_pruning.specs.Kept.{AllSupport}
-use Rattle.object_pruning.specs.Record.{IsLed}
+use Rattle.derivation.specs.Chains.{IsLed}
 use Rattle.object_pruning.proofs.Ends.{DropsBelow}
 use Rattle.object_pruning.proofs.places.drop_places.Given as goal
 

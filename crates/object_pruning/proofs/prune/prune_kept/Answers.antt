@@ -6,7 +6,7 @@ use Rattle.sweep.specs.Picks.{picked}
 use Rattle.object_pruning.specs.Ends.{HasSome, DropsPlaces}
 use Rattle.object_pruning.proofs.Ends.{prunes_empty, prunes_changed, prunes_same, none_left}
 use Rattle.object_pruning.proofs.Narrowing.{alone_on}
-use Rattle.object_pruning.proofs.Record.{led_on, led_closed}
+use Rattle.derivation.proofs.Chains.{led_on, led_closed}
 use Rattle.object_pruning.proofs.prune.prune_kept.Goals as goal
 
 pub returns-then-not-places-clause-pruned : goal.returns-then-not-places-clause-pruned

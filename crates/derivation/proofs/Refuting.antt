@@ -1,5 +1,5 @@
 -- Conditions that are refuted on a state, by their numbers.
-use Rattle.std.proofs.Common.{◌≡◌, ℕ, zero, suc, ◌+◌, ◌<◌, true, false, not, List, length, get_or, refl, sym, ap, ◌∙◌, subst, add-one, Option, Some, None}
+use Rattle.std.proofs.Common.{◌≡◌, ℕ, zero, suc, ◌+◌, ◌<◌, ◌≤◌, true, false, not, arith, List, length, get_or, refl, sym, ap, ◌∙◌, subst, add-one, Option, Some, None}
 use Rattle.std.specs.Prelude.{slice_get}
 use Rattle.std.proofs.lemmas.Bool.{false≢true, not-true}
 use Rattle.std.proofs.lemmas.List.Elements.{All-get_or}
@@ -25,3 +25,12 @@ refuted_not (Some c) S a h = false≢true (sym (not-true (possible c S) h) ∙ a
 pub some_refuted : (cs : List Cond) (i : ℕ) (S : State) → refutes cs i S ≡ true → NoneRefuted cs S → ⊥
 some_refuted cs zero S h n = false≢true h
 some_refuted cs (suc i) S h n = refuted_not (slice_get cs i) S (possible_at cs S i n) h
+
+within_list : (cs : List Cond) (i : ℕ) (f : Option Cond) (S : State) → slice_get cs i ≡ f → is_refuted f S ≡ true → i < length cs
+within_list cs i None S e h = absurd (false≢true h)
+within_list cs i (Some c) S e h = slice_get_within cs i c e
+
+-- a condition that is refuted is one of the list
+pub refutes_within : (cs : List Cond) (i : ℕ) (S : State) → refutes cs i S ≡ true → i ≤ length cs
+refutes_within cs zero S h = absurd (false≢true h)
+refutes_within cs (suc i) S h = let l : i < length cs = within_list cs i (slice_get cs i) S refl h in omega arith
