@@ -95,7 +95,10 @@ def stated_orders(problem: Problem) -> list[tuple[str, tuple[str, ...]]]:
     file_order = tuple(thing.name for thing in problem.objects)
     orders = [("as stated", problem.search_order()), ("file", file_order), ("reverse", file_order[::-1])]
     orders[2:2] = [(measure.name, ordered(problem, measure)) for measure in measures(problem)]
-    return list({order: (name, order) for name, order in reversed(orders)}.values())[::-1]
+    found: dict[tuple[str, ...], str] = {}
+    for name, order in orders:
+        found.setdefault(order, name)
+    return [(name, order) for order, name in found.items()]
 
 
 def all_sides(problem: Problem) -> list[tuple[str, ...]]:

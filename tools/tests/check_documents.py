@@ -1,0 +1,153 @@
+"""Each problem that stands in a document runs, and its answer is the one that stands under it.
+
+A document's blocks are fenced. `geost` is a problem, which holds until the next one. Under it stand, in any number: `text first N`, what
+that prints; `text plan`, a layout, and then `text judged`, its verdict; `text explained WORDS`, what tools/explain prints for a command
+over the problem (and the plan). Answers and verdicts are also those of the second meaning.
+"""
+
+from __future__ import annotations
+
+import re
+from collections.abc import Iterator
+from dataclasses import dataclass
+from pathlib import Path
+
+import oracle
+from geost_text import TextFault, print_layout, print_problem, read_layout, read_problem
+from harness import TOP, Case, Cases, Failed, Setting, Skipped, run_tool, want
+
+DOCUMENTS = ["TUTORIAL.md", "COOKBOOK.md", "SPEED.md"]
+FENCE = re.compile(r"^```(.*)\n((?:.*\n)*?)```$", re.MULTILINE)
+MOST_PLACES = 20_000
+
+
+@dataclass(frozen=True)
+class Block:
+    """A fenced block with its words and the line at which it begins."""
+
+    words: tuple[str, ...]
+    text: str
+    line: int
+
+
+@dataclass(frozen=True)
+class Snippet:
+    """A block to be tried, with the problem and the plan that stand above it."""
+
+    document: str
+    block: Block
+    problem: str
+    plan: str
+
+    def name(self) -> str:
+        return f"document {self.document}:{self.block.line}: {' '.join(self.block.words)}"
+
+
+def blocks_of(document: str) -> list[Block]:
+    return [
+        Block(tuple(match.group(1).split()), match.group(2), document.count("\n", 0, match.start()) + 1)
+        for match in FENCE.finditer(document)
+    ]
+
+
+def snippets_of(name: str) -> Iterator[Snippet]:
+    problem = plan = ""
+    for block in blocks_of((TOP / "docs" / name).read_text(encoding="utf-8")):
+        if block.words == ("geost",):
+            problem, plan = block.text, ""
+        elif block.words == ("text", "plan"):
+            plan = block.text
+        if block.words[:1] in (("geost",), ("text",)):
+            yield Snippet(name, block, problem, plan)
+
+
+def check_snippet(setting: Setting, snippet: Snippet, folder: Path) -> None:
+    match snippet.block.words:
+        case ("geost",) | ("text", "plan"):
+            return
+        case ("text", "first", steps):
+            answer = setting.program.ask(["first", steps], snippet.problem.encode())
+            want(snippet.block.text, answer.text, "the answer")
+            check_first(snippet)
+        case ("text", "judged"):
+            verdict = setting.program.judge(snippet.problem, snippet.plan)
+            want(snippet.block.text, verdict.text, "the verdict")
+            broken = oracle.broken_rules(read_problem(snippet.problem.encode()), read_layout(snippet.plan.encode()))
+            want(snippet.block.text, f"broken {broken[0]}\n" if broken else "good\n", "the verdict of the second meaning")
+        case ("text", "explained", *words):
+            check_explained(setting, snippet, list(words), folder)
+        case ("text", "lint"):
+            printed, _ = run_tool("lint", setting, ["-"], snippet.problem)
+            want(snippet.block.text, printed.replace("standard input: ", ""), "what lint prints")
+        case _:
+            raise Failed("a block of no known kind")
+
+
+def check_first(snippet: Snippet) -> None:
+    if snippet.block.text.startswith(("refused", "budget")):
+        return
+    found = oracle.first_layout(read_problem(snippet.problem.encode()), MOST_PLACES)
+    wanted = "none\n" if found is None else print_layout(found)
+    want(snippet.block.text.partition("token")[0], wanted, "the first layout by a listing")
+
+
+def check_explained(setting: Setting, snippet: Snippet, words: list[str], folder: Path) -> None:
+    folder.mkdir()
+    files = []
+    for name, text in (("my.geost", snippet.problem), ("my.plan", snippet.plan)):
+        if text:
+            (folder / name).write_text(text)
+            files.append(str(folder / name))
+    printed, _ = run_tool("explain", setting, [*words, *files])
+    want(snippet.block.text, printed.replace(f"{folder}/", ""), "what explain prints")
+
+
+# docs/FORMAT.md: its indented blocks of statements are one problem, in two dimensions
+
+
+def statement_blocks() -> list[str]:
+    document = (TOP / "docs" / "FORMAT.md").read_text(encoding="utf-8")
+    blocks = re.findall(r"(?:^    .*\n)+", document, re.MULTILINE)
+    starts = ("    shape ", "    object ", "    order ", "    rule ", "    macro ")
+    return [re.sub("^    ", "", block, flags=re.MULTILINE) for block in blocks if block.startswith(starts)]
+
+
+def check_format(setting: Setting) -> None:
+    """All statements of the document together are one problem, whose first layout stands in the document."""
+    text = "geost 1 dims 2\n" + "".join(statement_blocks()) + "end\n"
+    try:
+        want(setting.program.ask(["show"], text.encode()).text, print_problem(read_problem(text.encode())), "the canonical text")
+    except TextFault as fault:
+        raise Failed(f"the statements are no problem: {fault}") from fault
+    answer = setting.program.ask(["first", "1000"], text.encode())
+    document = (TOP / "docs" / "FORMAT.md").read_text(encoding="utf-8")
+    shown = "".join(f"    {line}\n" for line in answer.text.splitlines())
+    if answer.status != 0 or shown not in document:
+        raise Failed(f"the document has another layout than\n{answer.text}")
+    want(oracle.broken_rules(read_problem(text.encode()), read_layout(answer.text.encode())), [], "broken rules")
+
+
+def check_links(document: Path) -> None:
+    """The files that a document names are there."""
+    named = re.findall(r"`((?:docs|examples|tools|bench)/[A-Za-z0-9_./]+)`", document.read_text(encoding="utf-8"))
+    missing = [name for name in named if not (TOP / name).exists()]
+    want(missing, [], "files that are named and not there")
+
+
+def cases(setting: Setting, folder: Path) -> Cases:
+    number = 0
+    for name in DOCUMENTS:
+        if not (TOP / "docs" / name).exists():
+            yield Case(f"document {name}", missing)
+            continue
+        for snippet in snippets_of(name):
+            number += 1
+            own = folder / f"document{number}"
+            yield Case(snippet.name(), lambda snippet=snippet, own=own: check_snippet(setting, snippet, own))
+    yield Case("document FORMAT.md: its statements", lambda: check_format(setting))
+    for path in [TOP / "README.md", *sorted((TOP / "docs").glob("*.md")), TOP / "examples" / "README.md"]:
+        yield Case(f"document {path.name}: files that it names", lambda path=path: check_links(path))
+
+
+def missing() -> None:
+    raise Skipped("the document is not there")
