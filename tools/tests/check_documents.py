@@ -9,10 +9,11 @@ from __future__ import annotations
 
 import re
 from collections.abc import Iterator
-from dataclasses import dataclass
+from dataclasses import dataclass, replace
 from pathlib import Path
 
 import oracle
+from geost_orders import stated_orders
 from geost_text import TextFault, print_layout, print_problem, read_layout, read_problem
 from harness import TOP, Case, Cases, Failed, Setting, Skipped, run_tool, want
 
@@ -127,6 +128,39 @@ def check_format(setting: Setting) -> None:
     want(oracle.broken_rules(read_problem(text.encode()), read_layout(answer.text.encode())), [], "broken rules")
 
 
+# docs/SPEED.md: its tables of steps
+
+
+@dataclass(frozen=True)
+class Steps:
+    """A row: with this order and these sides, so many steps are the least that give a layout."""
+
+    problem: str
+    order: str
+    sides: tuple[str, ...]
+    steps: int
+
+
+def rows_of_steps() -> list[Steps]:
+    document = (TOP / "docs" / "SPEED.md").read_text(encoding="utf-8")
+    found = []
+    for line in document.splitlines():
+        cells = [cell.strip() for cell in line.strip("|").split("|")]
+        if line.startswith("| `") and len(cells) == 4:
+            large = cells[0].startswith("`large/")
+            steps, sides = (cells[2], ()) if large else (cells[3], tuple(cells[2].split()))
+            found.append(Steps(cells[0].strip("`"), cells[1].partition(" (")[0], sides, int(steps)))
+    return found
+
+
+def check_steps(setting: Setting, row: Steps) -> None:
+    problem = read_problem((TOP / "examples" / f"{row.problem}.geost").read_bytes())
+    order = next(order for name, order in stated_orders(problem) if name == row.order)
+    text = print_problem(replace(problem, order=order, sides=row.sides or problem.sides)).encode()
+    want(setting.program.ask(["first", str(row.steps)], text).status, 0, f"the status of first {row.steps}")
+    want(setting.program.ask(["first", str(row.steps - 1)], text).status, 3, f"the status of first {row.steps - 1}")
+
+
 def check_links(document: Path) -> None:
     """The files that a document names are there."""
     named = re.findall(r"`((?:docs|examples|tools|bench)/[A-Za-z0-9_./]+)`", document.read_text(encoding="utf-8"))
@@ -145,6 +179,8 @@ def cases(setting: Setting, folder: Path) -> Cases:
             own = folder / f"document{number}"
             yield Case(snippet.name(), lambda snippet=snippet, own=own: check_snippet(setting, snippet, own))
     yield Case("document FORMAT.md: its statements", lambda: check_format(setting))
+    for row in rows_of_steps():
+        yield Case(f"document SPEED.md: {row.problem}, {row.order}", lambda row=row: check_steps(setting, row))
     for path in [TOP / "README.md", *sorted((TOP / "docs").glob("*.md")), TOP / "examples" / "README.md"]:
         yield Case(f"document {path.name}: files that it names", lambda path=path: check_links(path))
 

@@ -43,7 +43,7 @@ SLIPS = [
     ),
     Slip("a range that is too wide", HEAD + objects("") + "object far as s at 0..70 0..3 ;\n" + ROOM, ("x1 of `far` in 0..70: above 6",)),
     Slip("a range that begins outside", HEAD + objects("") + "object far as s at -2..7 0..3 ;\n" + ROOM, ("x1 of `far` in -2..7: below 0",)),
-    Slip("a range wholly outside", HEAD + objects("") + "object far as s at 0..7 4..9 ;\n" + ROOM, ("x2 of `far` in 4..9: at no place",)),
+    Slip("a range wholly outside", HEAD + objects("", "") + "object far as s at 0..7 4..9 ;\n" + ROOM, ("x2 of `far` in 4..9: at no place",)),
     Slip("more cells than room", HEAD + objects(*[""] * 17) + ROOM, ("34 cells at least, and there are 32",)),
     Slip(
         "lengths with a common divisor",
@@ -56,7 +56,7 @@ SLIPS = [
         HEAD + objects(" with weight = 3", " with weight = 4") + "rule w : forall p in objects : [ p.weight > 9 implies p.x1 = 0 ] ;\n" + ROOM,
         ("the rule `w` is broken by no placement",),
     ),
-    Slip("a room that the ranges keep", HEAD + objects("") + "rule hall : within 0..99 0..99 ;\n" + ROOM, ("the rule `hall` is broken by no",)),
+    Slip("a room that the ranges keep", HEAD + objects("", "") + "rule hall : within 0..99 0..99 ;\n" + ROOM, ("the rule `hall` is broken by no",)),
     Slip("lengths without a common divisor", "geost 1 dims 1\nshape s box 0 size 300 ;\nobject a as s at 0..899 ;\nrule gap : a.x1 >= 7 ;\nend\n", ()),
 ]
 

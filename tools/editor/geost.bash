@@ -1,0 +1,12 @@
+# Completion of geost's words in bash: source this file from ~/.bashrc.
+_geost() {
+  local words="first judge show"
+  if [ "$COMP_CWORD" -eq 1 ]; then
+    COMPREPLY=($(compgen -W "$words" -- "${COMP_WORDS[COMP_CWORD]}"))
+  elif [ "$COMP_CWORD" -eq 2 ] && [ "${COMP_WORDS[1]}" = first ]; then
+    COMPREPLY=($(compgen -W "100 1000 10000 100000 1000000" -- "${COMP_WORDS[COMP_CWORD]}"))
+  else
+    COMPREPLY=()
+  fi
+}
+complete -o default -F _geost geost ./geost
