@@ -15,7 +15,7 @@ SECONDS_OF_FILE_ORDER = 120
 
 
 def search(setting: Setting, problem: Path, *more: str) -> tuple[str, int]:
-    options = ["--processors", str(setting.processors), "--seconds", "60", *more]
+    options = ["--processors", str(setting.processors), "--seconds", "100", *more]
     return run_tool("portfolio", setting, [*options, str(problem)])
 
 
