@@ -11,6 +11,7 @@ from dataclasses import dataclass, replace
 from geost_program import ANSWERED, NO, Program
 from geost_text import (
     Apart,
+    Bare,
     Call,
     Chain,
     Compare,
@@ -18,6 +19,7 @@ from geost_text import (
     FieldOf,
     Formula,
     Joined,
+    Negative,
     Not,
     Number,
     Placed,
@@ -54,6 +56,10 @@ class Fixed:
 Prefix = tuple[Fixed, ...]
 
 
+class NotAsked(RuntimeError):
+    """A part of a rule that is too large to be asked about."""
+
+
 class Judge:
     """Asks whether parts of rules hold on one layout."""
 
@@ -70,7 +76,7 @@ class Judge:
     def holds(self, body: Apart | Within | Formula) -> bool:
         answer = self.program.judge(print_problem(replace(self.fixed, rules=(Rule("asked", body),))), self.layout)
         if answer.status not in (ANSWERED, NO):
-            raise RuntimeError(f"the program answers {answer.text.strip()!r} to a part of a rule")
+            raise NotAsked(f"the program answers {answer.text.strip()!r} to a part of a rule")
         return answer.status == ANSWERED
 
     def holds_under(self, prefix: Prefix, formula: Formula) -> bool:
@@ -80,8 +86,14 @@ class Judge:
 
     def breaking(self, prefix: Prefix, formula: Quantified, names: list[str]) -> list[str]:
         """The objects among these for which the body of a `forall` does not hold, found by halves."""
-        if not names or self.holds_under(prefix, replace(formula, listed=tuple(names))):
+        if not names:
             return []
+        try:
+            if self.holds_under(prefix, replace(formula, listed=tuple(names))):
+                return []
+        except NotAsked:
+            if len(names) == 1:
+                raise
         if len(names) == 1:
             return names
         half = len(names) // 2
@@ -154,9 +166,9 @@ def mentioned(formula: Formula) -> list[str]:
                 found.append(owner)
             case Quantified():
                 hidden.add(part.variable)
-                found.extend(part.listed or ())
+                found.extend((*(part.listed or ()), part.boxes_of or ""))
             case Call():
-                found.extend(getattr(argument, "name", "") for argument in part.arguments if type(argument).__name__ == "Bare")
+                found.extend(argument.name for argument in part.arguments if isinstance(argument, Bare))
     return [name for name in dict.fromkeys(found) if name not in hidden]
 
 
@@ -211,8 +223,6 @@ def within_formula(ranges: tuple[tuple[int, int], ...]) -> Formula:
 
 
 def integer(value: int) -> Expr:
-    from geost_text import Negative
-
     return Number(value) if value >= 0 else Negative(Number(-value))
 
 

@@ -7,7 +7,7 @@ import random
 from collections.abc import Callable, Iterator
 from dataclasses import dataclass, replace
 
-from geost_text import Bare, Call, FieldOf, Object, Problem, Quantified, all_parts
+from geost_text import Bare, Call, Compare, Expr, FieldOf, Formula, Joined, Macro, Object, Problem, Quantified, all_parts
 
 
 @dataclass(frozen=True)
@@ -70,15 +70,79 @@ def names_in_rules(problem: Problem) -> dict[str, int]:
     return counts
 
 
+Names = dict[str, str]
+
+
+def precedences(problem: Problem) -> set[tuple[str, str]]:
+    """The pairs of objects of which rules say that the first has a lesser coordinate than the second, as far as it is seen in
+    comparisons that stand alone, joined by `and`, or in a macro that is called so."""
+    macros = {macro.name: macro for macro in problem.macros}
+    objects = {thing.name for thing in problem.objects}
+    pairs: set[tuple[str, str]] = set()
+    for rule in problem.rules:
+        pairs |= pairs_of(rule.body, {}, macros)  # type: ignore[arg-type]
+    return {(one, other) for one, other in pairs if one in objects and other in objects and one != other}
+
+
+def pairs_of(formula: Formula, known: Names, macros: dict[str, Macro]) -> set[tuple[str, str]]:
+    """The pairs that a formula says, its parameters standing for the objects that are known."""
+    match formula:
+        case Joined("and", parts):
+            return set().union(*(pairs_of(part, known, macros) for part in parts))
+        case Call("@", name, arguments) if name in macros:
+            given = [known.get(part.name, part.name) if isinstance(part, Bare) else "" for part in arguments]
+            inside = dict(zip((parameter for parameter, _ in macros[name].parameters), given))
+            return pairs_of(macros[name].body, inside, macros)  # type: ignore[arg-type]
+        case Compare(left, relation, right) if relation in ("<", "<=", ">", ">="):
+            low, high = (left, right) if relation[0] == "<" else (right, left)
+            return {
+                (one, other)
+                for one, place in owners_of_coordinates(low, known, macros)
+                for other, same in owners_of_coordinates(high, known, macros)
+                if place == same
+            }
+    return set()
+
+
+def owners_of_coordinates(expr: Expr, known: Names, macros: dict[str, Macro]) -> set[tuple[str, str]]:
+    """The objects whose coordinates an expression has, each with the coordinate."""
+    found: set[tuple[str, str]] = set()
+    for part in all_parts(expr):
+        match part:
+            case FieldOf(owner, name) if len(name) == 2 and name[0] == "x" and name[1].isdigit():
+                found.add((known.get(owner, owner), name))
+            case Call("$", name, arguments) if name in macros:
+                given = [known.get(argument.name, argument.name) if isinstance(argument, Bare) else "" for argument in arguments]
+                inside = dict(zip((parameter for parameter, _ in macros[name].parameters), given))
+                found |= owners_of_coordinates(macros[name].body, inside, macros)  # type: ignore[arg-type]
+    return found
+
+
+def depths(problem: Problem) -> dict[str, int]:
+    """How many objects stand before each one at least, by the precedences; chains that run in a ring are cut off."""
+    found = dict.fromkeys((thing.name for thing in problem.objects), 0)
+    pairs = precedences(problem)
+    for _ in found:
+        for one, other in pairs:
+            found[other] = min(len(found), max(found[other], found[one] + 1))
+    return found
+
+
 def measures(problem: Problem) -> list[Measure]:
     """What objects are ordered by, those that help most often first."""
     named = names_in_rules(problem)
+    depth = depths(problem)
     found = [Measure("largest first", lambda thing: -least_volume(problem, thing))]
+    found.append(Measure("what comes before first", lambda thing: depth[thing.name]))
+    found.append(Measure("what comes behind first", lambda thing: -depth[thing.name]))
     for attribute in problem.attribute_names():
         found.append(Measure(f"greatest {attribute} first", lambda thing, a=attribute: -dict(thing.attributes).get(a, 0)))
         found.append(Measure(f"least {attribute} first", lambda thing, a=attribute: dict(thing.attributes).get(a, 0)))
     found.append(Measure("named by most rules first", lambda thing: -named[thing.name]))
     found.append(Measure("fewest places first", count_of_places))
+    for dimension in range(problem.dims):
+        found.append(Measure(f"least x{dimension + 1} first", lambda thing, d=dimension: sum(thing.ranges[d])))
+        found.append(Measure(f"greatest x{dimension + 1} first", lambda thing, d=dimension: -sum(thing.ranges[d])))
     found.append(Measure("longest first", lambda thing: -longest_side(problem, thing)))
     found.append(Measure("smallest first", lambda thing: least_volume(problem, thing)))
     return found

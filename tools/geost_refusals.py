@@ -8,6 +8,7 @@ from functools import cached_property
 
 from geost_program import TOP
 from geost_text import (
+    LARGEST_NUMBER,
     RESERVED,
     Call,
     Chain,
@@ -290,10 +291,11 @@ def byte_hints(refusal: Refusal) -> list[str]:
 
 def number_hints(refusal: Refusal) -> list[str]:
     word = refusal.token
-    behind = refusal.after() if refusal.index + 1 < len(refusal.tokens) and refusal.tokens[refusal.index + 1].start == refusal.at + len(word) else ""
-    if behind:
-        return [f"`{word}{behind}` is neither a number nor a name: a name begins with a letter or `_`, such as `_{word}{behind}`; units are not written"]
-    return [f"{word} is above 1000000000"]
+    touches = refusal.index + 1 < len(refusal.tokens) and refusal.tokens[refusal.index + 1].start == refusal.at + len(word)
+    if not touches:
+        return [f"{word} is above {LARGEST_NUMBER}"]
+    whole = word + refusal.after()
+    return [f"`{whole}` is neither a number nor a name; units are not written, and a name begins with a letter or `_`, such as `_{whole}`"]
 
 
 def name_hints(refusal: Refusal) -> list[str]:
@@ -387,18 +389,17 @@ def twice_hints(refusal: Refusal) -> list[str]:
     token = refusal.token
     if token in ("id", "sid") or len(token) == 2 and token[0] == "x" and token[1] in "123456789":
         return [f"every object has the field `{token}` anyway"]
-    if token in STATEMENTS:
-        earlier = [n for n in range(4, refusal.index) if refusal.tokens[n].text == token and refusal.tokens[n - 1].text in (";", refusal.tokens[3].text)]
-    else:
-        earlier = [n for n in range(refusal.index) if refusal.tokens[n].text == token and is_same_list(refusal, n)]
-    if not earlier:
+    earlier = next((n for n in range(refusal.index) if refusal.tokens[n].text == token and is_same_list(refusal, n)), None)
+    if earlier is None:
         return []
-    spot = spot_of(refusal.source, refusal.tokens[earlier[0]].start)
+    spot = spot_of(refusal.source, refusal.tokens[earlier].start)
     return [f"`{token}` stands first in line {spot.line}, column {spot.column}"]
 
 
 def is_same_list(refusal: Refusal, at: int) -> bool:
     """Whether the token at this number may belong to the list of the token at the place."""
+    if refusal.token in STATEMENTS:
+        return True
     if refusal.before() in STATEMENTS:
         return refusal.tokens[at - 1].text == refusal.before()
     return at >= refusal.first
@@ -493,7 +494,8 @@ def layout_order_hints(refusal: Refusal) -> list[str]:
 
 def layout_object(refusal: Refusal) -> str:
     """The object in whose line the place is."""
-    return next((refusal.tokens[n - 1].text for n in range(refusal.index, 0, -1) if n < len(refusal.tokens) and refusal.tokens[n].text == "as"), "")
+    marks = [n for n, token in enumerate(refusal.tokens[: refusal.index]) if token.text == "as"]
+    return refusal.tokens[marks[-1] - 1].text if marks else ""
 
 
 def layout_unknown_hints(refusal: Refusal) -> list[str]:

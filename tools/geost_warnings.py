@@ -84,7 +84,8 @@ class Lint:
             owners = self.listing(name)
             missing = [thing.name for thing in self.problem.objects if thing.name not in owners]
             if name in self.fields_read() and len(owners) > 1 and 0 < 4 * len(missing) <= len(owners):
-                yield f"the attribute `{name}` is not listed by {spoken(missing)}, where it is 0, though by all {len(owners)} other objects"
+                others = f"all {len(owners)} other objects"
+                yield f"the attribute `{name}` is not listed by {spoken(missing)}, where it is 0, though by {others}"
 
     # Ranges and room
 
@@ -113,7 +114,8 @@ class Lint:
         for within in self.withins():
             room = math.prod(max(0, high - low + 1) for low, high in within.ranges)
             if wanted > room:
-                yield f"the objects have {wanted} cells at least, and there are {room} within {spoken_ranges(within.ranges)}: there is no layout"
+                ranges = spoken_ranges(within.ranges)
+                yield f"the objects have {wanted} cells at least, and there are {room} within {ranges}: there is no layout"
 
     # Lengths
 
@@ -121,11 +123,13 @@ class Lint:
         for dimension in range(self.problem.dims):
             divisor = math.gcd(*self.lengths(dimension))
             if divisor >= LEAST_DIVISOR:
-                yield f"all lengths of dimension {dimension + 1} are multiples of {divisor}: a unit of that length makes the same problem with smaller numbers"
+                same = "a unit of that length makes the same problem with smaller numbers"
+                yield f"all lengths of dimension {dimension + 1} are multiples of {divisor}: {same}"
 
     def lengths(self, dimension: int) -> list[int]:
         """All lengths of a dimension; of a range its low end alone, since its high end may be lowered to a multiple."""
-        found = [number for shape in self.problem.shapes for box in shape.boxes for number in (box.sizes[dimension], box.offsets[dimension])]
+        boxes = [box for shape in self.problem.shapes for box in shape.boxes]
+        found = [length for box in boxes for length in (box.sizes[dimension], box.offsets[dimension])]
         found += [thing.ranges[dimension][0] for thing in self.problem.objects]
         for within in self.withins():
             low, high = within.ranges[dimension]
