@@ -10,9 +10,9 @@ use Rattle.std.proofs.lemmas.Int.{ints, clamps}
 use Rattle.std.proofs.lemmas.List.{get_or_default}
 use Rattle.std.proofs.lemmas.List.FromFn.{get_or-map-range_with_len}
 use Rattle.geo_base.specs.Boxes.{coordinate}
-use Rattle.problem_text.specs.Problem.{BoxData}
-use Rattle.problem_text.specs.Cells.{IsIn, BoxHas, box_at}
-use Rattle.problem_text.specs.WellFormed.{IsBox}
+use Rattle.problem_data.specs.Problem.{BoxData}
+use Rattle.problem_data.specs.Cells.{IsIn, BoxHas, box_at}
+use Rattle.problem_data.specs.WellFormed.{IsBox}
 
 pub on_false : (b : Bool) (P : Type 0) → (b ≡ false → P) → OnFalse b P
 on_false true P f = tt

@@ -1,7 +1,7 @@
 -- What the loops of the evaluation keep: what is left, with what was given so far, gives the whole.
 use Rattle.std.proofs.Common.{◌≡◌, Bool, ℤ, ◌+ℤ◌}
-use Rattle.problem_text.specs.Problem.{ProblemData}
-use Rattle.problem_text.specs.Tuple.{Tuple}
+use Rattle.problem_data.specs.Problem.{ProblemData}
+use Rattle.problem_data.specs.Tuple.{Tuple}
 use Rattle.rule_expand.specs.Plain.{PlainSums, PlainProducts, PlainFormulas}
 use Rattle.rule_expand.specs.PlainTruth.{PlainEnv, plain_sums, plain_products, plain_all, plain_some}
 use Rattle.rule_values.specs.Calm.{AreTameSums, AreTameProducts, AllCalm, SomeCalm}

@@ -2,9 +2,9 @@
 use Rattle.std.proofs.Common.{◌<◌, ◌≤◌, ℕ, ℤ, List, length, arith}
 use Rattle.std.proofs.Math.Logic.{⊎_elim}
 use Rattle.std.proofs.lemmas.Bool.{cases_lt}
-use Rattle.problem_text.specs.Problem.{ProblemData}
-use Rattle.problem_text.specs.Tuple.{Tuple}
-use Rattle.problem_text.specs.Cells.{IsApart, IsCellOf, IsShaped, IsTuple, NoCommonCell}
+use Rattle.problem_data.specs.Problem.{ProblemData}
+use Rattle.problem_data.specs.Tuple.{Tuple}
+use Rattle.problem_data.specs.Cells.{IsApart, IsCellOf, IsShaped, IsTuple, NoCommonCell}
 
 pub shaped : (p : ProblemData) (t : Tuple) → IsTuple p t → IsShaped p t
 shaped p t h = record { objects = h.objects; each = λ o l. (h.each o l).form }

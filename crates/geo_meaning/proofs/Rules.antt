@@ -2,12 +2,12 @@
 use Rattle.std.proofs.Common.{◌≡◌, ◌<◌, ◌≤◌, ℕ, zero, suc, List, refl, [], ◌∷◌, length, get_or, map, sym, subst, ◌∙◌, ap, arith}
 use Rattle.std.specs.Prelude.{All, None, Result, Ok, Err}
 use Rattle.std.proofs.lemmas.List.{get_or-map, get_or_default, length-map}
-use Rattle.problem_text.specs.Problem as written
-use Rattle.problem_text.specs.Problem.{DemandData, RuleData, ProblemData}
-use Rattle.problem_text.specs.Tuple.{Tuple}
-use Rattle.problem_text.specs.Cells.{IsTuple, IsWithin}
-use Rattle.problem_text.specs.Layouts.{DemandHolds}
-use Rattle.problem_text.specs.WellFormed.{IsDemand, IsWellFormed}
+use Rattle.problem_data.specs.Problem as written
+use Rattle.problem_data.specs.Problem.{DemandData, RuleData, ProblemData}
+use Rattle.problem_data.specs.Tuple.{Tuple}
+use Rattle.problem_data.specs.Cells.{IsTuple, IsWithin}
+use Rattle.problem_data.specs.Layouts.{DemandHolds}
+use Rattle.problem_data.specs.WellFormed.{IsDemand, IsWellFormed}
 use Rattle.rule_expand.specs.declared.plain.PlainRule.{PlainRule}
 use Rattle.rule_expand.specs.Rules.{PlainDemand, apart, within, plain, PlainRuleData, AsksSame, AllAskSame, expansion_fault, plain_rule_data, rules_expanded}
 use Rattle.geo_tokens.specs.declared.fault.TextFault.{TextFault}

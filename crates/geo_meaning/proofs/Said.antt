@@ -1,15 +1,15 @@
 -- What holds of every problem, since some text says it.
 use Rattle.std.proofs.Common.{◌≤◌, List, length, map, inl, sym, subst, arith}
 use Rattle.std.proofs.lemmas.List.{length-map}
-use Rattle.problem_text.specs.Problem.{ProblemData}
-use Rattle.problem_text.specs.Parts.{parts_of}
-use Rattle.problem_text.specs.Faults.{rule_name, rules}
-use Rattle.problem_text.specs.Meaning.{rule_of}
-use Rattle.problem_text.specs.Limits.{most_rules}
-use Rattle.problem_text.specs.FirstFault.{IsSaid}
-use Rattle.problem_text.specs.WellFormed.{IsWellFormed}
-use Rattle.problem_text.proofs.Distinct.{few}
-use Rattle.problem_text.proofs.OneProblem.{accepted_well_formed}
+use Rattle.problem_data.specs.Problem.{ProblemData}
+use Rattle.problem_data.specs.Parts.{parts_of}
+use Rattle.problem_data.specs.Faults.{rule_name, rules}
+use Rattle.problem_data.specs.Meaning.{rule_of}
+use Rattle.problem_data.specs.Limits.{most_rules}
+use Rattle.problem_data.specs.Accepted.{IsSaid}
+use Rattle.problem_data.specs.WellFormed.{IsWellFormed}
+use Rattle.problem_data.proofs.Distinct.{few}
+use Rattle.problem_data.proofs.Accepted.{accepted_well_formed}
 
 pub said-formed : (p : ProblemData) → IsSaid p → IsWellFormed p
 said-formed p s = accepted_well_formed s.text p s.accepts

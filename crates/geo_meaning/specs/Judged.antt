@@ -1,10 +1,10 @@
 -- What a judge says of a tuple.
 use Rattle.std.specs.Prelude.{◌≡◌, ◌<◌, ℕ, ◌+◌, true, [], length, slice_index_or, All}
-use Rattle.problem_text.specs.Problem.{RuleData, ProblemData}
-use Rattle.problem_text.specs.Problem as written
-use Rattle.problem_text.specs.Tuple.{Tuple}
-use Rattle.problem_text.specs.Cells.{IsApart, IsWithin}
-use Rattle.problem_text.specs.Layouts.{DemandHolds}
+use Rattle.problem_data.specs.Problem.{RuleData, ProblemData}
+use Rattle.problem_data.specs.Problem as written
+use Rattle.problem_data.specs.Tuple.{Tuple}
+use Rattle.problem_data.specs.Cells.{IsApart, IsWithin}
+use Rattle.problem_data.specs.Layouts.{DemandHolds}
 use Rattle.rule_expand.specs.PlainTruth.{plain_holds}
 use Rattle.rule_expand.specs.Rules.{PlainDemand, apart, within, plain}
 use Rattle.geo_meaning.specs.declared.judging.Judged.{Judged}

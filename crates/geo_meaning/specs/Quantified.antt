@@ -1,8 +1,8 @@
 -- The body of a quantifier, for one element and for all.
 use Rattle.std.specs.Prelude.{ℕ, ◌<◌, Bool, List, length}
-use Rattle.problem_text.specs.Problem.{ProblemData}
-use Rattle.problem_text.specs.Tuple.{Tuple}
-use Rattle.problem_text.specs.Value.{Thing}
+use Rattle.problem_data.specs.Problem.{ProblemData}
+use Rattle.problem_data.specs.Tuple.{Tuple}
+use Rattle.problem_data.specs.Value.{Thing}
 use Rattle.rule_expand.specs.Plain.{PlainFormulaTree}
 use Rattle.rule_expand.specs.PlainTruth.{PlainEnv, plain_holds, set_variable}
 use Rattle.rule_values.specs.Calm.{IsCalm}

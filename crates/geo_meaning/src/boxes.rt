@@ -3,12 +3,12 @@ ghost use Rattle.std.specs.Prelude.{◌≡◌, ◌<◌, ◌≤◌, ◌+ℤ◌, �
 ghost use Rattle.std.specs.Bool.{OnTrue, OnFalse};
 ghost use Rattle.geo_base.specs.Boxes.{coordinate};
 ghost use Rattle.geo_base.specs.Tuple.{spot};
-ghost use Rattle.problem_text.specs.Cells.{IsIn, BoxHas, IsInRanges};
-ghost use Rattle.problem_text.specs.ProblemView.{range_data};
-ghost use Rattle.problem_text.specs.WellFormed.{IsBox};
+ghost use Rattle.problem_data.specs.Cells.{IsIn, BoxHas, IsInRanges};
+ghost use Rattle.problem_data.specs.ProblemView.{range_data};
+ghost use Rattle.problem_data.specs.WellFormed.{IsBox};
 
 use geo_conditions::{Layout, ObjId};
-use problem_text::problem::{BoxDef, RangeDef};
+use problem_data::problem::{BoxDef, RangeDef};
 
 // The first number of a box in one dimension, and the first one past it.
 fn span(origin: i64, offset: i64, size: i64) -> (i128, i128)

@@ -1,9 +1,9 @@
 // What holds of every problem.
 ghost use Rattle.std.specs.Prelude.{◌≤◌, length};
-ghost use Rattle.problem_text.specs.Limits.{most_rules};
-ghost use Rattle.problem_text.specs.WellFormed.{IsWellFormed};
+ghost use Rattle.problem_data.specs.Limits.{most_rules};
+ghost use Rattle.problem_data.specs.WellFormed.{IsWellFormed};
 
-use problem_text::problem::Problem;
+use problem_data::problem::Problem;
 
 // A problem is well formed, and it has few rules. It does nothing.
 pub fn is_formed(problem: &Problem)

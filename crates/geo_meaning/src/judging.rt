@@ -1,9 +1,9 @@
 // Whether all rules hold on a tuple, and the first that does not.
 ghost use Rattle.std.specs.Prelude.{◌≡◌, ◌<◌, ◌+◌, IfOk, None, ℕ, length, map};
 ghost use Rattle.std.specs.Bool.{OnTrue, OnFalse};
-ghost use Rattle.problem_text.specs.Cells.{IsApart, IsShaped, IsTuple, IsWithin, LiesWithin, NoCommonCell};
-ghost use Rattle.problem_text.specs.Limits.{most_rules};
-ghost use Rattle.problem_text.specs.ProblemView.{range_data};
+ghost use Rattle.problem_data.specs.Cells.{IsApart, IsShaped, IsTuple, IsWithin, LiesWithin, NoCommonCell};
+ghost use Rattle.problem_data.specs.Limits.{most_rules};
+ghost use Rattle.problem_data.specs.ProblemView.{range_data};
 ghost use Rattle.rule_expand.specs.Rules.{AllAskSame, expansion_fault, plain_rule_data};
 ghost use Rattle.rule_ground.specs.Ground.{ground_fault};
 ghost use Rattle.rule_values.specs.Calm.{AreCalm, IsCalmDemand};
@@ -13,7 +13,7 @@ use crate::formed::is_formed;
 use crate::objects::{lies_within, shares_no_cell};
 use crate::truth::holds;
 use geo_conditions::{Layout, ObjId};
-use problem_text::problem::{Problem, RangeDef};
+use problem_data::problem::{Problem, RangeDef};
 use rule_expand::plain::{PlainBody, PlainRule};
 use rule_expand::rules::expand_all;
 use rule_values::env::Env;

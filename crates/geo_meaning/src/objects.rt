@@ -2,14 +2,14 @@
 ghost use Rattle.std.specs.Prelude.{◌≡◌, ◌<◌, ℕ, ℤ, List, length, map, All};
 ghost use Rattle.std.specs.Bool.{OnTrue, OnFalse};
 ghost use Rattle.geo_base.specs.Tuple.{spot};
-ghost use Rattle.problem_text.specs.Cells.{BoxHas, IsShaped, IsInRanges, IsCellOf, NoCommonCell, LiesWithin};
-ghost use Rattle.problem_text.specs.Tuple.{boxes_in};
-ghost use Rattle.problem_text.specs.ProblemView.{range_data};
-ghost use Rattle.problem_text.specs.WellFormed.{IsBox};
+ghost use Rattle.problem_data.specs.Cells.{BoxHas, IsShaped, IsInRanges, IsCellOf, NoCommonCell, LiesWithin};
+ghost use Rattle.problem_data.specs.Tuple.{boxes_in};
+ghost use Rattle.problem_data.specs.ProblemView.{range_data};
+ghost use Rattle.problem_data.specs.WellFormed.{IsBox};
 
 use crate::boxes::{box_lies_within, box_shares_no_cell};
 use geo_conditions::{Layout, ObjId};
-use problem_text::problem::{BoxDef, Problem, RangeDef};
+use problem_data::problem::{BoxDef, Problem, RangeDef};
 use rule_values::shapes::boxes_at;
 
 /// Whether no cell belongs to both objects where the layout puts them.

@@ -1,12 +1,12 @@
 //! What a tuple says of an object, by its position from 0. Of an object that is not there it says 0.
 
 ghost use Rattle.std.specs.Prelude.{◌≡◌, pos, slice_index_or};
-ghost use Rattle.problem_text.specs.Cells.{IsShaped};
-ghost use Rattle.problem_text.specs.Tuple.{spot_of};
+ghost use Rattle.problem_data.specs.Cells.{IsShaped};
+ghost use Rattle.problem_data.specs.Tuple.{spot_of};
 
 use crate::formed::is_formed;
 use geo_conditions::{Layout, ObjId};
-use problem_text::problem::Problem;
+use problem_data::problem::Problem;
 
 /// The place of the object's shape in its list.
 pub fn place(problem: &Problem, layout: &Layout, o: usize) -> u8

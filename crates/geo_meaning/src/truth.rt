@@ -2,8 +2,8 @@
 
 ghost use Rattle.std.specs.Prelude.{◌≡◌};
 ghost use Rattle.std.specs.List.{count_by, list_all, list_any};
-ghost use Rattle.problem_text.specs.Cells.{IsShaped};
-ghost use Rattle.problem_text.specs.Truth.{compare, quantify};
+ghost use Rattle.problem_data.specs.Cells.{IsShaped};
+ghost use Rattle.problem_data.specs.Truth.{compare, quantify};
 ghost use Rattle.rule_expand.specs.PlainTruth.{plain_all, plain_elements, plain_holds, plain_some, plain_value, set_variable};
 ghost use Rattle.rule_expand.specs.PlainView.{plain_coll_view, plain_expr_view, plain_formula_view, plain_formulas_view};
 ghost use Rattle.geo_meaning.specs.Quantified.{AreCalm, holds_for};
@@ -14,7 +14,7 @@ ghost use Rattle.rule_values.specs.View.{env_view};
 use crate::numbers::number;
 use crate::places::place;
 use geo_conditions::Layout;
-use problem_text::problem::Problem;
+use problem_data::problem::Problem;
 use rule_expand::plain::{PlainColl, PlainExpr, PlainFormula};
 use rule_syntax::tree::{QuantKind, Rel};
 use rule_values::elements::{Elements, elements_of, owner};

@@ -5,10 +5,11 @@ use Rattle.std.specs.Io.KnownBytes.{Appends}
 use Rattle.std.proofs.lemmas.Grind.{common_steps}
 use Rattle.geo_chan.specs.Written.{AppendsFront}
 use Rattle.geo_base.specs.Tuple.{Tuple}
-use Rattle.problem_text.specs.Cells.{IsTuple, IsShaped}
-use Rattle.problem_text.specs.Problem.{ProblemData}
+use Rattle.problem_data.specs.Cells.{IsTuple, IsShaped}
+use Rattle.problem_data.specs.Problem.{ProblemData}
 use Rattle.geo_tokens.specs.declared.fault.FaultWord.{FaultWord}
-use Rattle.problem_text.specs.FirstFault.{most_bytes, Accepts, HasFirstFault, long, no_token, no_statements, in_statements}
+use Rattle.problem_data.specs.Accepted.{most_bytes, Accepts}
+use Rattle.problem_text.specs.FirstFault.{HasFirstFault, long, no_token, no_statements, in_statements}
 use Rattle.geost_run.specs.declared.command.Command.{Command}
 use Rattle.geost_run.specs.declared.command.Status.{Status}
 use Rattle.geost_run.specs.declared.command.Status.TheVariants.{Answered, No, Refused, Budget, BadWords, BadToken, ReadFault, WriteFault, Memory}

@@ -8,19 +8,21 @@ use Rattle.geo_tokens.specs.declared.fault.TextFault.TheVariants as faults
 use Rattle.geo_tokens.specs.Cut.{IsTokens}
 use Rattle.geo_tokens.specs.Deep.{Spells}
 use Rattle.geo_tokens.proofs.Cuts.{one_list, list_or_fault, one_fault}
-use Rattle.problem_text.specs.declared.faults.fault.Fault.{Fault}
-use Rattle.problem_text.specs.Tree.{ProblemTree}
-use Rattle.problem_text.specs.View.{problem_view}
-use Rattle.problem_text.specs.Grammar.{ProblemWords}
-use Rattle.problem_text.specs.WholeText.{IsWhole, FirstFault, IsOnlyAnswer}
-use Rattle.problem_text.specs.Problem.{ProblemData}
-use Rattle.problem_text.specs.Parts.{parts_of}
-use Rattle.problem_text.specs.Least.{fault, IsFirst}
-use Rattle.problem_text.specs.Faults.{IsFault}
-use Rattle.problem_text.specs.FirstFault.{Says, Accepts, HasFirstFault, long, no_token, no_statements, in_statements}
-use Rattle.problem_text.proofs.Right.{problem_good}
-use Rattle.problem_text.proofs.WholeText.{only_answer}
-use Rattle.problem_text.proofs.Firsts.{one_first}
+use Rattle.problem_data.specs.declared.fault.Fault.{Fault}
+use Rattle.problem_data.specs.Tree.{ProblemTree}
+use Rattle.problem_data.specs.View.{problem_view}
+use Rattle.problem_data.specs.Grammar.{ProblemWords}
+use Rattle.problem_data.specs.Whole.{IsWhole}
+use Rattle.problem_syntax.specs.WholeText.{FirstFault, IsOnlyAnswer}
+use Rattle.problem_data.specs.Problem.{ProblemData}
+use Rattle.problem_data.specs.Parts.{parts_of}
+use Rattle.problem_data.specs.Least.{fault, IsFirst}
+use Rattle.problem_data.specs.Faults.{IsFault}
+use Rattle.problem_data.specs.Accepted.{Says, Accepts}
+use Rattle.problem_text.specs.FirstFault.{HasFirstFault, long, no_token, no_statements, in_statements}
+use Rattle.problem_syntax.proofs.Right.{problem_good}
+use Rattle.problem_syntax.proofs.WholeText.{only_answer}
+use Rattle.problem_data.proofs.Firsts.{one_first}
 use Rattle.problem_text.proofs.OneProblem.{accepted_once, accepted_not_refused}
 use Rattle.rule_names.specs.declared.mistake.Mistake.{Mistake}
 use Rattle.rule_names.specs.Mistakes.{word_of}

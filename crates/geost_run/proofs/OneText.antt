@@ -8,7 +8,7 @@ use Rattle.geo_conditions.specs.Walk.{values}
 use Rattle.geo_conditions.proofs.Fronts.{precedes_once}
 use Rattle.geo_meaning.specs.Judged.{IsFirstBroken}
 use Rattle.layout_text.specs.Block.{block_of}
-use Rattle.problem_text.specs.Problem.{ProblemData}
+use Rattle.problem_data.specs.Problem.{ProblemData}
 use Rattle.problem_text.specs.Canonical.{problem_text}
 use Rattle.rule_ground.specs.Order.{variables_for}
 use Rattle.layout_search.specs.FirstLayout.{IsFirstLayout}

@@ -9,9 +9,9 @@ use Rattle.geo_tokens.specs.declared.fault.FaultWord.{FaultWord}
 use Rattle.layout_text.specs.FirstFault as layouts
 use Rattle.layout_text.proofs.OneLayout.{layout_once, layout_or_fault}
 use Rattle.geo_meaning.specs.Judged.{IsFirstBroken}
-use Rattle.problem_text.specs.Problem.{ProblemData}
-use Rattle.problem_text.specs.Layouts.{IsLayout}
-use Rattle.problem_text.proofs.OneProblem.{accepted_well_formed}
+use Rattle.problem_data.specs.Problem.{ProblemData}
+use Rattle.problem_data.specs.Layouts.{IsLayout}
+use Rattle.problem_data.proofs.Accepted.{accepted_well_formed}
 use Rattle.rule_ground.specs.Order.{order_of}
 use Rattle.rule_ground.specs.Start.{first_state}
 use Rattle.rule_ground.proofs.Starts.{names-each}

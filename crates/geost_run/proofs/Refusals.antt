@@ -8,8 +8,9 @@ use Rattle.std.proofs.lemmas.Bool.{false≢true}
 use Rattle.geo_tokens.specs.declared.fault.FaultWord.{FaultWord}
 use Rattle.geo_tokens.specs.declared.fault.TextFault.{TextFault}
 use Rattle.geo_tokens.specs.declared.fault.TextFault.TheVariants as faults
-use Rattle.problem_text.specs.Problem.{ProblemData}
-use Rattle.problem_text.specs.FirstFault.{Accepts, AnswersProblem}
+use Rattle.problem_data.specs.Problem.{ProblemData}
+use Rattle.problem_data.specs.Accepted.{Accepts}
+use Rattle.problem_text.specs.FirstFault.{AnswersProblem}
 use Rattle.problem_text.proofs.OneProblem.{accepted_once, accepted_not_refused}
 use Rattle.rule_names.specs.Answers.{AreNamesRight, HasFirstMistake, AnswersNames}
 use Rattle.rule_expand.specs.Rules.{expansion_fault, IsFaultOf}

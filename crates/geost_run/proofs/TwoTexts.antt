@@ -10,8 +10,9 @@ use Rattle.geo_tokens.specs.declared.fault.FaultWord.TheVariants as words
 use Rattle.geo_tokens.specs.FirstEnd.{HasNoEnd, IsFirstEnd, IsOnlyEnd}
 use Rattle.geo_tokens.proofs.Ends.{only_end}
 use Rattle.geo_base.specs.Tuple.{Tuple}
-use Rattle.problem_text.specs.Problem.{ProblemData}
-use Rattle.problem_text.specs.FirstFault.{Accepts, HasFirstFault, long, no_token, no_statements, in_statements}
+use Rattle.problem_data.specs.Problem.{ProblemData}
+use Rattle.problem_data.specs.Accepted.{Accepts}
+use Rattle.problem_text.specs.FirstFault.{HasFirstFault, long, no_token, no_statements, in_statements}
 use Rattle.layout_text.specs.FirstFault as layouts
 use Rattle.geost_run.specs.Accepted.{IsAccepted, IsRefused, unread, misnamed, unexpanded, ungrounded}
 use Rattle.geost_run.specs.Texts.{AreTextsOf, IsEndless, IsRefusedPair, endless, in_first, in_second}

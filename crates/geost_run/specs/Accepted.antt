@@ -5,12 +5,13 @@ use Rattle.std.specs.Prelude.{◌≡◌, ℕ, List, map, None, Some, Result, Ok,
 use Rattle.geo_tokens.specs.declared.fault.FaultWord.{FaultWord}
 use Rattle.geo_tokens.specs.declared.fault.TextFault.{TextFault}
 use Rattle.geo_tokens.specs.declared.fault.TextFault.TheVariants as faults
-use Rattle.problem_text.specs.Problem.{ProblemData}
-use Rattle.problem_text.specs.FirstFault.{Accepts, HasFirstFault}
+use Rattle.problem_data.specs.Problem.{ProblemData}
+use Rattle.problem_data.specs.Accepted.{Accepts}
+use Rattle.problem_text.specs.FirstFault.{HasFirstFault}
 use Rattle.rule_names.specs.Answers.{AreNamesRight, HasFirstMistake}
 use Rattle.rule_expand.specs.Rules.{AllAskSame, expansion_fault, plain_rule_data, rules_expanded}
 use Rattle.geo_base.specs.Tuple.{Tuple}
-use Rattle.problem_text.specs.Cells.{IsTuple}
+use Rattle.problem_data.specs.Cells.{IsTuple}
 use Rattle.rule_values.specs.Calm.{AreCalm}
 use Rattle.geo_conditions.specs.declared.cond.Cond.{Cond}
 use Rattle.linear_conditions.specs.CondTree.{cond_view}

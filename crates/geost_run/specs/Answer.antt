@@ -8,8 +8,8 @@ use Rattle.geo_tokens.specs.Fault.{fault_bytes}
 use Rattle.layout_text.specs.Block.{block_of}
 use Rattle.layout_text.specs.FirstFault as layouts
 use Rattle.geo_meaning.specs.Judged.{IsFirstBroken, rule_at}
-use Rattle.problem_text.specs.Problem.{ProblemData}
-use Rattle.problem_text.specs.Layouts.{IsLayout}
+use Rattle.problem_data.specs.Problem.{ProblemData}
+use Rattle.problem_data.specs.Layouts.{IsLayout}
 use Rattle.problem_text.specs.Canonical.{problem_text}
 use Rattle.geost_run.specs.declared.command.Command.{Command}
 use Rattle.geost_run.specs.declared.command.Command.TheVariants.{First, Show, Judge}

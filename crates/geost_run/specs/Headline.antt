@@ -5,8 +5,8 @@ use Rattle.geo_conditions.specs.declared.cond.Cond.{Cond}
 use Rattle.geo_conditions.specs.Walk.{IsFront, GoesOn, is_full}
 use Rattle.geo_tokens.specs.declared.fault.FaultWord.{FaultWord}
 use Rattle.layout_text.specs.Block.{block_of}
-use Rattle.problem_text.specs.Problem.{ProblemData}
-use Rattle.problem_text.specs.Layouts.{IsLayout}
+use Rattle.problem_data.specs.Problem.{ProblemData}
+use Rattle.problem_data.specs.Layouts.{IsLayout}
 use Rattle.rule_ground.specs.Order.{ComesBefore}
 use Rattle.layout_search.specs.FirstLayout.{walk_of}
 use Rattle.geost_run.specs.Accepted.{IsAccepted, IsRefused, AreConditions}

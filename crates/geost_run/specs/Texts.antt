@@ -3,7 +3,7 @@ use Rattle.std.specs.Prelude.{◌≡◌, ◌⊎◌, ◌++◌, ◌<◌, ℕ, List
 use Rattle.geo_tokens.specs.FirstEnd.{HasNoEnd, IsFirstEnd}
 use Rattle.geo_tokens.specs.declared.fault.FaultWord.{FaultWord}
 use Rattle.geo_tokens.specs.declared.fault.FaultWord.TheVariants as words
-use Rattle.problem_text.specs.Problem.{ProblemData}
+use Rattle.problem_data.specs.Problem.{ProblemData}
 use Rattle.layout_text.specs.FirstFault.{HasFaultFrom}
 use Rattle.geost_run.specs.Accepted.{IsAccepted, IsRefused}
 

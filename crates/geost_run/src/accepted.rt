@@ -4,7 +4,7 @@ ghost use Rattle.geost_run.specs.Accepted.{AnswersAccepted};
 
 use geo_conditions::Cond;
 use geo_tokens::fault::TextFault;
-use problem_text::problem::Problem;
+use problem_data::problem::Problem;
 use problem_text::read::read_problem;
 use rule_expand::plain::PlainRule;
 use rule_expand::rules::expand_all;

@@ -5,7 +5,7 @@ ghost use Rattle.geost_run.specs.Decision.{decision_status};
 use crate::Status;
 use geo_conditions::Layout;
 use geo_tokens::fault::FaultWord;
-use problem_text::problem::Problem;
+use problem_data::problem::Problem;
 
 /// The answer to a command.
 #[derive(Drop)]

@@ -1,8 +1,8 @@
 // What is written.
 ghost use Rattle.std.specs.Prelude.{◌≡◌, ◌≤◌, codes, length};
 ghost use Rattle.geo_chan.specs.Written.{Writes};
-ghost use Rattle.problem_text.specs.Cells.{IsShaped};
-ghost use Rattle.problem_text.specs.WellFormed.{IsWellFormed};
+ghost use Rattle.problem_data.specs.Cells.{IsShaped};
+ghost use Rattle.problem_data.specs.WellFormed.{IsWellFormed};
 ghost use Rattle.geost_run.specs.Answer.{broken_rule, out_of_budget, refusal, rule_name};
 ghost use Rattle.geost_run.specs.Decision.{decision_text, IsDecided};
 ghost use Rattle.geost_run.specs.Ends.{Prints};
@@ -12,7 +12,7 @@ use geo_chan::{Piece, PutFault, Sink, write_all_bytes, write_pieces};
 use geo_tokens::fault::{FaultWord, fault_text};
 use layout_text::print_layout;
 use problem_text::print::print_problem;
-use problem_text::problem::Problem;
+use problem_data::problem::Problem;
 use std::alloc::Global;
 
 /// Writes the whole answer.

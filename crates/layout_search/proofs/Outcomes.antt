@@ -6,10 +6,10 @@ use Rattle.geo_conditions.specs.declared.cond.Cond.{Cond}
 use Rattle.geo_conditions.specs.Reach.{State, IsState}
 use Rattle.geo_conditions.specs.Walk.{Tree, Order, variables_in, values, is_full, IsFront, IsWhole, GoesOn, Precedes}
 use Rattle.geo_conditions.proofs.Layouts.{values_tell}
-use Rattle.problem_text.specs.Problem.{ProblemData}
-use Rattle.problem_text.specs.Cells.{IsTuple}
-use Rattle.problem_text.specs.Layouts.{IsLayout}
-use Rattle.problem_text.specs.WellFormed.{IsWellFormed}
+use Rattle.problem_data.specs.Problem.{ProblemData}
+use Rattle.problem_data.specs.Cells.{IsTuple}
+use Rattle.problem_data.specs.Layouts.{IsLayout}
+use Rattle.problem_data.specs.WellFormed.{IsWellFormed}
 use Rattle.rule_ground.specs.Order.{order_of, variables_for}
 use Rattle.rule_ground.specs.Start.{first_state}
 use Rattle.rule_ground.proofs.Starts.{names-each, tuples-are}

@@ -3,8 +3,8 @@ use Rattle.std.proofs.Common.{◌≡◌, ◌<◌, ◌≤◌, ◌+◌, ℕ, ℤ, 
 use Rattle.std.proofs.lemmas.List.{ext_get_or, get_or-take, length-take-le, take_more, take_all}
 use Rattle.geo_base.specs.Boxes.{coordinate}
 use Rattle.geo_base.specs.Tuple.{Spot, Tuple, spot, nothing_put}
-use Rattle.problem_text.specs.Problem.{ProblemData}
-use Rattle.problem_text.specs.Cells.{IsTuple}
+use Rattle.problem_data.specs.Problem.{ProblemData}
+use Rattle.problem_data.specs.Cells.{IsTuple}
 
 same-spot : (s t : ℕ) (xs ys : List ℤ) → s ≡ t → xs ≡ ys → (let p : Spot = record { place = s; origin = xs } in let q : Spot = record { place = t; origin = ys } in p ≡ q)
 same-spot s t xs ys e f = λ i. record { place = e i; origin = f i }

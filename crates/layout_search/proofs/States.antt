@@ -5,8 +5,8 @@ use Rattle.std.proofs.lemmas.List.{length-map, length-append, length-replicate}
 use Rattle.std.proofs.lemmas.List.Elements.{All-map}
 use Rattle.geo_conditions.specs.declared.object.TheConstants.{MAX_OBJECTS, MAX_SHAPES}
 use Rattle.geo_conditions.specs.Reach.{Reach, IsState, first_places}
-use Rattle.problem_text.specs.Problem.{RangeData, ObjectData, ProblemData}
-use Rattle.problem_text.specs.WellFormed.{IsWellFormed}
+use Rattle.problem_data.specs.Problem.{RangeData, ObjectData, ProblemData}
+use Rattle.problem_data.specs.WellFormed.{IsWellFormed}
 use Rattle.rule_ground.specs.Start.{whole_reach, first_state}
 
 sixteen : (n : ℕ) → n ≤ 16 → length (first_places n) ≡ MAX_SHAPES

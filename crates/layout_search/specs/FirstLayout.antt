@@ -5,9 +5,9 @@ use Rattle.geo_conditions.specs.declared.cond.Cond.{Cond}
 use Rattle.geo_conditions.specs.Conditions.{AllFit, AllHold}
 use Rattle.geo_conditions.specs.Walk.{Tree, values, IsListing, More, End}
 use Rattle.geo_conditions.specs.Walk as walk
-use Rattle.problem_text.specs.Problem.{RuleData, ProblemData}
-use Rattle.problem_text.specs.Cells.{IsTuple}
-use Rattle.problem_text.specs.Layouts.{DemandHolds, IsLayout}
+use Rattle.problem_data.specs.Problem.{RuleData, ProblemData}
+use Rattle.problem_data.specs.Cells.{IsTuple}
+use Rattle.problem_data.specs.Layouts.{DemandHolds, IsLayout}
 use Rattle.rule_ground.specs.Order.{variables_for, ComesBefore}
 use Rattle.rule_ground.specs.Start.{first_state}
 use Rattle.layout_search.specs.declared.first.Outcome.{Outcome}

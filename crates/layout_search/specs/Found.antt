@@ -1,7 +1,7 @@
 -- What a search has found.
 use Rattle.geo_base.specs.Tuple.{Tuple}
-use Rattle.problem_text.specs.Problem.{ProblemData}
-use Rattle.problem_text.specs.Cells.{IsTuple}
+use Rattle.problem_data.specs.Problem.{ProblemData}
+use Rattle.problem_data.specs.Cells.{IsTuple}
 use Rattle.trail_search.specs.Next.{Quest, HasFound}
 
 -- it has found a tuple of the problem

@@ -1,9 +1,9 @@
 //! The first layout, and when there is none within the budget.
 
 ghost use Rattle.std.specs.Prelude.{◌≡◌, ◌<◌, ◌≤◌, ◌++◌, [], ◌∷◌, IfOk, IsSome, OnOk, length, map};
-ghost use Rattle.problem_text.specs.WellFormed.{IsWellFormed};
+ghost use Rattle.problem_data.specs.WellFormed.{IsWellFormed};
 ghost use Rattle.geo_base.specs.Tuple.{Tuple, spot};
-ghost use Rattle.problem_text.specs.Cells.{IsTuple};
+ghost use Rattle.problem_data.specs.Cells.{IsTuple};
 ghost use Rattle.rule_ground.specs.Start.{first_state};
 ghost use Rattle.trail_search.specs.Next.{HasFound};
 ghost use Rattle.layout_search.specs.FirstLayout.{AreConditionsOf, Finds, Lists};
@@ -14,7 +14,7 @@ use geo_base::MAX_DIMS;
 use geo_conditions::{Cond, Layout, MAX_OBJECTS, ObjId};
 use geo_state::Propagate;
 use indexical::AnyIndexical;
-use problem_text::problem::Problem;
+use problem_data::problem::Problem;
 use queued_fixpoint::Fixpoint;
 use rule_ground::order::search_order;
 use rule_ground::start::start_state;

@@ -8,13 +8,14 @@ use Rattle.geo_tokens.specs.declared.fault.TextFault.{TextFault}
 use Rattle.geo_tokens.specs.declared.fault.TextFault.TheVariants as faults
 use Rattle.geo_tokens.specs.Cut as cut
 use Rattle.geo_tokens.specs.Cut.{IsTokens, IsTokenFault, Tokenizes}
-use Rattle.problem_text.specs.declared.faults.fault.Fault.{Fault}
-use Rattle.problem_text.specs.Problem.{ProblemData}
-use Rattle.problem_text.specs.Tuple.{Tuple}
-use Rattle.problem_text.specs.WholeText as whole
-use Rattle.problem_text.specs.WholeText.{IsWhole, FirstFault, AnswersText}
-use Rattle.problem_text.specs.Least.{fault, IsFirst}
-use Rattle.problem_text.proofs.Firsts.{one_first}
+use Rattle.problem_data.specs.declared.fault.Fault.{Fault}
+use Rattle.problem_data.specs.Problem.{ProblemData}
+use Rattle.problem_data.specs.Tuple.{Tuple}
+use Rattle.problem_syntax.specs.WholeText as whole
+use Rattle.problem_data.specs.Whole.{IsWhole}
+use Rattle.problem_syntax.specs.WholeText.{FirstFault, AnswersText}
+use Rattle.problem_data.specs.Least.{fault, IsFirst}
+use Rattle.problem_data.proofs.Firsts.{one_first}
 use Rattle.layout_text.proofs.Inside.{fault_within}
 use Rattle.layout_text.specs.Tree.{LayoutTree}
 use Rattle.layout_text.specs.View.{layout_view}

@@ -12,13 +12,13 @@ use Rattle.geo_tokens.specs.Cut.{Cut, here, behind_gap, behind_token, IsTokenFau
 use Rattle.rule_syntax.specs.Grammar.{Named}
 use Rattle.rule_reading.specs.Outcome.{place_of}
 use Rattle.rule_print.proofs.Respelled.{AllOf}
-use Rattle.problem_text.specs.declared.tree.Int.{Int}
-use Rattle.problem_text.specs.declared.faults.fault.Fault.{Fault}
-use Rattle.problem_text.specs.Problem.{ObjectData, ProblemData}
-use Rattle.problem_text.specs.Grammar.{IntWords}
-use Rattle.problem_text.specs.WholeText.{FirstFault}
-use Rattle.problem_text.specs.Least.{fault}
-use Rattle.problem_text.specs.Faults.{first_place, int_place}
+use Rattle.problem_data.specs.declared.tree.Int.{Int}
+use Rattle.problem_data.specs.declared.fault.Fault.{Fault}
+use Rattle.problem_data.specs.Problem.{ObjectData, ProblemData}
+use Rattle.problem_data.specs.Grammar.{IntWords}
+use Rattle.problem_syntax.specs.WholeText.{FirstFault}
+use Rattle.problem_data.specs.Least.{fault}
+use Rattle.problem_data.specs.Faults.{first_place, int_place}
 use Rattle.layout_text.specs.Tree.{LineTree, TokenTree, LayoutTree}
 use Rattle.layout_text.specs.Grammar.{LineWords, TupleWords, TokenWords, TokenLine, LayoutWords}
 use Rattle.layout_text.specs.Faults.{OutsideFault, LineFault, TokenFault, behind_lines, IsFault}

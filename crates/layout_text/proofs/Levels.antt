@@ -6,7 +6,7 @@ use Rattle.geo_tokens.specs.declared.token.Sym.TheVariants as symbols
 use Rattle.geo_tokens.specs.Deep.{IsReading}
 use Rattle.geo_tokens.proofs.Levels.{is_reading}
 use Rattle.rule_reading.proofs.Steps.{Step, pure_step, bind_step, either_step, opt_step, many_step, steps_split}
-use Rattle.problem_text.proofs.Levels.{word_step, symbol_step, number_step, named_step, one_or_more_step, int_step}
+use Rattle.problem_syntax.proofs.Levels.{word_step, symbol_step, number_step, named_step, one_or_more_step, int_step}
 use Rattle.layout_text.specs.Grammar.{LineWords, GroupWords, TupleWords, TokenWords, TokenLine, LayoutWords}
 use Rattle.layout_text.specs.Reading.{layout_at}
 use Rattle.layout_text.proofs.Right.{layout_good}

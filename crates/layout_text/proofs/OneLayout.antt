@@ -5,16 +5,17 @@ use Rattle.geo_tokens.specs.declared.fault.FaultWord.{FaultWord}
 use Rattle.geo_tokens.specs.declared.fault.TextFault.TheVariants as faults
 use Rattle.geo_tokens.specs.Deep.{Spells}
 use Rattle.geo_tokens.proofs.Cuts.{one_list, list_or_fault}
-use Rattle.problem_text.specs.WholeText.{IsWhole, FirstFault}
-use Rattle.problem_text.specs.Problem.{ProblemData}
-use Rattle.problem_text.specs.Tuple.{Tuple}
-use Rattle.problem_text.proofs.WholeText.{only_answer}
+use Rattle.problem_data.specs.Whole.{IsWhole}
+use Rattle.problem_syntax.specs.WholeText.{FirstFault}
+use Rattle.problem_data.specs.Problem.{ProblemData}
+use Rattle.problem_data.specs.Tuple.{Tuple}
+use Rattle.problem_syntax.proofs.WholeText.{only_answer}
 use Rattle.layout_text.specs.Tree.{LayoutTree}
 use Rattle.layout_text.specs.View.{layout_view}
 use Rattle.layout_text.specs.Grammar.{LayoutWords}
 use Rattle.layout_text.specs.Faults.{tuple_of, IsFault}
 use Rattle.layout_text.specs.FirstFault.{Says, Accepts, HasFirstFault, long, no_token, no_lines, in_lines}
-use Rattle.problem_text.specs.Least.{fault}
+use Rattle.problem_data.specs.Least.{fault}
 use Rattle.layout_text.proofs.Right.{layout_good}
 
 module _ (p : ProblemData) (text : List ℕ) where

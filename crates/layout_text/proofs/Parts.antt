@@ -6,7 +6,7 @@ use Rattle.std.proofs.lemmas.List.FromFn.{get_or-range_with_len, length-range_wi
 use Rattle.std.proofs.lemmas.List.{get_or-drop}
 use Rattle.geo_base.specs.Tuple.{Tuple, spot, nothing_put}
 use Rattle.geo_chan.proofs.Pieces.{one_more, stopped_at, all_of_them}
-use Rattle.problem_text.specs.Problem.{ProblemData}
+use Rattle.problem_data.specs.Problem.{ProblemData}
 use Rattle.layout_text.specs.Block.{line_of, lines_of, group_of, later_group, token_of}
 
 number_at : (n o : ℕ) → o < n → get_or (range_with_len 0 n) o 0 ≡ o

@@ -10,8 +10,8 @@ use Rattle.geo_tokens.specs.Names.{IsNameText}
 use Rattle.rule_print.specs.Canonical.{Written, name, number, word, symbol, sign}
 use Rattle.rule_print.proofs.Lexemes.{EndsAll, space_ends, line_ends}
 use Rattle.rule_print.proofs.Respelled.{AllOf, joined}
-use Rattle.problem_text.specs.Problem.{ProblemData}
-use Rattle.problem_text.specs.Tuple.{Spot, Tuple, spot, object_of}
+use Rattle.problem_data.specs.Problem.{ProblemData}
+use Rattle.problem_data.specs.Tuple.{Spot, Tuple, spot, object_of}
 use Rattle.problem_text.specs.Canonical.{int_spelling}
 use Rattle.problem_text.proofs.PrintingParts.{IsSmall}
 use Rattle.layout_text.specs.Block.{shape_name, coordinates, line_of, lines_of, group_of, later_group, token_of, token_line, block_of}

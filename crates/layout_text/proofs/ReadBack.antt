@@ -24,20 +24,20 @@ use Rattle.geo_tokens.proofs.Good.{reads_all}
 use Rattle.geo_tokens.proofs.Cuts.{one_list}
 use Rattle.rule_print.proofs.Lexemes.{nothing_ends}
 use Rattle.rule_print.proofs.Respelled.{AllOf, Each}
-use Rattle.problem_text.specs.declared.faults.fault.Fault.{Fault}
-use Rattle.problem_text.specs.declared.tree.Int.{Int}
-use Rattle.problem_text.specs.Problem.{RangeData, ObjectData, ProblemData}
+use Rattle.problem_data.specs.declared.fault.Fault.{Fault}
+use Rattle.problem_data.specs.declared.tree.Int.{Int}
+use Rattle.problem_data.specs.Problem.{RangeData, ObjectData, ProblemData}
 use Rattle.problem_text.specs.NameTable as tables
 use Rattle.problem_text.specs.NameTable.{name_table}
-use Rattle.problem_text.specs.Tuple.{Tuple, spot, object_of}
-use Rattle.problem_text.specs.Meaning.{number_of, position_of}
-use Rattle.problem_text.specs.WholeText.{IsWhole}
-use Rattle.problem_text.specs.FirstFault.{IsSaid}
-use Rattle.problem_text.specs.Cells.{range_at, IsSpotOf, IsTuple}
-use Rattle.problem_text.specs.WellFormed.{IsRange, IsObject, IsWellFormed}
-use Rattle.problem_text.proofs.OneProblem.{accepted_well_formed}
+use Rattle.problem_data.specs.Tuple.{Tuple, spot, object_of}
+use Rattle.problem_data.specs.Meaning.{number_of, position_of}
+use Rattle.problem_data.specs.Whole.{IsWhole}
+use Rattle.problem_data.specs.Accepted.{IsSaid}
+use Rattle.problem_data.specs.Cells.{range_at, IsSpotOf, IsTuple}
+use Rattle.problem_data.specs.WellFormed.{IsRange, IsObject, IsWellFormed}
+use Rattle.problem_data.proofs.Accepted.{accepted_well_formed}
 use Rattle.problem_text.proofs.Said.{said_table}
-use Rattle.problem_text.proofs.WholeText.{is_whole}
+use Rattle.problem_syntax.proofs.WholeText.{is_whole}
 use Rattle.problem_text.proofs.PrintingParts.{IsSmall, IsSome}
 use Rattle.layout_text.specs.Block.{shape_name, token_of, block_of}
 use Rattle.layout_text.specs.Tree.{LineTree, GroupTree, TokenTree, LayoutTree}

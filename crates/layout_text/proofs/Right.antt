@@ -6,10 +6,10 @@ use Rattle.geo_tokens.specs.Words.{names, numbers, word, symbol, Bind, Tok}
 use Rattle.geo_tokens.proofs.Good.{Good, pure_good, bind_good, either_good, opt_good, many_good}
 use Rattle.geo_tokens.proofs.OneToken.{number_good, word_good, symbol_good}
 use Rattle.rule_syntax.proofs.Expressions.{named_good}
-use Rattle.problem_text.specs.Marks.{int_firsts}
-use Rattle.problem_text.specs.Grammar.{IntWords}
-use Rattle.problem_text.specs.Reading.{next_at, int_at}
-use Rattle.problem_text.proofs.Right.{int_good, ints_good, next_good}
+use Rattle.problem_data.specs.Marks.{int_firsts}
+use Rattle.problem_data.specs.Grammar.{IntWords}
+use Rattle.problem_syntax.specs.Reading.{next_at, int_at}
+use Rattle.problem_syntax.proofs.Right.{int_good, ints_good, next_good}
 use Rattle.layout_text.specs.Grammar.{LineWords, GroupWords, NoGroups, SomeGroups, TupleWords, TokenWords, TokenLine, LayoutWords}
 use Rattle.layout_text.specs.Reading.{line_at, group_at, next_group_at, no_groups_at, some_groups_at, tuple_at, token_line_at, end_at, layout_at}
 

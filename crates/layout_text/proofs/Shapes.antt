@@ -8,8 +8,8 @@ use Rattle.std.proofs.lemmas.Bool.Decides.{nat_tests}
 use Rattle.std.proofs.lemmas.List.{length-map}
 use Rattle.std.proofs.lemmas.Slice.Eq.{bytes_eq-Decides}
 use Rattle.rule_syntax.specs.declared.tree.PlacedName.{PlacedName}
-use Rattle.problem_text.specs.Problem.{ObjectData, ProblemData}
-use Rattle.problem_text.specs.Meaning.{position_of}
+use Rattle.problem_data.specs.Problem.{ObjectData, ProblemData}
+use Rattle.problem_data.specs.Meaning.{position_of}
 use Rattle.problem_text.proofs.Positions.{made_or_not}
 use Rattle.layout_text.specs.Faults.{name_of_shape, shape_names}
 

@@ -11,11 +11,11 @@ use Rattle.rule_print.specs.Canonical.{Written}
 use Rattle.rule_print.specs.Canonical.{number as digits, word as a_word, symbol as a_symbol}
 use Rattle.rule_print.proofs.ShownTokens.{AllWritten}
 use Rattle.rule_print.proofs.Respelled.{Again, Respelled, tok_again, named_again, bind_again, last_again, left_again, right_again, there_again, same_again, AllOf, Each, joined, many_again, many_good}
-use Rattle.problem_text.specs.declared.tree.Int.{Int}
-use Rattle.problem_text.specs.Problem.{ProblemData}
-use Rattle.problem_text.specs.Tuple.{Spot, Tuple, spot, object_of}
-use Rattle.problem_text.specs.Meaning.{number_of}
-use Rattle.problem_text.specs.Grammar.{OneOrMore, IntWords}
+use Rattle.problem_data.specs.declared.tree.Int.{Int}
+use Rattle.problem_data.specs.Problem.{ProblemData}
+use Rattle.problem_data.specs.Tuple.{Spot, Tuple, spot, object_of}
+use Rattle.problem_data.specs.Meaning.{number_of}
+use Rattle.problem_data.specs.Grammar.{OneOrMore, IntWords}
 use Rattle.problem_text.specs.Canonical.{int_spelling}
 use Rattle.problem_text.proofs.PrintingParts.{bare_int, int_of, IsSmall, IsSome, IntAgain, int_again, all_as, one_or_more_again}
 use Rattle.layout_text.specs.Tree.{LineTree, GroupTree, TokenTree, LayoutTree}

@@ -8,16 +8,16 @@ use Rattle.geo_tokens.specs.declared.fault.FaultWord.TheVariants as words
 use Rattle.geo_base.specs.Tuple.{nothing_put}
 use Rattle.geo_base.specs.Boxes.{coordinate}
 use Rattle.rule_syntax.specs.declared.tree.PlacedName.{PlacedName}
-use Rattle.problem_text.specs.declared.tree.Int.{Int}
-use Rattle.problem_text.specs.Problem.{RangeData, ObjectData, ProblemData}
-use Rattle.problem_text.specs.Tuple.{Spot, Tuple, spot, object_of}
-use Rattle.problem_text.specs.Meaning.{number_of, position_of}
-use Rattle.problem_text.specs.Least.{fault}
-use Rattle.problem_text.specs.Faults.{int_place}
-use Rattle.problem_text.specs.Cells.{range_at, HasForm, IsSpotOf, IsTuple}
-use Rattle.problem_text.specs.WellFormed.{IsObject, IsWellFormed}
-use Rattle.problem_text.proofs.Signs.{at_most}
-use Rattle.problem_text.proofs.NoFault.{NoFault, none_among, counted}
+use Rattle.problem_data.specs.declared.tree.Int.{Int}
+use Rattle.problem_data.specs.Problem.{RangeData, ObjectData, ProblemData}
+use Rattle.problem_data.specs.Tuple.{Spot, Tuple, spot, object_of}
+use Rattle.problem_data.specs.Meaning.{number_of, position_of}
+use Rattle.problem_data.specs.Least.{fault}
+use Rattle.problem_data.specs.Faults.{int_place}
+use Rattle.problem_data.specs.Cells.{range_at, HasForm, IsSpotOf, IsTuple}
+use Rattle.problem_data.specs.WellFormed.{IsObject, IsWellFormed}
+use Rattle.problem_data.proofs.Signs.{at_most}
+use Rattle.problem_data.proofs.NoFault.{NoFault, none_among, counted}
 use Rattle.problem_text.proofs.Positions.{Made, made_or_not}
 use Rattle.layout_text.specs.Tree.{LineTree, LayoutTree}
 use Rattle.layout_text.specs.Faults.{shape_names, name_of_shape, spot_of, spots_of, tuple_of, IsInRange, OutsideFault, LineFault, behind_lines, IsFault}

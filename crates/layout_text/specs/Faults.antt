@@ -3,13 +3,13 @@
 use Rattle.std.specs.Prelude.{◌≡◌, ◌≤ℤ◌, ℕ, ◌+◌, ◌<◌, ℤ, List, [], ◌∷◌, length, map, slice_get, slice_index_or, Option, Some, None, ◌⊎◌}
 use Rattle.std.specs.List.{Contains}
 use Rattle.geo_tokens.specs.declared.fault.FaultWord.TheVariants as words
-use Rattle.problem_text.specs.declared.faults.fault.Fault.{Fault}
-use Rattle.problem_text.specs.declared.tree.Int.{Int}
-use Rattle.problem_text.specs.Problem.{RangeData, ObjectData, ProblemData}
-use Rattle.problem_text.specs.Tuple.{Spot, Tuple}
-use Rattle.problem_text.specs.Meaning.{number_of, position_of}
-use Rattle.problem_text.specs.Least.{fault}
-use Rattle.problem_text.specs.Faults.{Among, Miscounted, int_place}
+use Rattle.problem_data.specs.declared.fault.Fault.{Fault}
+use Rattle.problem_data.specs.declared.tree.Int.{Int}
+use Rattle.problem_data.specs.Problem.{RangeData, ObjectData, ProblemData}
+use Rattle.problem_data.specs.Tuple.{Spot, Tuple}
+use Rattle.problem_data.specs.Meaning.{number_of, position_of}
+use Rattle.problem_data.specs.Least.{fault}
+use Rattle.problem_data.specs.Faults.{Among, Miscounted, int_place}
 use Rattle.layout_text.specs.Tree.{LineTree, GroupTree, TokenTree, LayoutTree}
 
 -- ---- what lines and groups give

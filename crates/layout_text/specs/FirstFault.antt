@@ -9,12 +9,13 @@ use Rattle.geo_tokens.specs.declared.fault.TextFault.{TextFault}
 use Rattle.geo_tokens.specs.declared.fault.TextFault.TheVariants as faults
 use Rattle.geo_tokens.specs.Cut.{IsTokens, IsTokenFault}
 use Rattle.geo_conditions.specs.declared.layout.Layout.{Layout}
-use Rattle.problem_text.specs.declared.faults.fault.Fault.{Fault}
-use Rattle.problem_text.specs.Problem.{ProblemData}
-use Rattle.problem_text.specs.Tuple.{Tuple}
-use Rattle.problem_text.specs.WholeText.{IsWhole, FirstFault}
-use Rattle.problem_text.specs.Least.{fault, IsFirst}
-pub use Rattle.problem_text.specs.FirstFault.{most_bytes}
+use Rattle.problem_data.specs.declared.fault.Fault.{Fault}
+use Rattle.problem_data.specs.Problem.{ProblemData}
+use Rattle.problem_data.specs.Tuple.{Tuple}
+use Rattle.problem_data.specs.Whole.{IsWhole}
+use Rattle.problem_syntax.specs.WholeText.{FirstFault}
+use Rattle.problem_data.specs.Least.{fault, IsFirst}
+pub use Rattle.problem_data.specs.Accepted.{most_bytes}
 use Rattle.layout_text.specs.Tree.{LayoutTree}
 use Rattle.layout_text.specs.Grammar.{LayoutWords}
 use Rattle.layout_text.specs.Faults.{tuple_of, IsFault}

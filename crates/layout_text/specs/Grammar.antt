@@ -13,8 +13,8 @@ use Rattle.geo_tokens.specs.Class.{number_in}
 use Rattle.geo_tokens.specs.Words.{numbers, word, symbol, Lang, Pure, Tok, Bind, Either, Opt, Many}
 use Rattle.rule_syntax.specs.declared.tree.PlacedName.{PlacedName}
 use Rattle.rule_syntax.specs.Grammar.{Named}
-use Rattle.problem_text.specs.declared.tree.Int.{Int}
-use Rattle.problem_text.specs.Grammar.{OneOrMore, IntWords}
+use Rattle.problem_data.specs.declared.tree.Int.{Int}
+use Rattle.problem_data.specs.Grammar.{OneOrMore, IntWords}
 use Rattle.layout_text.specs.Tree.{LineTree, GroupTree, TokenTree, LayoutTree}
 
 -- ---- what tokens say

@@ -5,7 +5,7 @@ use Rattle.geo_tokens.specs.declared.token.Sym.TheVariants as symbols
 use Rattle.geo_tokens.specs.Words.{names, numbers, word, symbol}
 use Rattle.geo_tokens.specs.Reading.{Got, ◌>>=◌, token_at, either_at, opt_at, many_at}
 use Rattle.rule_syntax.specs.Reading.{Reader, named_at}
-use Rattle.problem_text.specs.Reading.{next_at, int_at, ints_at}
+use Rattle.problem_syntax.specs.Reading.{next_at, int_at, ints_at}
 use Rattle.layout_text.specs.Tree.{LineTree, GroupTree, TokenTree, LayoutTree}
 use Rattle.layout_text.specs.Grammar.{line_tree, group_tree, token_tree, layout_tree}
 

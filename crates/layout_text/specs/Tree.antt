@@ -1,7 +1,7 @@
 -- What a layout text says, with the places of its tokens.
 use Rattle.std.specs.Prelude.{ℕ, List, Option}
 use Rattle.rule_syntax.specs.declared.tree.PlacedName.{PlacedName}
-use Rattle.problem_text.specs.declared.tree.Int.{Int}
+use Rattle.problem_data.specs.declared.tree.Int.{Int}
 
 -- a line: the name of an object, the name of its shape, and its coordinates
 pub record LineTree : Type 0 where

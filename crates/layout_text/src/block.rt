@@ -2,13 +2,13 @@ ghost use Rattle.std.specs.Prelude.{◌≡◌, ◌+◌, ◌<◌, codes, decimal,
 ghost use Rattle.geo_base.specs.Boxes.{coordinate};
 ghost use Rattle.geo_base.specs.Tuple.{spot};
 ghost use Rattle.geo_chan.specs.Written.{Writes};
-ghost use Rattle.problem_text.specs.Cells.{IsShaped};
-ghost use Rattle.problem_text.specs.WellFormed.{IsWellFormed};
+ghost use Rattle.problem_data.specs.Cells.{IsShaped};
+ghost use Rattle.problem_data.specs.WellFormed.{IsWellFormed};
 ghost use Rattle.layout_text.specs.Block.{shape_name as shape_name_of, behind, coordinates, head_of, line_of, lines_of, group_of, later_group, token_of, token_line, block_of};
 
 use geo_chan::{Piece, PutFault, Sink, write_all_bytes, write_pieces};
 use geo_conditions::{Layout, ObjId};
-use problem_text::problem::Problem;
+use problem_data::problem::Problem;
 
 /// Writes the layout block: the line `layout`, a line `NAME as SHAPE at X1 .. XK` for each object in file order, and the
 /// token line. After a fault a front part of it was written.

@@ -1,15 +1,15 @@
 //! The tuple that lines give.
 
 ghost use Rattle.std.specs.Prelude.{◌≡◌, ◌≤◌, ◌++◌, ◌∷◌, [], length, map, IfOk, OnOk};
-ghost use Rattle.problem_text.specs.WellFormed.{IsWellFormed, IsObject};
+ghost use Rattle.problem_data.specs.WellFormed.{IsWellFormed, IsObject};
 ghost use Rattle.layout_text.specs.View.{line_view};
 ghost use Rattle.layout_text.specs.Faults.{spot_of, tuple_of};
 
 use crate::names::shape_position;
 use crate::tree::LineText;
 use geo_conditions::Layout;
-use problem_text::numbers::values;
-use problem_text::problem::{ObjectDef, Problem};
+use problem_syntax::numbers::values;
+use problem_data::problem::{ObjectDef, Problem};
 use std::alloc::{AllocError, Global};
 
 // Puts the object where the line says.

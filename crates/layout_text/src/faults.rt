@@ -1,8 +1,8 @@
 //! The first fault of the lines of a layout text.
 
 ghost use Rattle.std.specs.Prelude.{◌≡◌, map};
-ghost use Rattle.problem_text.specs.Least.{IsLeast};
-ghost use Rattle.problem_text.specs.WellFormed.{IsWellFormed};
+ghost use Rattle.problem_data.specs.Least.{IsLeast};
+ghost use Rattle.problem_data.specs.WellFormed.{IsWellFormed};
 ghost use Rattle.layout_text.specs.View.{line_view, token_view, token_views, layout_view};
 ghost use Rattle.layout_text.specs.Faults.{LinesFault, behind_lines, MissingFault, TokenFault, IsFault};
 
@@ -13,8 +13,8 @@ use crate::faults::line::line_fault;
 use crate::faults::tuple::same_tuple;
 use crate::tree::{LayoutText, LineText, TokenText};
 use geo_tokens::fault::FaultWord;
-use problem_text::faults::fault::{Fault, earlier, fault_if};
-use problem_text::problem::Problem;
+use problem_data::fault::{Fault, earlier, fault_if};
+use problem_data::problem::Problem;
 
 fn lines_fault(problem: &Problem, lines: &[LineText]) -> Option<Fault>
     requires { IsWellFormed problem.now }

@@ -4,15 +4,15 @@ ghost use Rattle.geo_tokens.specs.declared.token.Sym.TheVariants.{Comma, Slash};
 ghost use Rattle.geo_tokens.specs.Words.{symbol};
 ghost use Rattle.geo_tokens.specs.Reading.{many_at};
 ghost use Rattle.geo_tokens.specs.Gives.{Gives};
-ghost use Rattle.problem_text.specs.Reading.{next_at, int_at};
+ghost use Rattle.problem_syntax.specs.Reading.{next_at, int_at};
 ghost use Rattle.layout_text.specs.Reading.{group_at, next_group_at, no_groups_at, some_groups_at, tuple_at, token_line_at, end_at};
 ghost use Rattle.layout_text.specs.View.{group_view, group_views, token_view, token_views};
 
 use crate::tree::{GroupText, TokenText};
 use geo_tokens::stop::{Stop, next_is, token};
 use geo_tokens::token::{Keyword, Kind, Sym, Token, number_in};
-use problem_text::numbers::int;
-use problem_text::tree::Int;
+use problem_syntax::numbers::int;
+use problem_data::tree::Int;
 use std::alloc::Global;
 
 /// A comma and a whole number.

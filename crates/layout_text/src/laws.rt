@@ -1,12 +1,12 @@
 //! What holds of the texts of all layouts of a problem.
 
 ghost use Rattle.std.specs.Prelude.{◌≡◌, ◌≤◌, length};
-ghost use Rattle.problem_text.specs.Tuple.{Tuple};
-ghost use Rattle.problem_text.specs.Cells.{IsTuple};
+ghost use Rattle.problem_data.specs.Tuple.{Tuple};
+ghost use Rattle.problem_data.specs.Cells.{IsTuple};
 ghost use Rattle.layout_text.specs.Block.{token_of, block_of};
 ghost use Rattle.layout_text.specs.FirstFault.{most_bytes, Accepts};
 
-use problem_text::problem::Problem;
+use problem_data::problem::Problem;
 
 /// What holds of the texts of layouts: the block of a tuple, where it is not too long, is read as this tuple, and no other tuple
 /// has the same block or the same token. It does nothing.

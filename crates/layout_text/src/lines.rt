@@ -9,7 +9,7 @@ ghost use Rattle.layout_text.specs.View.{line_view, line_views};
 use crate::tree::LineText;
 use geo_tokens::stop::{Stop, next_is, token};
 use geo_tokens::token::{Keyword, Kind, Token};
-use problem_text::numbers::ints;
+use problem_syntax::numbers::ints;
 use rule_syntax::words::placed_name;
 use std::alloc::Global;
 

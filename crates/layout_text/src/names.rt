@@ -6,7 +6,7 @@ ghost use Rattle.std.specs.Str.{bytes_eq};
 ghost use Rattle.layout_text.specs.Faults.{name_of_shape, shape_names};
 
 use geo_tokens::name::Name;
-use problem_text::problem::{ObjectDef, Problem};
+use problem_data::problem::{ObjectDef, Problem};
 
 /// The name of a shape, by its position among all shapes.
 fn name_of_shape(problem: &Problem, shape: u16) -> &Name

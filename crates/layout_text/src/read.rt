@@ -1,9 +1,9 @@
 //! From a text to the tuple that it spells, or to its first fault.
 
 ghost use Rattle.std.specs.Prelude.{◌≡◌, ◌≤◌, ◌^◌, IfOk, length};
-ghost use Rattle.problem_text.specs.Tuple.{Tuple};
-ghost use Rattle.problem_text.specs.Cells.{IsTuple};
-ghost use Rattle.problem_text.specs.WellFormed.{IsWellFormed};
+ghost use Rattle.problem_data.specs.Tuple.{Tuple};
+ghost use Rattle.problem_data.specs.Cells.{IsTuple};
+ghost use Rattle.problem_data.specs.WellFormed.{IsWellFormed};
 ghost use Rattle.layout_text.specs.FirstFault.{most_bytes, AnswersLayout, IsOnlyLayout, IsAnswered};
 ghost use Rattle.layout_text.specs.Block.{block_of};
 
@@ -13,7 +13,7 @@ use crate::syntax::read_lines;
 use geo_conditions::Layout;
 use geo_tokens::fault::{FaultWord, TextFault};
 use geo_tokens::lexer::tokens;
-use problem_text::problem::Problem;
+use problem_data::problem::Problem;
 use problem_text::read::MOST_BYTES;
 use std::alloc::Global;
 

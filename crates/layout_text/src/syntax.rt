@@ -2,7 +2,7 @@
 
 ghost use Rattle.std.specs.Prelude.{length};
 ghost use Rattle.geo_tokens.specs.Gives.{Gives};
-ghost use Rattle.problem_text.specs.WholeText.{AnswersText, IsOnlyAnswer};
+ghost use Rattle.problem_syntax.specs.WholeText.{AnswersText, IsOnlyAnswer};
 ghost use Rattle.layout_text.specs.Grammar.{LayoutWords};
 ghost use Rattle.layout_text.specs.Reading.{layout_at};
 ghost use Rattle.layout_text.specs.View.{layout_view};

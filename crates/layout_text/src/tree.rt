@@ -2,7 +2,7 @@
 //!
 //! A place is how many bytes of the text stand before a token.
 
-use problem_text::tree::Int;
+use problem_data::tree::Int;
 use rule_syntax::tree::PlacedName;
 
 /// A line: the name of an object, the name of its shape, and its coordinates.

@@ -6,7 +6,7 @@ use Rattle.rule_syntax.specs.declared.tree.Rel.{Rel}
 use Rattle.rule_syntax.specs.declared.tree.Rel.TheVariants.{Lt, Le, Eq, Ne, Ge, Gt}
 use Rattle.geo_tokens.specs.declared.fault.FaultWord.TheVariants as words
 use Rattle.geo_conditions.specs.Form.{Sum}
-use Rattle.problem_text.specs.Problem.{ProblemData}
+use Rattle.problem_data.specs.Problem.{ProblemData}
 use Rattle.rule_expand.specs.Plain.{PlainExprTree}
 use Rattle.rule_expand.specs.PlainTruth.{PlainEnv}
 use Rattle.linear_conditions.specs.declared.wide.WideSum.{WideSum}

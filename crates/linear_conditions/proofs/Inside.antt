@@ -5,7 +5,7 @@ use lib.Signed.{le_z}
 use Rattle.rule_syntax.specs.declared.tree.Rel.{Rel}
 use Rattle.rule_syntax.specs.declared.tree.Rel.TheVariants.{Lt, Le, Eq, Ne, Ge, Gt}
 use Rattle.geo_conditions.specs.Form.{Sum}
-use Rattle.problem_text.specs.Problem.{ProblemData}
+use Rattle.problem_data.specs.Problem.{ProblemData}
 use Rattle.rule_expand.specs.Plain.{PlainExprTree}
 use Rattle.rule_expand.specs.PlainTruth.{PlainEnv}
 use Rattle.linear_conditions.specs.declared.verdict.Verdict.{Verdict}

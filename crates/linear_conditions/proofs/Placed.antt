@@ -8,9 +8,9 @@ use Rattle.std.proofs.lemmas.Bool.Decides.{nat_tests}
 use Rattle.std.proofs.lemmas.List.Elements.{All-nil, All-cons}
 use Rattle.geo_conditions.specs.declared.form.Term.{Term}
 use Rattle.geo_conditions.specs.Form.{Sum}
-use Rattle.problem_text.specs.Problem.{ProblemData}
-use Rattle.problem_text.specs.Tuple.{object_of}
-use Rattle.problem_text.specs.Value.{Thing, Number, Object, Part, coordinate_of, attribute_in}
+use Rattle.problem_data.specs.Problem.{ProblemData}
+use Rattle.problem_data.specs.Tuple.{object_of}
+use Rattle.problem_data.specs.Value.{Thing, Number, Object, Part, coordinate_of, attribute_in}
 use Rattle.rule_expand.specs.Plain.{PlainExprTree, number, field, shape_number, negative, sum, product, least, greatest, PlainSumTree, plus, minus, PlainSums, no_sums, a_sum, PlainProductTree, times, over, modulo, PlainProducts, no_products, a_product}
 use Rattle.rule_expand.specs.PlainTruth.{PlainEnv, subject_in}
 use Rattle.linear_conditions.specs.Fixings.{Fixing, place_of}

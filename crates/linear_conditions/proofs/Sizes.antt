@@ -13,10 +13,10 @@ use Rattle.geo_base.specs.Tuple.{Tuple, Spot, spot, nothing_put}
 use Rattle.geo_conditions.specs.declared.form.Term.{Term}
 use Rattle.geo_conditions.specs.Form.{Sum}
 use Rattle.geo_conditions.specs.Conditions.{value}
-use Rattle.problem_text.specs.Problem.{RangeData, ProblemData}
-use Rattle.problem_text.specs.Tuple.{object_of}
-use Rattle.problem_text.specs.Cells.{IsTuple, range_at}
-use Rattle.problem_text.specs.WellFormed.{IsRange, IsWellFormed}
+use Rattle.problem_data.specs.Problem.{RangeData, ProblemData}
+use Rattle.problem_data.specs.Tuple.{object_of}
+use Rattle.problem_data.specs.Cells.{IsTuple, range_at}
+use Rattle.problem_data.specs.WellFormed.{IsRange, IsWellFormed}
 use Rattle.linear_conditions.specs.Sums.{is_bounded, fits_sum}
 use Rattle.linear_conditions.proofs.SumLaws.{number_on, term_value, terms_value}
 

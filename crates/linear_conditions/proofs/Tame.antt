@@ -10,10 +10,10 @@ use Rattle.geo_base.specs.Tuple.{Tuple}
 use Rattle.geo_conditions.specs.declared.form.Term.{Term}
 use Rattle.geo_conditions.specs.Form.{Sum}
 use Rattle.geo_conditions.specs.Conditions.{value}
-use Rattle.problem_text.specs.Problem.{ProblemData}
-use Rattle.problem_text.specs.Cells.{IsTuple}
-use Rattle.problem_text.specs.Value.{Thing, Number, Object, Part, coordinate_of}
-use Rattle.problem_text.specs.WellFormed.{IsWellFormed}
+use Rattle.problem_data.specs.Problem.{ProblemData}
+use Rattle.problem_data.specs.Cells.{IsTuple}
+use Rattle.problem_data.specs.Value.{Thing, Number, Object, Part, coordinate_of}
+use Rattle.problem_data.specs.WellFormed.{IsWellFormed}
 use Rattle.rule_expand.specs.Plain.{PlainExprTree, number, field, shape_number, negative, sum, product, least, greatest, PlainSumTree, plus, minus, PlainSums, no_sums, a_sum, PlainProductTree, times, over, modulo, PlainProducts, no_products, a_product}
 use Rattle.rule_expand.specs.PlainTruth.{PlainEnv, subject_in, plain_value, plain_sum, plain_product}
 use Rattle.rule_expand.specs.Counts.{expr_nodes, sum_nodes, sums_nodes, product_nodes, products_nodes}

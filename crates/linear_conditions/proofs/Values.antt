@@ -11,10 +11,10 @@ use Rattle.std.proofs.lemmas.List.{get_or_past}
 use Rattle.geo_base.specs.Tuple.{Spot, nothing_put}
 use Rattle.geo_conditions.specs.Form.{Sum}
 use Rattle.geo_conditions.specs.Conditions.{value}
-use Rattle.problem_text.specs.Problem.{ProblemData}
-use Rattle.problem_text.specs.Tuple.{Tuple, spot_of, object_of, shape_number_in}
-use Rattle.problem_text.specs.Cells.{IsTuple}
-use Rattle.problem_text.specs.Value.{Thing, Number, Object, Part, coordinate_of, attribute_in, box_field, field_value}
+use Rattle.problem_data.specs.Problem.{ProblemData}
+use Rattle.problem_data.specs.Tuple.{Tuple, spot_of, object_of, shape_number_in}
+use Rattle.problem_data.specs.Cells.{IsTuple}
+use Rattle.problem_data.specs.Value.{Thing, Number, Object, Part, coordinate_of, attribute_in, box_field, field_value}
 use Rattle.rule_expand.specs.declared.plain.Subject.{Subject}
 use Rattle.rule_expand.specs.declared.plain.Subject.TheVariants as subjects
 use Rattle.rule_expand.specs.Plain.{PlainExprTree, number, field, shape_number, negative, sum, product, least, greatest, PlainSumTree, plus, minus, PlainSums, no_sums, a_sum, PlainProductTree, times, over, modulo, PlainProducts, no_products, a_product}

@@ -3,7 +3,7 @@ use Rattle.std.specs.Prelude.{◌&&◌, List, map}
 use Rattle.std.specs.List.{list_all}
 use Rattle.rule_syntax.specs.declared.tree.Rel.{Rel}
 use Rattle.geo_tokens.specs.declared.fault.FaultWord.TheVariants.{Overflow}
-use Rattle.problem_text.specs.Problem.{ProblemData}
+use Rattle.problem_data.specs.Problem.{ProblemData}
 use Rattle.rule_expand.specs.Plain.{PlainExprTree}
 use Rattle.rule_expand.specs.PlainTruth.{PlainEnv}
 use Rattle.linear_conditions.specs.CondTree.{CondTree}

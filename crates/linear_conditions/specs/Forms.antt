@@ -4,9 +4,9 @@ use Rattle.std.specs.Option.{option_map_or}
 use Rattle.std.specs.Int.{int_min, int_max, int_div_euclid, int_rem_euclid}
 use Rattle.std.specs.Str.{bytes_eq}
 use Rattle.geo_conditions.specs.Form.{Sum}
-use Rattle.problem_text.specs.Problem.{ProblemData}
-use Rattle.problem_text.specs.Tuple.{object_of}
-use Rattle.problem_text.specs.Value.{Thing, Number, Object, Part, coordinate_of, attribute_in, box_field}
+use Rattle.problem_data.specs.Problem.{ProblemData}
+use Rattle.problem_data.specs.Tuple.{object_of}
+use Rattle.problem_data.specs.Value.{Thing, Number, Object, Part, coordinate_of, attribute_in, box_field}
 use Rattle.rule_expand.specs.Plain.{PlainExprTree, number, field, shape_number, negative, sum, product, least, greatest, PlainSumTree, plus, minus, PlainSums, no_sums, a_sum, PlainProductTree, times, over, modulo, PlainProducts, no_products, a_product}
 use Rattle.rule_expand.specs.PlainTruth.{PlainEnv, subject_in}
 use Rattle.linear_conditions.specs.Fixings.{Fixing, place_of}

@@ -4,10 +4,10 @@ use Rattle.std.specs.List.{All}
 use lib.Signed.{le_z}
 use Rattle.rule_syntax.specs.declared.tree.Rel.{Rel}
 use Rattle.geo_conditions.specs.Conditions.{value}
-use Rattle.problem_text.specs.Problem.{ProblemData}
-use Rattle.problem_text.specs.Tuple.{Tuple}
-use Rattle.problem_text.specs.Cells.{IsTuple}
-use Rattle.problem_text.specs.Truth.{compare}
+use Rattle.problem_data.specs.Problem.{ProblemData}
+use Rattle.problem_data.specs.Tuple.{Tuple}
+use Rattle.problem_data.specs.Cells.{IsTuple}
+use Rattle.problem_data.specs.Truth.{compare}
 use Rattle.rule_expand.specs.Plain.{PlainExprTree}
 use Rattle.rule_expand.specs.PlainTruth.{PlainEnv, plain_value}
 use Rattle.rule_expand.specs.Degree.{expr_breaks}

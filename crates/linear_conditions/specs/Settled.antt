@@ -1,9 +1,9 @@
 -- The shapes that an expression asks for, and tuples that have the fixed shapes.
 use Rattle.std.specs.Prelude.{◌≡◌, ◌≢◌, ℕ, ◌==◌, ◌&&◌, ◌||◌, Bool, true, false, not, List, codes}
 use Rattle.std.specs.Str.{bytes_eq}
-use Rattle.problem_text.specs.Problem.{ProblemData}
-use Rattle.problem_text.specs.Tuple.{Tuple, spot_of, shape_of}
-use Rattle.problem_text.specs.Value.{Thing, Number, Object, Part}
+use Rattle.problem_data.specs.Problem.{ProblemData}
+use Rattle.problem_data.specs.Tuple.{Tuple, spot_of, shape_of}
+use Rattle.problem_data.specs.Value.{Thing, Number, Object, Part}
 use Rattle.rule_expand.specs.declared.plain.Subject.{Subject}
 use Rattle.rule_expand.specs.declared.plain.Subject.TheVariants as subjects
 use Rattle.rule_expand.specs.Plain.{PlainExprTree, number, field, shape_number, negative, sum, product, least, greatest, PlainSumTree, plus, minus, PlainSums, no_sums, a_sum, PlainProductTree, times, over, modulo, PlainProducts, no_products, a_product}

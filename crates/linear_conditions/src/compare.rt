@@ -22,7 +22,7 @@ use crate::forms::{add_to, checked, negated, sum_of};
 use crate::leaves::{fold_leaves, leaves_of};
 use crate::wide::WideSum;
 use geo_conditions::Cond;
-use problem_text::problem::Problem;
+use problem_data::problem::Problem;
 use rule_expand::plain::PlainExpr;
 use rule_syntax::tree::Rel;
 use rule_values::env::Env;

@@ -9,7 +9,7 @@ use crate::fixings::{Fixings, place_of};
 use crate::wide::WideSum;
 use geo_conditions::ObjId;
 use geo_tokens::name::Name;
-use problem_text::problem::Problem;
+use problem_data::problem::Problem;
 use rule_values::env::Thing;
 use rule_values::fields::{ObjectField, box_field, object_field};
 use rule_values::shapes::shape_number;

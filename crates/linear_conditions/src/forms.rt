@@ -15,7 +15,7 @@ use crate::fault::GroundFault;
 use crate::fields::field_sum;
 use crate::fixings::Fixings;
 use crate::wide::WideSum;
-use problem_text::problem::Problem;
+use problem_data::problem::Problem;
 use rule_expand::plain::{PlainExpr, PlainProd, PlainSum};
 use rule_values::env::{Env, subject};
 use rule_values::floor::{floor_quotient, floor_remainder};

@@ -7,19 +7,21 @@ use Rattle.geo_tokens.specs.declared.fault.TextFault.{TextFault}
 use Rattle.geo_tokens.specs.declared.fault.TextFault.TheVariants as faults
 use Rattle.geo_tokens.specs.Cut as cut
 use Rattle.geo_tokens.specs.Cut.{IsTokens, IsTokenFault, Tokenizes}
-use Rattle.problem_text.specs.declared.problem.Problem.{Problem}
-use Rattle.problem_text.specs.declared.faults.fault.Fault.{Fault}
-use Rattle.problem_text.specs.Tree.{ProblemTree}
-use Rattle.problem_text.specs.View.{problem_view}
-use Rattle.problem_text.specs.Grammar.{ProblemWords}
-use Rattle.problem_text.specs.WholeText as whole
-use Rattle.problem_text.specs.WholeText.{IsWhole, FirstFault, AnswersText}
-use Rattle.problem_text.specs.Parts.{parts_of}
-use Rattle.problem_text.specs.Least.{fault, IsFirst}
-use Rattle.problem_text.specs.Faults.{IsFault}
-use Rattle.problem_text.specs.Meaning.{problem_of}
-use Rattle.problem_text.specs.FirstFault.{most_bytes, Says, HasFirstFault, long, no_token, no_statements, in_statements, AnswersProblem, IsOnlyProblem}
-use Rattle.problem_text.proofs.Firsts.{one_first}
+use Rattle.problem_data.specs.declared.problem.Problem.{Problem}
+use Rattle.problem_data.specs.declared.fault.Fault.{Fault}
+use Rattle.problem_data.specs.Tree.{ProblemTree}
+use Rattle.problem_data.specs.View.{problem_view}
+use Rattle.problem_data.specs.Grammar.{ProblemWords}
+use Rattle.problem_syntax.specs.WholeText as whole
+use Rattle.problem_data.specs.Whole.{IsWhole}
+use Rattle.problem_syntax.specs.WholeText.{FirstFault, AnswersText}
+use Rattle.problem_data.specs.Parts.{parts_of}
+use Rattle.problem_data.specs.Least.{fault, IsFirst}
+use Rattle.problem_data.specs.Faults.{IsFault}
+use Rattle.problem_data.specs.Meaning.{problem_of}
+use Rattle.problem_data.specs.Accepted.{most_bytes, Says}
+use Rattle.problem_text.specs.FirstFault.{HasFirstFault, long, no_token, no_statements, in_statements, AnswersProblem, IsOnlyProblem}
+use Rattle.problem_data.proofs.Firsts.{one_first}
 
 pub record Answer (r : Result Problem TextFault) (text : List ℕ) : Type 0 where
   pub answer : AnswersProblem r text

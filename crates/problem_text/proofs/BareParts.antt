@@ -2,13 +2,13 @@
 use Rattle.std.proofs.Common.{◌≡◌, ℕ, List, [], ◌∷◌, map, Option, Some, None, option_map, refl, ap, ◌∙◌}
 use Rattle.std.specs.List.{filter_map, cons_option}
 use Rattle.rule_print.specs.Spelled.{bare_name}
-use Rattle.problem_text.specs.Tree.{BoxTree, ShapeTree, ObjectTree, OrderTree, SidesTree, MacroTree, DemandTree, apart, within, plain, RuleTree, BodyTree, means, equals, StatementTree, a_shape, an_object, an_order, some_sides, a_macro, a_rule, ProblemTree}
-use Rattle.problem_text.specs.Parts.{Parts, parts_of, as_shape, as_object, as_order, as_sides, as_macro, as_rule}
-use Rattle.problem_text.specs.Faults.{shape_names, object_names, count_of}
-use Rattle.problem_text.specs.Meaning as meaning
+use Rattle.problem_data.specs.Tree.{BoxTree, ShapeTree, ObjectTree, OrderTree, SidesTree, MacroTree, DemandTree, apart, within, plain, RuleTree, BodyTree, means, equals, StatementTree, a_shape, an_object, an_order, some_sides, a_macro, a_rule, ProblemTree}
+use Rattle.problem_data.specs.Parts.{Parts, parts_of, as_shape, as_object, as_order, as_sides, as_macro, as_rule}
+use Rattle.problem_data.specs.Faults.{shape_names, object_names, count_of}
+use Rattle.problem_data.specs.Meaning as meaning
 use Rattle.problem_text.specs.ReadBack.{bare_macro, bare_rule, bare_problem}
 use Rattle.problem_text.specs.ReadBack.{bare_demand as bare_demand_data, bare_body as bare_body_data}
-use Rattle.problem_text.specs.Problem.{within as inside}
+use Rattle.problem_data.specs.Problem.{within as inside}
 use Rattle.problem_text.proofs.PrintingParts.{bare_int, bare_range, bare_box, bare_attribute, bare_param, bare_side, bare_body, bare_demand}
 use Rattle.problem_text.proofs.PrintingStatements.{bare_statement}
 use Rattle.problem_text.proofs.PrintingProblem.{bare_problem_tree}

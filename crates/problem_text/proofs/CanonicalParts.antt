@@ -5,13 +5,13 @@ use Rattle.std.specs.List.{filter_map, cons_option, list_any, range_with_len, po
 use Rattle.std.specs.Str.{bytes_eq}
 use Rattle.std.proofs.lemmas.List.{append-nil}
 use Rattle.rule_print.specs.Canonical.{Written}
-use Rattle.problem_text.specs.declared.tree.Side.{Side}
-use Rattle.problem_text.specs.declared.tree.Side.TheVariants.{Low}
-use Rattle.problem_text.specs.Tree.{ShapeTree, ObjectTree, OrderTree, SidesTree, MacroTree, RuleTree, StatementTree}
-use Rattle.problem_text.specs.Parts.{Parts, parts_of, as_shape, as_object, as_order, as_sides, as_macro, as_rule}
-use Rattle.problem_text.specs.Faults.{shape_names, object_names}
-use Rattle.problem_text.specs.Meaning as meaning
-use Rattle.problem_text.specs.Problem.{BoxData, ShapeData, ObjectData, MacroData, DemandData, apart, within, plain, RuleData, ProblemData}
+use Rattle.problem_data.specs.declared.tree.Side.{Side}
+use Rattle.problem_data.specs.declared.tree.Side.TheVariants.{Low}
+use Rattle.problem_data.specs.Tree.{ShapeTree, ObjectTree, OrderTree, SidesTree, MacroTree, RuleTree, StatementTree}
+use Rattle.problem_data.specs.Parts.{Parts, parts_of, as_shape, as_object, as_order, as_sides, as_macro, as_rule}
+use Rattle.problem_data.specs.Faults.{shape_names, object_names}
+use Rattle.problem_data.specs.Meaning as meaning
+use Rattle.problem_data.specs.Problem.{BoxData, ShapeData, ObjectData, MacroData, DemandData, apart, within, plain, RuleData, ProblemData}
 use Rattle.problem_text.specs.Canonical.{name_at, counts_from, is_high, shape_spelling, object_spelling, macro_spelling, rule_spelling, order_spelling, sides_spelling}
 use Rattle.problem_text.specs.Canonical as canonical
 use Rattle.problem_text.specs.ReadBack.{bare_macro, bare_demand, bare_rule, bare_problem}

@@ -10,24 +10,24 @@ use Rattle.geo_tokens.proofs.Good.{reads_all}
 use Rattle.rule_syntax.specs.declared.tree.PlacedName.{PlacedName}
 use Rattle.rule_print.specs.Spelled.{bare_name}
 use Rattle.rule_print.proofs.Respelled.{AllOf}
-use Rattle.problem_text.specs.declared.faults.fault.Fault.{Fault}
-use Rattle.problem_text.specs.Tree.{BoxTree, ShapeTree, ObjectTree, OrderTree, SidesTree, MacroTree, DemandTree, apart, within, plain, RuleTree, ProblemTree}
-use Rattle.problem_text.specs.Grammar.{ProblemWords}
-use Rattle.problem_text.specs.Reading.{problem_at}
-use Rattle.problem_text.specs.WholeText.{IsWhole}
-use Rattle.problem_text.specs.Least.{fault}
-use Rattle.problem_text.specs.Parts.{Parts, parts_of}
-use Rattle.problem_text.specs.Faults.{Among, OrderFault, SidesFault, IsDims, IsFault, version, dims, shapes, objects, orders, sides, macros, rules, ShapesFault, ObjectsFault, RulesFault, shape_name, object_name, shape_names, object_names, count_of}
-use Rattle.problem_text.specs.Meaning as meaning
-use Rattle.problem_text.specs.Problem.{ProblemData}
+use Rattle.problem_data.specs.declared.fault.Fault.{Fault}
+use Rattle.problem_data.specs.Tree.{BoxTree, ShapeTree, ObjectTree, OrderTree, SidesTree, MacroTree, DemandTree, apart, within, plain, RuleTree, ProblemTree}
+use Rattle.problem_data.specs.Grammar.{ProblemWords}
+use Rattle.problem_syntax.specs.Reading.{problem_at}
+use Rattle.problem_data.specs.Whole.{IsWhole}
+use Rattle.problem_data.specs.Least.{fault}
+use Rattle.problem_data.specs.Parts.{Parts, parts_of}
+use Rattle.problem_data.specs.Faults.{Among, OrderFault, SidesFault, IsDims, IsFault, version, dims, shapes, objects, orders, sides, macros, rules, ShapesFault, ObjectsFault, RulesFault, shape_name, object_name, shape_names, object_names, count_of}
+use Rattle.problem_data.specs.Meaning as meaning
+use Rattle.problem_data.specs.Problem.{ProblemData}
 use Rattle.problem_text.specs.Canonical.{name_at, counts_from, is_high, problem_text}
-use Rattle.problem_text.specs.FirstFault.{most_bytes, IsSaid}
+use Rattle.problem_data.specs.Accepted.{most_bytes, IsSaid}
 use Rattle.problem_text.specs.ReadBack.{IsSpelled, ReadsBack}
-use Rattle.problem_text.specs.WellFormed.{IsWellFormed}
-use Rattle.problem_text.proofs.Right.{problem_good}
-use Rattle.problem_text.proofs.Levels.{problem_reading}
-use Rattle.problem_text.proofs.WholeText.{is_whole}
-use Rattle.problem_text.proofs.OneProblem.{accepted_well_formed}
+use Rattle.problem_data.specs.WellFormed.{IsWellFormed}
+use Rattle.problem_syntax.proofs.Right.{problem_good}
+use Rattle.problem_syntax.proofs.Levels.{problem_reading}
+use Rattle.problem_syntax.proofs.WholeText.{is_whole}
+use Rattle.problem_data.proofs.Accepted.{accepted_well_formed}
 use Rattle.problem_text.proofs.PrintingParts.{bare_int, bare_range, bare_box, bare_attribute, bare_param, bare_demand, int_of, name_of, range_of, box_of, attribute_of, param_of, demand_of, bare_side, side_of}
 use Rattle.problem_text.proofs.BareParts.{bare_shape, bare_object, bare_order, bare_sides, bare_macro_tree, bare_rule_tree, bare_parts, parts_bare, meaning_bare, map_after}
 use Rattle.problem_text.proofs.CanonicalParts.{shape_tree_of, object_tree_of, order_tree_of, sides_tree_of, macro_tree_of, rule_tree_of, one_if, canonical_parts, parts_canonical, canonical_meaning}
@@ -35,7 +35,7 @@ use Rattle.problem_text.proofs.PrintingProblem.{problem_again}
 use Rattle.problem_text.proofs.Positions.{Made, range_counts}
 use Rattle.problem_text.proofs.SaysAgain.{Says, says_of, says_written, object_shapes_made, order_made, shape_names_of, object_names_of}
 use Rattle.problem_text.proofs.Consistent.{says_consistent}
-use Rattle.problem_text.proofs.Signs.{at_most}
+use Rattle.problem_data.proofs.Signs.{at_most}
 use Rattle.problem_text.proofs.SameFaults.{texts_alike, names_alike, shapes_carried, objects_carried, orders_carried, macros_carried, rules_carried}
 
 -- ---- the canonical statements of the problem that statements spell are those statements without places

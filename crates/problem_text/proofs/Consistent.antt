@@ -8,16 +8,16 @@ use Rattle.std.proofs.lemmas.List.{length-map, take-map, get_or-take, length-tak
 use Rattle.rule_syntax.specs.declared.tree.PlacedName.{PlacedName}
 use Rattle.rule_print.proofs.Respelled.{AllOf}
 use Rattle.geo_tokens.specs.declared.fault.FaultWord.TheVariants as words
-use Rattle.problem_text.specs.declared.faults.fault.Fault.{Fault}
-use Rattle.problem_text.specs.declared.tree.Side.{Side}
-use Rattle.problem_text.specs.declared.tree.Side.TheVariants.{Low, High}
-use Rattle.problem_text.specs.declared.tree.SideText.{SideText}
-use Rattle.problem_text.specs.Tree.{ObjectTree, OrderTree, SidesTree}
-use Rattle.problem_text.specs.Least.{fault}
-use Rattle.problem_text.specs.Parts.{Parts, parts_of}
-use Rattle.problem_text.specs.Faults.{Among, Repeated, text_of, first_place, side_place, OrderFault, SidesFault, IsComplete, IsFault, objects, orders, sides, shape_names, object_name, object_names, count_of}
-use Rattle.problem_text.specs.Meaning as meaning
-use Rattle.problem_text.specs.Problem.{ProblemData}
+use Rattle.problem_data.specs.declared.fault.Fault.{Fault}
+use Rattle.problem_data.specs.declared.tree.Side.{Side}
+use Rattle.problem_data.specs.declared.tree.Side.TheVariants.{Low, High}
+use Rattle.problem_data.specs.declared.tree.SideText.{SideText}
+use Rattle.problem_data.specs.Tree.{ObjectTree, OrderTree, SidesTree}
+use Rattle.problem_data.specs.Least.{fault}
+use Rattle.problem_data.specs.Parts.{Parts, parts_of}
+use Rattle.problem_data.specs.Faults.{Among, Repeated, text_of, first_place, side_place, OrderFault, SidesFault, IsComplete, IsFault, objects, orders, sides, shape_names, object_name, object_names, count_of}
+use Rattle.problem_data.specs.Meaning as meaning
+use Rattle.problem_data.specs.Problem.{ProblemData}
 use Rattle.problem_text.specs.Canonical.{name_at, counts_from, is_high}
 use Rattle.problem_text.proofs.PrintingParts.{all_as}
 use Rattle.problem_text.proofs.ReadStatements.{mapped}

@@ -1,24 +1,23 @@
--- A text is accepted with one problem, which is well formed, and then it has no fault.
+-- A text is accepted with one problem, and then it has no fault.
 use Rattle.std.proofs.Common.{◌≡◌, ℕ, ◌≤◌, List, length, Err, sym, ap, ◌∙◌, subst, arith}
 use Rattle.geo_tokens.specs.declared.token.Token.{Token}
 use Rattle.geo_tokens.specs.declared.fault.FaultWord.{FaultWord}
 use Rattle.geo_tokens.specs.declared.fault.TextFault.TheVariants as faults
 use Rattle.geo_tokens.specs.Deep.{Spells}
 use Rattle.geo_tokens.proofs.Cuts.{one_list, list_or_fault}
-use Rattle.problem_text.specs.Tree.{ProblemTree}
-use Rattle.problem_text.specs.View.{problem_view}
-use Rattle.problem_text.specs.Grammar.{ProblemWords}
-use Rattle.problem_text.specs.WholeText.{IsWhole, FirstFault}
-use Rattle.problem_text.specs.Problem.{ProblemData}
-use Rattle.problem_text.specs.Parts.{parts_of}
-use Rattle.problem_text.specs.Faults.{IsFault}
-use Rattle.problem_text.specs.Meaning.{problem_of}
-use Rattle.problem_text.specs.WellFormed.{IsWellFormed}
-use Rattle.problem_text.specs.FirstFault.{Says, Accepts, HasFirstFault, long, no_token, no_statements, in_statements}
-use Rattle.problem_text.proofs.Right.{problem_good}
-use Rattle.problem_text.proofs.WholeText.{only_answer}
-use Rattle.problem_text.proofs.Yielded.{problem_yields, objects_have_shapes}
-use Rattle.problem_text.proofs.Sound.{sound}
+use Rattle.problem_data.specs.Tree.{ProblemTree}
+use Rattle.problem_data.specs.View.{problem_view}
+use Rattle.problem_data.specs.Grammar.{ProblemWords}
+use Rattle.problem_data.specs.Whole.{IsWhole}
+use Rattle.problem_syntax.specs.WholeText.{FirstFault}
+use Rattle.problem_data.specs.Problem.{ProblemData}
+use Rattle.problem_data.specs.Parts.{parts_of}
+use Rattle.problem_data.specs.Faults.{IsFault}
+use Rattle.problem_data.specs.Meaning.{problem_of}
+use Rattle.problem_data.specs.Accepted.{Says, Accepts}
+use Rattle.problem_text.specs.FirstFault.{HasFirstFault, long, no_token, no_statements, in_statements}
+use Rattle.problem_syntax.proofs.Right.{problem_good}
+use Rattle.problem_syntax.proofs.WholeText.{only_answer}
 
 module _ (text : List ℕ) where
   same_tree : (t u : ProblemTree) → Says text t → Says text u → u ≡ t
@@ -28,10 +27,6 @@ module _ (text : List ℕ) where
 
   pub accepted_once : (p q : ProblemData) → Accepts text p → Accepts text q → p ≡ q
   accepted_once p q a b = a.means ∙ (ap (λ (t : ProblemTree). problem_of (parts_of t)) (same_tree b.tree a.tree b.says a.says) ∙ sym b.means)
-
-  pub accepted_well_formed : (p : ProblemData) → Accepts text p → IsWellFormed p
-  accepted_well_formed p a =
-      subst IsWellFormed (sym a.means) (sound (parts_of a.tree) (objects_have_shapes a.tree.statements (problem_yields text 64 a.tree a.says.list a.says.spells.within)) a.right)
 
   whole_or_refused : (t : ProblemTree) (list : List Token) (place : ℕ) (word : FaultWord) → IsWhole (ProblemWords text) 64 list t → FirstFault (ProblemWords text) 64 (length text) list place word → ⊥
   whole_or_refused t list place word a f = (only_answer (ProblemWords text) 64 _ _ (problem_good text 64).facts (length text) list problem_view (Err (faults.At place word)) f).0 t a

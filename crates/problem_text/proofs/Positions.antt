@@ -9,10 +9,10 @@ use Rattle.std.proofs.Math.Numerals.{one-add}
 use Rattle.rule_syntax.specs.declared.tree.PlacedName.{PlacedName}
 use Rattle.rule_print.proofs.Respelled.{AllOf}
 use Rattle.geo_tokens.specs.declared.fault.FaultWord.TheVariants as words
-use Rattle.problem_text.specs.declared.faults.fault.Fault.{Fault}
-use Rattle.problem_text.specs.Least.{fault}
-use Rattle.problem_text.specs.Faults.{Among, NotMade}
-use Rattle.problem_text.specs.Meaning.{position_of}
+use Rattle.problem_data.specs.declared.fault.Fault.{Fault}
+use Rattle.problem_data.specs.Least.{fault}
+use Rattle.problem_data.specs.Faults.{Among, NotMade}
+use Rattle.problem_data.specs.Meaning.{position_of}
 use Rattle.problem_text.specs.Canonical.{name_at, counts_from}
 
 -- the name stands in the list, and its position is where it stands first

@@ -20,20 +20,20 @@ use Rattle.rule_print.proofs.Respelled.{Respelled, tok_again, named_again, bind_
 use Rattle.rule_print.proofs.ShownTokens.{written_append}
 use Rattle.rule_print.proofs.ExpressionsAgain.{respelled_as, closing}
 use Rattle.rule_print.proofs.ExpressionsAgain.{closed as in_list_written}
-use Rattle.problem_text.specs.declared.tree.Int.{Int}
-use Rattle.problem_text.specs.declared.tree.RangeText.{RangeText}
-use Rattle.problem_text.specs.declared.tree.AttributeText.{AttributeText}
-use Rattle.problem_text.specs.declared.tree.Side.{Side}
-use Rattle.problem_text.specs.declared.tree.Side.TheVariants.{Low, High}
-use Rattle.problem_text.specs.declared.tree.SideText.{SideText}
-use Rattle.problem_text.specs.declared.tree.ParamKind.{ParamKind}
-use Rattle.problem_text.specs.declared.tree.ParamKind.TheVariants as param_kinds
-use Rattle.problem_text.specs.declared.tree.ParamText.{ParamText}
-use Rattle.problem_text.specs.Marks.{side_words, param_words}
-use Rattle.problem_text.specs.Tree.{BoxTree, BodyTree, means, equals, DemandTree, apart, within, plain}
-use Rattle.problem_text.specs.Grammar.{plain_int, negative_int, range_text, box_tree, attribute_text, side_in, side_text, param_in, param_text, OneOrMore, Listed, IntWords, RangeWords, BoxWords, AttributeWords, Attributes, SideWords, ParamWords, Params, BodyWords, DemandWords}
-use Rattle.problem_text.specs.Problem.{BoxData, RangeData, AttributeData, ParamData, DemandData}
-use Rattle.problem_text.specs.Problem.{apart as no_overlap, within as inside, plain as formula_demand}
+use Rattle.problem_data.specs.declared.tree.Int.{Int}
+use Rattle.problem_data.specs.declared.tree.RangeText.{RangeText}
+use Rattle.problem_data.specs.declared.tree.AttributeText.{AttributeText}
+use Rattle.problem_data.specs.declared.tree.Side.{Side}
+use Rattle.problem_data.specs.declared.tree.Side.TheVariants.{Low, High}
+use Rattle.problem_data.specs.declared.tree.SideText.{SideText}
+use Rattle.problem_data.specs.declared.tree.ParamKind.{ParamKind}
+use Rattle.problem_data.specs.declared.tree.ParamKind.TheVariants as param_kinds
+use Rattle.problem_data.specs.declared.tree.ParamText.{ParamText}
+use Rattle.problem_data.specs.Marks.{side_words, param_words}
+use Rattle.problem_data.specs.Tree.{BoxTree, BodyTree, means, equals, DemandTree, apart, within, plain}
+use Rattle.problem_data.specs.Grammar.{plain_int, negative_int, range_text, box_tree, attribute_text, side_in, side_text, param_in, param_text, OneOrMore, Listed, IntWords, RangeWords, BoxWords, AttributeWords, Attributes, SideWords, ParamWords, Params, BodyWords, DemandWords}
+use Rattle.problem_data.specs.Problem.{BoxData, RangeData, AttributeData, ParamData, DemandData}
+use Rattle.problem_data.specs.Problem.{apart as no_overlap, within as inside, plain as formula_demand}
 use Rattle.problem_text.specs.Canonical.{listed, more_listed, name_spelling, int_spelling, ints_spelling, range_spelling, ranges_spelling, box_spelling, attribute_spelling, attributes_spelling, kind_word, param_spelling, body_spelling, demand_spelling, side_spelling}
 
 -- ---- trees without places

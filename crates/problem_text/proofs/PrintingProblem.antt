@@ -12,10 +12,10 @@ use Rattle.rule_print.specs.Canonical.{Written}
 use Rattle.rule_print.specs.Canonical.{number as digits, word as a_word}
 use Rattle.rule_print.proofs.Respelled.{Respelled, tok_again, bind_again, last_again, same_again, AllOf, joined, many_again, many_good}
 use Rattle.rule_print.proofs.ShownTokens.{AllWritten, written_append}
-use Rattle.problem_text.specs.declared.tree.Side.{Side}
-use Rattle.problem_text.specs.Tree.{StatementTree, ProblemTree}
-use Rattle.problem_text.specs.Grammar.{problem_tree, StatementWords, ProblemWords}
-use Rattle.problem_text.specs.Problem.{ProblemData}
+use Rattle.problem_data.specs.declared.tree.Side.{Side}
+use Rattle.problem_data.specs.Tree.{StatementTree, ProblemTree}
+use Rattle.problem_data.specs.Grammar.{problem_tree, StatementWords, ProblemWords}
+use Rattle.problem_data.specs.Problem.{ProblemData}
 use Rattle.problem_text.specs.Canonical.{line_text, line_if, head_spelling, shape_names, object_names, shape_spelling, object_spelling, macro_spelling, rule_spelling, order_spelling, sides_spelling, counts_from, is_high, problem_text}
 use Rattle.problem_text.proofs.PrintingParts.{bare_int, int_of, each_map, all_as, IsSome}
 use Rattle.problem_text.proofs.PrintingStatements.{bare_statement, shape_of, object_of, order_of, sides_of, macro_of, rule_of, StatementAgain, CanWriteShape, shape_again, CanWriteNames, CanWriteObject, object_again, order_again, sides_again_line, CanWriteMacro, macro_again, CanWriteRule, rule_again}

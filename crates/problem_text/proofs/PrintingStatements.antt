@@ -11,10 +11,10 @@ use Rattle.rule_print.specs.Canonical.{word as a_word, symbol as a_symbol}
 use Rattle.rule_print.specs.Spelled.{in_list, bare_name}
 use Rattle.rule_print.proofs.Respelled.{Respelled, Again, tok_again, bind_again, last_again, left_again, right_again, AllOf}
 use Rattle.rule_print.proofs.ShownTokens.{AllWritten, written_append}
-use Rattle.problem_text.specs.declared.tree.Side.{Side}
-use Rattle.problem_text.specs.Tree.{StatementTree, a_shape, an_object, an_order, some_sides, a_macro, a_rule}
-use Rattle.problem_text.specs.Grammar.{shape_tree, object_tree, order_tree, sides_tree, macro_tree, rule_tree, Listed, ShapeWords, ObjectWords, OrderWords, SidesWords, MacroWords, RuleWords, StatementWords}
-use Rattle.problem_text.specs.Problem.{ShapeData, ObjectData, MacroData, RuleData}
+use Rattle.problem_data.specs.declared.tree.Side.{Side}
+use Rattle.problem_data.specs.Tree.{StatementTree, a_shape, an_object, an_order, some_sides, a_macro, a_rule}
+use Rattle.problem_data.specs.Grammar.{shape_tree, object_tree, order_tree, sides_tree, macro_tree, rule_tree, Listed, ShapeWords, ObjectWords, OrderWords, SidesWords, MacroWords, RuleWords, StatementWords}
+use Rattle.problem_data.specs.Problem.{ShapeData, ObjectData, MacroData, RuleData}
 use Rattle.problem_text.specs.Canonical.{closed, listed, name_spelling, name_at, ranges_spelling, box_spelling, attributes_spelling, param_spelling, body_spelling, demand_spelling, side_spelling, shape_spelling, object_spelling, macro_spelling, rule_spelling, order_spelling, sides_spelling}
 use Rattle.problem_text.proofs.PrintingParts.{bare_range, bare_box, bare_attribute, bare_param, bare_side, bare_body, bare_demand, name_of, range_of, box_of, attribute_of, param_of, side_of, demand_of, each_map, all_as, IsSome, listed_again, name_again, CanWriteBoxes, boxes_again, CanWriteRanges, ranges_again, CanWriteAttribute, attributes_again, CanWriteParam, params_again, sides_again, CanWriteBody, body_again, CanWriteDemand, demand_again}
 

@@ -11,13 +11,13 @@ use Rattle.rule_syntax.specs.Grammar.{Named}
 use Rattle.rule_print.proofs.Respelled.{AllOf, AllTrue, pure_is, token_of_list, many_of, small_number, name_is_text}
 use Rattle.rule_print.proofs.Respelled.{parts_of as split}
 use Rattle.rule_print.proofs.ReadBack.{expr_again, formula_again}
-use Rattle.problem_text.specs.declared.tree.Int.{Int}
-use Rattle.problem_text.specs.declared.tree.RangeText.{RangeText}
-use Rattle.problem_text.specs.declared.tree.AttributeText.{AttributeText}
-use Rattle.problem_text.specs.declared.tree.ParamText.{ParamText}
-use Rattle.problem_text.specs.Tree.{BoxTree, ObjectTree, BodyTree, means, equals, DemandTree, apart, within, plain, StatementTree, a_shape, an_object, an_order, some_sides, a_macro, a_rule}
-use Rattle.problem_text.specs.Grammar.{plain_int, negative_int, range_text, box_tree, attribute_text, param_text, shape_tree, object_tree, order_tree, sides_tree, macro_tree, rule_tree, OneOrMore, Listed, PlainInt, NegativeInt, IntWords, RangeWords, BoxWords, AttributeWords, Attributes, ParamWords, Params, BodyWords, DemandWords, ShapeWords, ObjectWords, OrderWords, SidesWords, MacroWords, RuleWords, StatementWords}
-use Rattle.problem_text.specs.Meaning as meaning
+use Rattle.problem_data.specs.declared.tree.Int.{Int}
+use Rattle.problem_data.specs.declared.tree.RangeText.{RangeText}
+use Rattle.problem_data.specs.declared.tree.AttributeText.{AttributeText}
+use Rattle.problem_data.specs.declared.tree.ParamText.{ParamText}
+use Rattle.problem_data.specs.Tree.{BoxTree, ObjectTree, BodyTree, means, equals, DemandTree, apart, within, plain, StatementTree, a_shape, an_object, an_order, some_sides, a_macro, a_rule}
+use Rattle.problem_data.specs.Grammar.{plain_int, negative_int, range_text, box_tree, attribute_text, param_text, shape_tree, object_tree, order_tree, sides_tree, macro_tree, rule_tree, OneOrMore, Listed, PlainInt, NegativeInt, IntWords, RangeWords, BoxWords, AttributeWords, Attributes, ParamWords, Params, BodyWords, DemandWords, ShapeWords, ObjectWords, OrderWords, SidesWords, MacroWords, RuleWords, StatementWords}
+use Rattle.problem_data.specs.Meaning as meaning
 use Rattle.problem_text.proofs.PrintingParts.{IsSome, IsSmall, CanWriteInts, CanWriteBox, CanWriteBoxes, CanWriteRange, CanWriteRanges, CanWriteAttribute, CanWriteParam, CanWriteBody, CanWriteDemand}
 use Rattle.problem_text.proofs.PrintingStatements.{CanWriteShape, CanWriteMacro, CanWriteRule}
 

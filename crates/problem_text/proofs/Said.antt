@@ -4,19 +4,19 @@ use Rattle.std.specs.List.{All}
 use Rattle.std.proofs.lemmas.List.{length-map}
 use Rattle.geo_tokens.specs.Names.{IsNameText, AllDifferent, IsShapeList, IsNameTable, object_names}
 use Rattle.rule_print.proofs.Respelled.{AllOf}
-use Rattle.problem_text.specs.declared.faults.fault.Fault.{Fault}
-use Rattle.problem_text.specs.Parts.{Parts, parts_of}
-use Rattle.problem_text.specs.Faults.{IsFault, shapes, objects}
-use Rattle.problem_text.specs.Faults as faults
-use Rattle.problem_text.specs.Meaning.{problem_of}
-use Rattle.problem_text.specs.Problem.{ObjectData, ProblemData}
+use Rattle.problem_data.specs.declared.fault.Fault.{Fault}
+use Rattle.problem_data.specs.Parts.{Parts, parts_of}
+use Rattle.problem_data.specs.Faults.{IsFault, shapes, objects}
+use Rattle.problem_data.specs.Faults as faults
+use Rattle.problem_data.specs.Meaning.{problem_of}
+use Rattle.problem_data.specs.Problem.{ObjectData, ProblemData}
 use Rattle.problem_text.specs.Canonical as canonical
-use Rattle.problem_text.specs.WellFormed.{IsObject, IsWellFormed}
-use Rattle.problem_text.specs.FirstFault.{Accepts, AreSaid, IsSaid}
+use Rattle.problem_data.specs.WellFormed.{IsObject, IsWellFormed}
+use Rattle.problem_data.specs.Accepted.{Accepts, AreSaid, IsSaid}
 use Rattle.problem_text.specs.NameTable.{shape_name, named_object, name_table}
-use Rattle.problem_text.proofs.NoFault.{all_mapped}
-use Rattle.problem_text.proofs.Sound.{texts_differ}
-use Rattle.problem_text.proofs.OneProblem.{accepted_well_formed}
+use Rattle.problem_data.proofs.NoFault.{all_mapped}
+use Rattle.problem_data.proofs.Sound.{texts_differ}
+use Rattle.problem_data.proofs.Accepted.{accepted_well_formed}
 use Rattle.problem_text.proofs.BareParts.{map_after}
 use Rattle.problem_text.proofs.PrintingParts.{all_as}
 use Rattle.problem_text.proofs.PrintingStatements.{CanWriteShape, CanWriteObject}

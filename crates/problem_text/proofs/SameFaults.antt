@@ -7,16 +7,16 @@ use Rattle.geo_tokens.specs.declared.fault.FaultWord.{FaultWord}
 use Rattle.geo_tokens.specs.declared.fault.FaultWord.TheVariants as words
 use Rattle.rule_syntax.specs.declared.tree.PlacedName.{PlacedName}
 use Rattle.rule_print.specs.Spelled.{bare_name, bare_formula}
-use Rattle.problem_text.specs.declared.faults.fault.Fault.{Fault}
-use Rattle.problem_text.specs.declared.tree.Int.{Int}
-use Rattle.problem_text.specs.declared.tree.RangeText.{RangeText}
-use Rattle.problem_text.specs.declared.tree.AttributeText.{AttributeText}
-use Rattle.problem_text.specs.Tree.{BoxTree, ShapeTree, ObjectTree, OrderTree, MacroTree, DemandTree, apart, within, plain, RuleTree}
-use Rattle.problem_text.specs.Least.{fault}
-use Rattle.problem_text.specs.Limits.{IsSmall, IsSize, IsFieldName, most_shapes, most_objects, most_object_shapes, most_attributes, most_macros, most_params, most_rules}
-use Rattle.problem_text.specs.Divisors.{body_zeros, formula_zeros}
-use Rattle.problem_text.specs.Faults.{Among, text_of, PastLimit, Repeated, NamesFault, NotMade, first_place, Miscounted, int_place, range_place, OffsetFault, SizeFault, OffsetsFault, SizesFault, UpsideDown, RangeFault, RangesFault, PastBox, BoxFault, ShapeFault, ShapesFault, FieldFault, AttributesFault, ObjectFault, ObjectsFault, SecondOrder, Incomplete, OrderFault, DivisorFault, MacroFault, MacrosFault, DemandFault, RuleFault, RulesFault, shape_name, object_name, attribute_name, macro_name, param_name, rule_name}
-use Rattle.problem_text.proofs.InLists.{get_back}
+use Rattle.problem_data.specs.declared.fault.Fault.{Fault}
+use Rattle.problem_data.specs.declared.tree.Int.{Int}
+use Rattle.problem_data.specs.declared.tree.RangeText.{RangeText}
+use Rattle.problem_data.specs.declared.tree.AttributeText.{AttributeText}
+use Rattle.problem_data.specs.Tree.{BoxTree, ShapeTree, ObjectTree, OrderTree, MacroTree, DemandTree, apart, within, plain, RuleTree}
+use Rattle.problem_data.specs.Least.{fault}
+use Rattle.problem_data.specs.Limits.{IsSmall, IsSize, IsFieldName, most_shapes, most_objects, most_object_shapes, most_attributes, most_macros, most_params, most_rules}
+use Rattle.problem_data.specs.Divisors.{body_zeros, formula_zeros}
+use Rattle.problem_data.specs.Faults.{Among, text_of, PastLimit, Repeated, NamesFault, NotMade, first_place, Miscounted, int_place, range_place, OffsetFault, SizeFault, OffsetsFault, SizesFault, UpsideDown, RangeFault, RangesFault, PastBox, BoxFault, ShapeFault, ShapesFault, FieldFault, AttributesFault, ObjectFault, ObjectsFault, SecondOrder, Incomplete, OrderFault, DivisorFault, MacroFault, MacrosFault, DemandFault, RuleFault, RulesFault, shape_name, object_name, attribute_name, macro_name, param_name, rule_name}
+use Rattle.problem_data.proofs.InLists.{get_back}
 use Rattle.problem_text.proofs.Consistent.{map_at}
 use Rattle.problem_text.proofs.PrintingParts.{bare_int, bare_range, bare_box, bare_attribute, bare_param, bare_demand}
 use Rattle.problem_text.proofs.BareParts.{bare_shape, bare_object, bare_order, bare_macro_tree, bare_rule_tree, map_after, map_both}

@@ -4,8 +4,8 @@ use Rattle.std.specs.Prelude.{if◌then◌else◌}
 use Rattle.std.specs.List.{Contains}
 use Rattle.rule_syntax.specs.Tree.{ExprTree, number, field, param, shape_number, negative, sum, product, least, greatest, value_call, SumTree, plus, minus, SumTrees, no_sums, a_sum, ProductTree, times, over, modulo, ProductTrees, no_products, a_product, ArgumentTree, argument, ArgumentTrees, no_arguments, an_argument, FormulaTree, truth, falsehood, negation, all_of, any_of, implication, equivalence, comparison, quantified, formula_call, FormulaTrees, no_formulas, a_formula}
 use Rattle.rule_print.specs.Spelled.{bare_expr, bare_sums, bare_sum, bare_products, bare_product, bare_argument, bare_arguments, bare_formula, bare_formulas}
-use Rattle.problem_text.specs.Tree.{BodyTree, means, equals}
-use Rattle.problem_text.specs.Divisors.{expr_zeros, sums_zeros, sum_zeros, products_zeros, product_zeros, arguments_zeros, argument_zeros, formula_zeros, formulas_zeros, body_zeros}
+use Rattle.problem_data.specs.Tree.{BodyTree, means, equals}
+use Rattle.problem_data.specs.Divisors.{expr_zeros, sums_zeros, sum_zeros, products_zeros, product_zeros, arguments_zeros, argument_zeros, formula_zeros, formulas_zeros, body_zeros}
 use Rattle.problem_text.proofs.PrintingParts.{bare_body}
 
 -- two lists, one after the other

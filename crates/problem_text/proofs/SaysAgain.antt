@@ -10,15 +10,15 @@ use Rattle.rule_syntax.specs.declared.tree.PlacedName.{PlacedName}
 use Rattle.rule_print.proofs.Respelled.{AllOf, AllTrue, pure_is, token_of_list, many_of, small_number}
 use Rattle.rule_print.proofs.Respelled.{parts_of as split}
 use Rattle.rule_print.proofs.ReadBack.{tokens_true}
-use Rattle.problem_text.specs.declared.faults.fault.Fault.{Fault}
-use Rattle.problem_text.specs.Tree.{ShapeTree, ObjectTree, OrderTree, MacroTree, RuleTree, StatementTree, a_shape, an_object, an_order, some_sides, a_macro, a_rule, ProblemTree}
-use Rattle.problem_text.specs.Grammar.{problem_tree, StatementWords, ProblemWords}
-use Rattle.problem_text.specs.Parts.{Parts, parts_of, as_shape, as_object, as_order, as_macro, as_rule}
-use Rattle.problem_text.specs.Faults.{Among, ObjectFault, OrderFault, IsFault, objects, orders, shape_names, object_names, count_of}
-use Rattle.problem_text.specs.Meaning as meaning
-use Rattle.problem_text.specs.Problem.{ShapeData, ObjectData, ProblemData}
+use Rattle.problem_data.specs.declared.fault.Fault.{Fault}
+use Rattle.problem_data.specs.Tree.{ShapeTree, ObjectTree, OrderTree, MacroTree, RuleTree, StatementTree, a_shape, an_object, an_order, some_sides, a_macro, a_rule, ProblemTree}
+use Rattle.problem_data.specs.Grammar.{problem_tree, StatementWords, ProblemWords}
+use Rattle.problem_data.specs.Parts.{Parts, parts_of, as_shape, as_object, as_order, as_macro, as_rule}
+use Rattle.problem_data.specs.Faults.{Among, ObjectFault, OrderFault, IsFault, objects, orders, shape_names, object_names, count_of}
+use Rattle.problem_data.specs.Meaning as meaning
+use Rattle.problem_data.specs.Problem.{ShapeData, ObjectData, ProblemData}
 use Rattle.problem_text.specs.Canonical as canonical
-use Rattle.problem_text.specs.FirstFault.{Accepts}
+use Rattle.problem_data.specs.Accepted.{Accepts}
 use Rattle.problem_text.proofs.PrintingParts.{all_as}
 use Rattle.problem_text.proofs.PrintingStatements.{CanWriteShape, CanWriteNames, CanWriteObject, CanWriteMacro, CanWriteRule}
 use Rattle.problem_text.proofs.PrintingProblem.{CanWriteProblem}

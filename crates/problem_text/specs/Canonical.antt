@@ -8,12 +8,12 @@ use Rattle.rule_print.specs.declared.rank.ExprRank.TheVariants as expr_ranks
 use Rattle.rule_print.specs.declared.rank.FormulaRank.TheVariants as ranks
 use Rattle.rule_print.specs.Canonical.{Written, name, number, word, symbol, sign, shown}
 use Rattle.rule_print.specs.Spelled.{in_list, expr_spelling, formula_spelling}
-use Rattle.problem_text.specs.declared.tree.ParamKind.{ParamKind}
-use Rattle.problem_text.specs.declared.tree.ParamKind.TheVariants.{Int, Object, Box}
-use Rattle.problem_text.specs.declared.tree.Side.{Side}
-use Rattle.problem_text.specs.declared.tree.Side.TheVariants.{Low, High}
-use Rattle.problem_text.specs.Tree.{BodyTree, means, equals}
-use Rattle.problem_text.specs.Problem.{BoxData, ShapeData, RangeData, AttributeData, ObjectData, ParamData, MacroData, DemandData, apart, within, plain, RuleData, ProblemData}
+use Rattle.problem_data.specs.declared.tree.ParamKind.{ParamKind}
+use Rattle.problem_data.specs.declared.tree.ParamKind.TheVariants.{Int, Object, Box}
+use Rattle.problem_data.specs.declared.tree.Side.{Side}
+use Rattle.problem_data.specs.declared.tree.Side.TheVariants.{Low, High}
+use Rattle.problem_data.specs.Tree.{BodyTree, means, equals}
+use Rattle.problem_data.specs.Problem.{BoxData, ShapeData, RangeData, AttributeData, ObjectData, ParamData, MacroData, DemandData, apart, within, plain, RuleData, ProblemData}
 
 -- ---- parts of statements
 

@@ -1,5 +1,4 @@
--- Which texts are accepted, with the problems that they spell, and what the first fault of another text is. A text is looked at
--- in four phases, its length, its tokens, its grammar and its statements; the first phase with a fault decides.
+-- What the first fault of a text is that is not accepted. A text is looked at in four phases, its length, its tokens, its grammar and its statements; the first phase with a fault decides.
 use Rattle.std.specs.Prelude.{◌≡◌, ℕ, ◌<◌, ◌≤◌, List, length, Result, Ok, Err}
 use Rattle.geo_tokens.specs.declared.token.Token.{Token}
 use Rattle.geo_tokens.specs.declared.fault.FaultWord.{FaultWord}
@@ -7,46 +6,15 @@ use Rattle.geo_tokens.specs.declared.fault.FaultWord.TheVariants as words
 use Rattle.geo_tokens.specs.declared.fault.TextFault.{TextFault}
 use Rattle.geo_tokens.specs.declared.fault.TextFault.TheVariants as faults
 use Rattle.geo_tokens.specs.Cut.{IsTokens, IsTokenFault}
-use Rattle.problem_text.specs.declared.problem.Problem.{Problem}
-use Rattle.problem_text.specs.declared.faults.fault.Fault.{Fault}
-use Rattle.problem_text.specs.Tree.{ProblemTree}
-use Rattle.problem_text.specs.Grammar.{ProblemWords}
-use Rattle.problem_text.specs.WholeText.{IsWhole, FirstFault}
-use Rattle.problem_text.specs.Problem.{ProblemData}
-use Rattle.problem_text.specs.Parts.{Parts, parts_of}
-use Rattle.problem_text.specs.Least.{fault, IsFirst}
-use Rattle.problem_text.specs.Faults.{IsFault}
-use Rattle.problem_text.specs.Meaning.{problem_of}
-
--- how many bytes a text may have
-abbrev pub most_bytes : ℕ
-most_bytes = 1048576
-
--- the text is short enough, it is cut into these tokens, and they spell these statements
-pub record Says (text : List ℕ) (tree : ProblemTree) : Type 0 where
-  pub short : length text ≤ most_bytes
-  pub list : List Token
-  pub tokens : IsTokens text list
-  pub spells : IsWhole (ProblemWords text) 64 list tree
-
--- the text says statements without a fault, and they spell the problem
-pub record Accepts (text : List ℕ) (problem : ProblemData) : Type 0 where
-  pub tree : ProblemTree
-  pub says : Says text tree
-  pub right : (f : Fault) → IsFault (parts_of tree) f → ⊥
-  pub means : problem ≡ problem_of (parts_of tree)
-
--- some text says these statements
-pub record AreSaid (parts : Parts) : Type 0 where
-  pub text : List ℕ
-  pub tree : ProblemTree
-  pub says : Says text tree
-  pub are : parts_of tree ≡ parts
-
--- some text says the problem
-pub record IsSaid (problem : ProblemData) : Type 0 where
-  pub text : List ℕ
-  pub accepts : Accepts text problem
+use Rattle.problem_data.specs.declared.problem.Problem.{Problem}
+use Rattle.problem_data.specs.Tree.{ProblemTree}
+use Rattle.problem_data.specs.Grammar.{ProblemWords}
+use Rattle.problem_syntax.specs.WholeText.{FirstFault}
+use Rattle.problem_data.specs.Problem.{ProblemData}
+use Rattle.problem_data.specs.Parts.{parts_of}
+use Rattle.problem_data.specs.Accepted.{most_bytes, Says, Accepts}
+use Rattle.problem_data.specs.Least.{fault, IsFirst}
+use Rattle.problem_data.specs.Faults.{IsFault}
 
 -- the first fault of the text is this word at this place
 pub data HasFirstFault (text : List ℕ) (place : ℕ) (word : FaultWord) : Type 0 where

@@ -1,7 +1,7 @@
 -- The names of a problem.
 use Rattle.std.specs.Prelude.{ℕ, List, map}
 use Rattle.geo_tokens.specs.Names.{NameTable}
-use Rattle.problem_text.specs.Problem.{ShapeData, ObjectData, ProblemData}
+use Rattle.problem_data.specs.Problem.{ShapeData, ObjectData, ProblemData}
 
 abbrev pub shape_name : ShapeData → List ℕ
 shape_name s = s.name

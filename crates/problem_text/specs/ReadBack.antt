@@ -3,15 +3,15 @@ use Rattle.std.specs.Prelude.{◌≡◌, List, map}
 use Rattle.geo_tokens.specs.declared.token.Token.{Token}
 use Rattle.geo_tokens.specs.Cut.{IsTokens}
 use Rattle.rule_print.specs.Spelled.{bare_expr, bare_formula}
-use Rattle.problem_text.specs.Tree.{BodyTree, means, equals, ProblemTree}
-use Rattle.problem_text.specs.Grammar.{ProblemWords}
-use Rattle.problem_text.specs.WholeText.{IsWhole}
-use Rattle.problem_text.specs.declared.faults.fault.Fault.{Fault}
-use Rattle.problem_text.specs.Parts.{parts_of}
-use Rattle.problem_text.specs.Faults.{IsFault}
-use Rattle.problem_text.specs.FirstFault.{Accepts}
-use Rattle.problem_text.specs.Meaning.{problem_of}
-use Rattle.problem_text.specs.Problem.{MacroData, DemandData, apart, within, plain, RuleData, ProblemData}
+use Rattle.problem_data.specs.Tree.{BodyTree, means, equals, ProblemTree}
+use Rattle.problem_data.specs.Grammar.{ProblemWords}
+use Rattle.problem_data.specs.Whole.{IsWhole}
+use Rattle.problem_data.specs.declared.fault.Fault.{Fault}
+use Rattle.problem_data.specs.Parts.{parts_of}
+use Rattle.problem_data.specs.Faults.{IsFault}
+use Rattle.problem_data.specs.Accepted.{Accepts}
+use Rattle.problem_data.specs.Meaning.{problem_of}
+use Rattle.problem_data.specs.Problem.{MacroData, DemandData, apart, within, plain, RuleData, ProblemData}
 use Rattle.problem_text.specs.Canonical.{problem_text}
 
 -- ---- a problem without places

@@ -1,13 +1,13 @@
 //! The problem that statements without a fault spell.
 
 ghost use Rattle.std.specs.Prelude.{◌≡◌, ◌≤◌, map, length, IfOk};
-ghost use Rattle.problem_text.specs.View.{shape_view, object_view, order_view};
-ghost use Rattle.problem_text.specs.Seen.{met};
-ghost use Rattle.problem_text.specs.declared.faults.fault.Fault.{Fault};
-ghost use Rattle.problem_text.specs.Parts.{parts_view};
-ghost use Rattle.problem_text.specs.Faults.{IsFault, shape_names, object_names};
-ghost use Rattle.problem_text.specs.FirstFault.{AreSaid};
-ghost use Rattle.problem_text.specs.Meaning.{object_of, order_of, problem_of};
+ghost use Rattle.problem_data.specs.View.{shape_view, object_view, order_view};
+ghost use Rattle.problem_data.specs.Seen.{met};
+ghost use Rattle.problem_data.specs.declared.fault.Fault.{Fault};
+ghost use Rattle.problem_data.specs.Parts.{parts_view};
+ghost use Rattle.problem_data.specs.Faults.{IsFault, shape_names, object_names};
+ghost use Rattle.problem_data.specs.Accepted.{AreSaid};
+ghost use Rattle.problem_data.specs.Meaning.{object_of, order_of, problem_of};
 
 mod objects;
 mod order;
@@ -18,11 +18,11 @@ use crate::build::objects::build_objects;
 use crate::build::order::{build_order, build_sides};
 use crate::build::rules::{build_macros, build_rules};
 use crate::build::shapes::build_shapes;
-use crate::faults::count_of;
-use crate::faults::names::met_names;
-use crate::parts::Parts;
-use crate::problem::{ObjectDef, Problem};
-use crate::tree::{ObjectText, OrderText, ShapeText};
+use statement_faults::first::count_of;
+use statement_faults::names::met_names;
+use problem_data::parts::Parts;
+use problem_data::problem::{ObjectDef, Problem};
+use problem_data::tree::{ObjectText, OrderText, ShapeText};
 use std::alloc::{AllocError, Global};
 
 /// The search order, where the names of the objects differ.

@@ -4,7 +4,7 @@ ghost use Rattle.std.specs.Prelude.{◌≡◌, [], map, IfOk};
 ghost use Rattle.geo_tokens.specs.Names.{IsNameTable};
 ghost use Rattle.problem_text.specs.NameTable.{shape_name, named_object, name_table};
 
-use crate::problem::{ObjectDef, Problem, ShapeDef};
+use problem_data::problem::{ObjectDef, Problem, ShapeDef};
 use geo_tokens::names::Names;
 use std::alloc::{AllocError, Global};
 

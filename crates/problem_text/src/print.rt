@@ -12,10 +12,10 @@ ghost use Rattle.geo_chan.specs.Causes.{PutCause};
 ghost use Rattle.std.specs.Prelude.{◌≡◌, ◌≤◌, length, true, MatchResult, IsErrOf};
 ghost use Rattle.std.specs.Io.KnownBytes.{Appends};
 ghost use Rattle.problem_text.specs.Canonical.{problem_text};
-ghost use Rattle.problem_text.specs.FirstFault.{most_bytes};
+ghost use Rattle.problem_data.specs.Accepted.{most_bytes};
 ghost use Rattle.problem_text.specs.ReadBack.{IsSpelled, ReadsBack};
 
-use crate::problem::Problem;
+use problem_data::problem::Problem;
 use geo_chan::{PutFault, Sink, write_all_bytes};
 use std::alloc::Global;
 use text::canonical_text;

@@ -4,10 +4,10 @@ ghost use Rattle.std.specs.Prelude.{◌≡◌};
 ghost use Rattle.problem_text.specs.FirstFault.{AnswersProblem, IsOnlyProblem};
 
 use crate::build::build;
-use crate::faults::first_fault;
-use crate::parts::by_kind;
-use crate::problem::Problem;
-use crate::syntax::read_statements;
+use statement_faults::first::first_fault;
+use problem_data::parts::by_kind;
+use problem_data::problem::Problem;
+use problem_syntax::syntax::read_statements;
 use geo_tokens::fault::{FaultWord, TextFault};
 use geo_tokens::lexer::tokens;
 use std::alloc::Global;

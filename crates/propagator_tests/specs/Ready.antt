@@ -1,9 +1,9 @@
 -- What is known of a problem that was read, and of its rules without macros.
 use Rattle.std.specs.Prelude.{◌≡◌, List, None}
 use Rattle.geo_base.specs.Tuple.{Tuple}
-use Rattle.problem_text.specs.Cells.{IsTuple}
-use Rattle.problem_text.specs.Problem.{ProblemData}
-use Rattle.problem_text.specs.WellFormed.{IsWellFormed}
+use Rattle.problem_data.specs.Cells.{IsTuple}
+use Rattle.problem_data.specs.Problem.{ProblemData}
+use Rattle.problem_data.specs.WellFormed.{IsWellFormed}
 use Rattle.rule_expand.specs.Rules.{AllAskSame, PlainRuleData, expansion_fault, rules_expanded}
 use Rattle.rule_values.specs.Calm.{AreCalm}
 

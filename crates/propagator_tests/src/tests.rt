@@ -10,7 +10,7 @@ mod tuples;
 
 use answers::{Answers, MOST_LAYOUTS, has_tuple, is_same_state};
 use geo_tokens::fault::TextFault;
-use problem_text::problem::Problem;
+use problem_data::problem::Problem;
 use propagators::{plain_answers, queued_in_1, queued_in_2, queued_in_3};
 use rule_expand::plain::PlainRule;
 use std::alloc::Global;

@@ -6,11 +6,11 @@ use Rattle.std.proofs.lemmas.Bool.Decides.{nat_tests}
 use Rattle.std.specs.Str.{bytes_eq}
 use Rattle.std.proofs.lemmas.List.{get_or_default}
 use Rattle.std.proofs.lemmas.List.Quantifiers.{position-Some}
-use Rattle.problem_text.specs.Problem.{ParamData, MacroData, ProblemData}
+use Rattle.problem_data.specs.Problem.{ParamData, MacroData, ProblemData}
 use Rattle.rule_syntax.specs.Tree.{falsehood}
-use Rattle.problem_text.specs.Tree.{BodyTree, means}
-use Rattle.problem_text.specs.Value.{macro_position}
-use Rattle.problem_text.specs.Truth.{macro_of}
+use Rattle.problem_data.specs.Tree.{BodyTree, means}
+use Rattle.problem_data.specs.Value.{macro_position}
+use Rattle.problem_data.specs.Truth.{macro_of}
 use Rattle.rule_expand.specs.Plain as plain
 use Rattle.rule_expand.specs.Plain.{PlainExprTree, PlainFormulaTree}
 use Rattle.rule_expand.specs.Expansion.{Meant, give_all, body_expr, body_formula, expansions_of}

@@ -9,11 +9,11 @@ use Rattle.std.proofs.lemmas.Bool.Decides.{nat_tests}
 use Rattle.rule_syntax.specs.declared.tree.QuantKind.{QuantKind}
 use Rattle.rule_syntax.specs.declared.tree.QuantKind.TheVariants.{ForAll, Exists, AtLeast, AtMost}
 use Rattle.rule_syntax.specs.Tree.{ExprTree, number, field, param, shape_number, negative, sum, product, least, greatest, value_call, SumTree, plus, minus, SumTrees, no_sums, a_sum, ProductTree, times, over, modulo, ProductTrees, no_products, a_product, ArgumentTree, argument, ArgumentTrees, no_arguments, an_argument, CollTree, all_objects, listed, boxes_of, FormulaTree, truth, falsehood, negation, all_of, any_of, implication, equivalence, comparison, quantified, formula_call, FormulaTrees, no_formulas, a_formula}
-use Rattle.problem_text.specs.Problem.{BoxData, ParamData, ProblemData}
-use Rattle.problem_text.specs.Tree.{BodyTree, means, equals}
-use Rattle.problem_text.specs.Tuple.{Tuple, boxes_in}
-use Rattle.problem_text.specs.Value.{Thing, Number, Object, Part, Env, bind, object_position, shape_position, macro_position, look, as_number, field_value, Calls, thing, sum_value, sums_value, product_value, products_value, argument_thing, things, value}
-use Rattle.problem_text.specs.Truth.{compare, same_truth, quantify, boxes_of_thing, elements, holds, all_hold, some_holds, bind_all, body_value, body_truth, macro_of, calls_of, formula_holds}
+use Rattle.problem_data.specs.Problem.{BoxData, ParamData, ProblemData}
+use Rattle.problem_data.specs.Tree.{BodyTree, means, equals}
+use Rattle.problem_data.specs.Tuple.{Tuple, boxes_in}
+use Rattle.problem_data.specs.Value.{Thing, Number, Object, Part, Env, bind, object_position, shape_position, macro_position, look, as_number, field_value, Calls, thing, sum_value, sums_value, product_value, products_value, argument_thing, things, value}
+use Rattle.problem_data.specs.Truth.{compare, same_truth, quantify, boxes_of_thing, elements, holds, all_hold, some_holds, bind_all, body_value, body_truth, macro_of, calls_of, formula_holds}
 use Rattle.rule_expand.specs.declared.plain.Subject.{Subject}
 use Rattle.rule_expand.specs.declared.plain.Subject.TheVariants as subjects
 use Rattle.rule_expand.specs.Plain as plain

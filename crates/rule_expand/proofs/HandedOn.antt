@@ -10,12 +10,12 @@ use Rattle.rule_syntax.specs.declared.tree.Argument.{Argument}
 use Rattle.rule_syntax.specs.declared.tree.PlacedName.{PlacedName}
 use Rattle.rule_syntax.specs.Tree.{ExprTree, param, value_call, arguments}
 use Rattle.rule_syntax.specs.View.{argument_view, expr_view}
-use Rattle.problem_text.specs.Problem.{MacroData, ProblemData}
-use Rattle.problem_text.specs.Tree.{equals}
-use Rattle.problem_text.specs.Truth.{macro_of}
-use Rattle.problem_text.specs.ProblemView.{param_data}
-use Rattle.problem_text.specs.Value.{macro_position}
-use Rattle.problem_text.specs.declared.problem.ParamDef.{ParamDef}
+use Rattle.problem_data.specs.Problem.{MacroData, ProblemData}
+use Rattle.problem_data.specs.Tree.{equals}
+use Rattle.problem_data.specs.Truth.{macro_of}
+use Rattle.problem_data.specs.ProblemView.{param_data}
+use Rattle.problem_data.specs.Value.{macro_position}
+use Rattle.problem_data.specs.declared.problem.ParamDef.{ParamDef}
 use Rattle.rule_expand.specs.Plain as plain
 use Rattle.rule_expand.specs.Expansion.{Meant, Subst, Expansions, as_expr, meant_by, meant, argument_meant, arguments_meant, give_all, body_expr, expansions_of, expr_expanded}
 use Rattle.rule_expand.specs.Costs.{CostEnv, MacroCosts, cost, argument_cost, costs}

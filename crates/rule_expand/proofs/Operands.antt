@@ -11,7 +11,7 @@ use Rattle.rule_syntax.specs.declared.tree.Formula.{Formula}
 use Rattle.rule_syntax.specs.declared.tree.Formula.TheOpen.{Formula-F}
 use Rattle.rule_syntax.specs.declared.tree.Formula.TheVariants.{Compare, rolls-Compare}
 use Rattle.rule_syntax.specs.declared.tree.Formula.TheFolds.{fold-roll-Formula}
-use Rattle.problem_text.specs.Problem.{ProblemData}
+use Rattle.problem_data.specs.Problem.{ProblemData}
 use Rattle.rule_expand.specs.Plain as plain
 use Rattle.rule_expand.specs.Plain.{PlainFormulaTree, PlainFormulas}
 use Rattle.rule_expand.specs.PlainView.{plain_formula_view, plain_formulas_view}

@@ -9,9 +9,9 @@ use Rattle.rule_syntax.specs.declared.tree.Argument.{Argument}
 use Rattle.rule_syntax.specs.declared.tree.Expr.TheFolds.{fold_out-Argument}
 use Rattle.rule_syntax.specs.Tree.{ExprTree, ProductTree, SumTree, ArgumentTree, argument, arguments}
 use Rattle.rule_syntax.specs.View.{argument_view, expr_view, expr_step, product_step, sum_step, argument_step}
-use Rattle.problem_text.specs.Problem.{ProblemData}
-use Rattle.problem_text.specs.ProblemView.{param_data}
-use Rattle.problem_text.specs.declared.problem.ParamDef.{ParamDef}
+use Rattle.problem_data.specs.Problem.{ProblemData}
+use Rattle.problem_data.specs.ProblemView.{param_data}
+use Rattle.problem_data.specs.declared.problem.ParamDef.{ParamDef}
 use Rattle.rule_expand.specs.Expansion.{Meant, Subst, Expansions, meant_by, meant, argument_meant, arguments_meant, give_all}
 use Rattle.std.proofs.Common.{Bor}
 use Rattle.rule_expand.specs.Costs.{CostEnv, MacroCosts, cost_by, cost, argument_cost, costs, costs_of, price_all}

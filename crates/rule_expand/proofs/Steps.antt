@@ -5,7 +5,7 @@ use Rattle.rule_syntax.specs.Tree as tree
 use Rattle.rule_syntax.specs.View.{sum_view, product_view}
 use Rattle.rule_syntax.specs.declared.tree.SumStep.{SumStep}
 use Rattle.rule_syntax.specs.declared.tree.ProdStep.{ProdStep}
-use Rattle.problem_text.specs.Problem.{ProblemData}
+use Rattle.problem_data.specs.Problem.{ProblemData}
 use Rattle.rule_expand.specs.Plain as plain
 use Rattle.rule_expand.specs.Plain.{PlainSumTree, PlainProductTree}
 use Rattle.rule_expand.specs.PlainView.{plain_sum_view, plain_product_view}

@@ -3,9 +3,9 @@ use Rattle.std.proofs.Common.{◌≡◌, ℕ, ◌+◌, ◌<◌, ◌≤◌, Bool,
 use Rattle.std.specs.Prelude.{None, Some}
 use Rattle.std.proofs.lemmas.List.{drop_more, take_more, take_all, map-append, get_or-map, length-map}
 use Rattle.std.proofs.Math.ListN.{drop_of_length-le}
-use Rattle.problem_text.specs.Problem.{DemandData, RuleData, ProblemData}
-use Rattle.problem_text.specs.Problem as written
-use Rattle.problem_text.specs.Tuple.{Tuple}
+use Rattle.problem_data.specs.Problem.{DemandData, RuleData, ProblemData}
+use Rattle.problem_data.specs.Problem as written
+use Rattle.problem_data.specs.Tuple.{Tuple}
 use Rattle.rule_expand.specs.Rules.{PlainDemand, PlainRuleData, plain_rule_data, rule_expanded, demand_expanded, first_place, AllAskSame, AsksSame}
 use Rattle.rule_expand.specs.declared.plain.PlainRule.{PlainRule}
 use Rattle.rule_expand.proofs.Expanded.{expanded-holds}

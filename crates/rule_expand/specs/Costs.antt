@@ -4,10 +4,10 @@ use Rattle.std.specs.Option.{option_map_or}
 use Rattle.std.specs.Str.{bytes_eq}
 use Rattle.rule_syntax.specs.Tree as tree
 use Rattle.rule_syntax.specs.Tree.{ExprTree, SumTree, SumTrees, ProductTree, ProductTrees, ArgumentTree, ArgumentTrees, FormulaTree, FormulaTrees}
-use Rattle.problem_text.specs.Problem.{ParamData, ProblemData}
-use Rattle.problem_text.specs.Tree.{BodyTree, means, equals}
-use Rattle.problem_text.specs.Value.{macro_position}
-use Rattle.problem_text.specs.Truth.{macro_of}
+use Rattle.problem_data.specs.Problem.{ParamData, ProblemData}
+use Rattle.problem_data.specs.Tree.{BodyTree, means, equals}
+use Rattle.problem_data.specs.Value.{macro_position}
+use Rattle.problem_data.specs.Truth.{macro_of}
 
 pub record NameCost : Type 0 where
   pub name : List ℕ

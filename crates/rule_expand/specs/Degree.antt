@@ -1,6 +1,6 @@
 -- Products of coordinates, which no linear condition says.
 use Rattle.std.specs.Prelude.{Bool, false, ◌||◌, ◌&&◌, is_some}
-use Rattle.problem_text.specs.Value.{coordinate_of}
+use Rattle.problem_data.specs.Value.{coordinate_of}
 use Rattle.rule_expand.specs.Plain.{PlainExprTree, number, field, shape_number, negative, sum, product, least, greatest, PlainSumTree, plus, minus, PlainSums, no_sums, a_sum, PlainProductTree, times, over, modulo, PlainProducts, no_products, a_product, PlainFormulaTree, truth, falsehood, negation, all_of, any_of, implication, equivalence, comparison, quantified, PlainFormulas, no_formulas, a_formula}
 
 abbrev mutual

@@ -1,6 +1,6 @@
 -- Macros that hand one of their parameters on: a call of one is that argument.
 use Rattle.std.specs.Prelude.{◌≡◌, ℕ, ◌<◌, List, length, slice_index_or, Option, None, Some}
-use Rattle.problem_text.specs.Problem.{ProblemData}
+use Rattle.problem_data.specs.Problem.{ProblemData}
 use Rattle.rule_expand.specs.Plain as plain
 use Rattle.rule_expand.specs.Expansion.{Meant, an_expr, as_expr, expansions_of}
 

@@ -4,11 +4,11 @@ use Rattle.std.specs.Option.{option_map_or}
 use Rattle.geo_tokens.specs.declared.fault.TextFault.{TextFault}
 use Rattle.geo_tokens.specs.declared.fault.TextFault.TheVariants as faults
 use Rattle.geo_tokens.specs.declared.fault.FaultWord.TheVariants.{Expand, Product}
-use Rattle.problem_text.specs.Problem.{RangeData, DemandData, RuleData, ProblemData}
-use Rattle.problem_text.specs.Problem as written
-use Rattle.problem_text.specs.ProblemView.{range_data}
-use Rattle.problem_text.specs.Tuple.{Tuple}
-use Rattle.problem_text.specs.Truth.{formula_holds}
+use Rattle.problem_data.specs.Problem.{RangeData, DemandData, RuleData, ProblemData}
+use Rattle.problem_data.specs.Problem as written
+use Rattle.problem_data.specs.ProblemView.{range_data}
+use Rattle.problem_data.specs.Tuple.{Tuple}
+use Rattle.problem_data.specs.Truth.{formula_holds}
 use Rattle.rule_expand.specs.Plain.{PlainFormulaTree}
 use Rattle.rule_expand.specs.PlainView.{plain_formula_view}
 use Rattle.rule_expand.specs.PlainTruth.{plain_holds}

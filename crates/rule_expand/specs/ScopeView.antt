@@ -3,9 +3,9 @@ use Rattle.std.specs.Prelude.{◌≡◌, ℕ, ◌<◌, List, [], map, Some}
 use Rattle.std.specs.Option.{option_map_or}
 use Rattle.rule_syntax.specs.Tree.{ExprTree, arguments}
 use Rattle.rule_syntax.specs.View.{expr_view, argument_view, formula_view}
-use Rattle.problem_text.specs.Problem.{ProblemData}
-use Rattle.problem_text.specs.ProblemView.{param_data}
-use Rattle.problem_text.specs.Value.{macro_position}
+use Rattle.problem_data.specs.Problem.{ProblemData}
+use Rattle.problem_data.specs.ProblemView.{param_data}
+use Rattle.problem_data.specs.Value.{macro_position}
 use Rattle.rule_expand.specs.Plain as plain
 use Rattle.rule_expand.specs.Expansion.{Meant, an_expr, a_subject, Subst, Expansions, give, give_all, meant, arguments_meant, expr_expanded, formula_expanded, expansions_of}
 use Rattle.rule_expand.specs.Costs.{CostEnv, price, price_all, cost, costs, costs_of, formula_cost, formula_costs_of}

@@ -1,5 +1,5 @@
 -- The tables of a problem.
-use Rattle.problem_text.specs.Problem.{ProblemData}
+use Rattle.problem_data.specs.Problem.{ProblemData}
 use Rattle.rule_names.specs.Table.{AreTables as AreNameTables}
 use Rattle.rule_expand.specs.Handed.{AreHanded}
 use Rattle.rule_expand.specs.declared.table.Tables.{Tables}

@@ -1,7 +1,7 @@
 //! Whether a rule without macros multiplies coordinates.
 
 ghost use Rattle.std.specs.Prelude.{◌≡◌, ◌||◌, is_some, map};
-ghost use Rattle.problem_text.specs.Value.{coordinate_of};
+ghost use Rattle.problem_data.specs.Value.{coordinate_of};
 ghost use Rattle.rule_expand.specs.Degree.{has_coordinate, expr_breaks, sum_has, sum_breaks, sums_have, sums_break, product_has, product_breaks, products_have, products_break, formula_breaks, formulas_break};
 ghost use Rattle.rule_expand.specs.PlainView.{plain_expr_view, plain_sum_view, plain_sums_view, plain_product_view, plain_products_view, plain_formula_view, plain_formulas_view};
 

@@ -4,7 +4,7 @@ ghost use Rattle.std.specs.Prelude.{◌≡◌, ◌+◌, ◌<◌, ◌≤◌, Matc
 ghost use Rattle.std.specs.Option.{option_map_or};
 ghost use Rattle.rule_syntax.specs.Tree as tree;
 ghost use Rattle.rule_syntax.specs.View.{expr_view, sum_view, product_view, argument_view};
-ghost use Rattle.problem_text.specs.Value.{macro_position};
+ghost use Rattle.problem_data.specs.Value.{macro_position};
 ghost use Rattle.rule_expand.specs.Plain as plain;
 ghost use Rattle.rule_expand.specs.PlainView.{plain_sum_view, plain_product_view};
 ghost use Rattle.rule_expand.specs.Expansion.{as_expr, expansions_of, expr_expanded, field_of, meant_by, product_expanded, products_expanded, shape_expr, sum_expanded, sums_expanded};
@@ -23,7 +23,7 @@ use crate::plain::{PlainExpr, PlainProd, PlainSum};
 use crate::scope::{Found, Scope, look_up, value_macro};
 use crate::table::Tables;
 use geo_tokens::name::Name;
-use problem_text::problem::Problem;
+use problem_data::problem::Problem;
 use rule_names::table::position_of;
 use rule_syntax::tree::{Argument, Expr, PlacedName, ProdStep, SumStep};
 use std::alloc::Global;

@@ -4,7 +4,7 @@ ghost use Rattle.std.specs.Prelude.{◌≡◌, ◌+◌, ◌<◌, ◌^◌, ◌++�
 ghost use Rattle.std.specs.List.{cons_option};
 ghost use Rattle.rule_syntax.specs.Tree as tree;
 ghost use Rattle.rule_syntax.specs.View.{argument_view, coll_view, expr_view, formula_view};
-ghost use Rattle.problem_text.specs.Truth.{listed_objects};
+ghost use Rattle.problem_data.specs.Truth.{listed_objects};
 ghost use Rattle.rule_expand.specs.Plain as plain;
 ghost use Rattle.rule_expand.specs.PlainView.{plain_coll_view};
 ghost use Rattle.rule_expand.specs.Expansion.{binders, coll_expanded, expansions_of, expr_expanded, formula_expanded, formulas_expanded};
@@ -22,7 +22,7 @@ use crate::make::{
 use crate::plain::{PlainColl, PlainFormula};
 use crate::scope::{Found, Scope, formula_macro, look_up};
 use crate::table::Tables;
-use problem_text::problem::Problem;
+use problem_data::problem::Problem;
 use rule_names::table::position_of;
 use rule_syntax::tree::{Argument, Coll, Expr, Formula, PlacedName, QuantKind, Rel};
 use std::alloc::{AllocError, Global};

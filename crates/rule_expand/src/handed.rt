@@ -6,18 +6,18 @@
 ghost use Rattle.std.specs.Prelude.{◌≡◌, ◌<◌, ℕ, List, IfOk, MatchOption, length, map};
 ghost use Rattle.rule_syntax.specs.Tree as tree;
 ghost use Rattle.rule_syntax.specs.View.{argument_view, expr_view};
-ghost use Rattle.problem_text.specs.Problem.{ProblemData};
-ghost use Rattle.problem_text.specs.ProblemView.{param_data};
-ghost use Rattle.problem_text.specs.Value.{macro_position};
-ghost use Rattle.problem_text.specs.Truth.{macro_of};
+ghost use Rattle.problem_data.specs.Problem.{ProblemData};
+ghost use Rattle.problem_data.specs.ProblemView.{param_data};
+ghost use Rattle.problem_data.specs.Value.{macro_position};
+ghost use Rattle.problem_data.specs.Truth.{macro_of};
 ghost use Rattle.rule_expand.specs.Expansion.{Meant, as_expr, expansions_of, expr_expanded, give_all, meant_by};
 ghost use Rattle.rule_expand.specs.Handed.{AreHanded, HandsOn, IsHandedIndex, nth_meant};
 ghost use Rattle.rule_names.specs.Table.{found};
 
 use crate::scope::parameter_index;
 use geo_tokens::name::Name;
-use problem_text::problem::{MacroDef, ParamDef, Problem};
-use problem_text::tree::MacroBody;
+use problem_data::problem::{MacroDef, ParamDef, Problem};
+use problem_data::tree::MacroBody;
 use rule_names::table::{NameTable, position_of};
 use rule_syntax::tree::{Argument, Expr, PlacedName};
 use std::alloc::{AllocError, Global};

@@ -1,7 +1,7 @@
 //! Rules without macros: variables, objects and shapes stand by numbers.
 
 use geo_tokens::name::Name;
-use problem_text::problem::RangeDef;
+use problem_data::problem::RangeDef;
 use rule_syntax::tree::{QuantKind, Rel};
 
 /// What a field or a list of boxes is taken of.

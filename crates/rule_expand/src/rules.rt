@@ -1,8 +1,8 @@
 //! All rules of a problem without their macros.
 
 ghost use Rattle.std.specs.Prelude.{◌≡◌, None, false, IfOk, List, MatchResult, map, ◌++◌, ◌∷◌, []};
-ghost use Rattle.problem_text.specs.Tuple.{Tuple};
-ghost use Rattle.problem_text.specs.ProblemView.{range_data};
+ghost use Rattle.problem_data.specs.Tuple.{Tuple};
+ghost use Rattle.problem_data.specs.ProblemView.{range_data};
 ghost use Rattle.rule_expand.specs.Rules.{AllAskSame, IsFaultOf, IsRuleFault, expansion_fault, first_place, is_large, large_fault, multiplies_coordinates, plain_rule_data, rule_expanded, rules_expanded};
 ghost use Rattle.rule_expand.specs.Table.{AreTables};
 
@@ -13,7 +13,7 @@ use crate::plain::{PlainBody, PlainRule};
 use crate::scope::Scope;
 use crate::table::{Tables, tables_of};
 use geo_tokens::fault::{FaultWord, TextFault};
-use problem_text::problem::{Demand, Problem, RangeDef, RuleDef};
+use problem_data::problem::{Demand, Problem, RangeDef, RuleDef};
 use std::alloc::{AllocError, Global};
 
 /// How many nodes an expanded rule may have.

@@ -3,11 +3,11 @@
 ghost use Rattle.std.specs.Prelude.{◌≡◌, ◌≤◌, [], MatchOption, length, map, take};
 ghost use Rattle.std.specs.List.{position};
 ghost use Rattle.std.specs.Str.{bytes_eq};
-ghost use Rattle.problem_text.specs.ProblemView.{param_data};
+ghost use Rattle.problem_data.specs.ProblemView.{param_data};
 ghost use Rattle.std.specs.Option.{option_map_or};
 ghost use Rattle.rule_syntax.specs.Tree.{arguments, param};
 ghost use Rattle.rule_syntax.specs.View.{argument_view, expr_view};
-ghost use Rattle.problem_text.specs.Problem.{ProblemData};
+ghost use Rattle.problem_data.specs.Problem.{ProblemData};
 ghost use Rattle.rule_expand.specs.Costs.{cost_by, cost, costs, price_all, CostEnv, MacroCosts};
 ghost use Rattle.rule_expand.specs.Expansion.{meant_by, meant, arguments_meant, give_all, Subst, Expansions};
 ghost use Rattle.rule_expand.specs.ScopeView.{scope_view, prices, found_meant, found_cost, IsNoName, IsValueMacro, IsNoValueMacro, IsFormulaMacro, IsNoFormulaMacro};
@@ -16,8 +16,8 @@ ghost use Rattle.rule_expand.specs.Table.{AreTables};
 use crate::plain::Subject;
 use crate::table::Tables;
 use geo_tokens::name::Name;
-use problem_text::problem::{ParamDef, Problem};
-use problem_text::tree::MacroBody;
+use problem_data::problem::{ParamDef, Problem};
+use problem_data::tree::MacroBody;
 use rule_names::table::position_of;
 use rule_syntax::tree::{Argument, Expr, Formula, PlacedName};
 

@@ -4,7 +4,7 @@ ghost use Rattle.std.specs.Prelude.{IfOk};
 ghost use Rattle.rule_expand.specs.Table.{AreTables};
 
 use crate::handed::handed_parameters;
-use problem_text::problem::Problem;
+use problem_data::problem::Problem;
 use rule_names::table::{Tables as NameTables, tables_of as name_tables};
 use std::alloc::{AllocError, Global};
 

@@ -5,15 +5,15 @@ use Rattle.std.proofs.Math.Logic.{⊎_elim}
 use Rattle.std.proofs.lemmas.Bool.{cases_lt}
 use Rattle.std.proofs.lemmas.List.{length-take, length-map}
 use Rattle.geo_tokens.specs.declared.fault.FaultWord.TheVariants as words
-use Rattle.problem_text.specs.Tree.{BoxTree, ShapeTree}
-use Rattle.problem_text.specs.Least.{fault}
-use Rattle.problem_text.specs.Parts.{parts_of}
-use Rattle.problem_text.specs.Limits.{IsSmall, IsSize}
-use Rattle.problem_text.specs.Faults.{Among, BoxFault, OffsetFault, SizeFault, ShapeFault, ShapesFault, shapes, count_of}
-use Rattle.problem_text.specs.FirstFault.{Accepts}
-use Rattle.problem_text.specs.Problem.{ShapeData, ProblemData}
-use Rattle.problem_text.specs.Meaning.{number_of, box_of, shape_of}
-use Rattle.problem_text.proofs.NoFault.{NoFault, none_among, small_number, size_number, all_mapped}
+use Rattle.problem_data.specs.Tree.{BoxTree, ShapeTree}
+use Rattle.problem_data.specs.Least.{fault}
+use Rattle.problem_data.specs.Parts.{parts_of}
+use Rattle.problem_data.specs.Limits.{IsSmall, IsSize}
+use Rattle.problem_data.specs.Faults.{Among, BoxFault, OffsetFault, SizeFault, ShapeFault, ShapesFault, shapes, count_of}
+use Rattle.problem_data.specs.Accepted.{Accepts}
+use Rattle.problem_data.specs.Problem.{ShapeData, ProblemData}
+use Rattle.problem_data.specs.Meaning.{number_of, box_of, shape_of}
+use Rattle.problem_data.proofs.NoFault.{NoFault, none_among, small_number, size_number, all_mapped}
 use Rattle.rule_ground.specs.Shapes.{IsSmallBox, HasSmallShapes}
 
 box-small : (k : ℕ) (before : List BoxTree) (b : BoxTree) → NoFault (BoxFault k before b) → IsSmallBox (box_of b)

@@ -6,9 +6,9 @@ use Rattle.std.proofs.lemmas.List.FromFn.{length-range_with_len, get_or-range_wi
 use Rattle.std.proofs.Math.ListN.{drop_of_length-le}
 use Rattle.geo_conditions.specs.declared.cond.Cond.{Cond}
 use Rattle.rule_syntax.specs.declared.tree.QuantKind.{QuantKind}
-use Rattle.problem_text.specs.Problem.{ProblemData}
-use Rattle.problem_text.specs.Tuple.{object_of}
-use Rattle.problem_text.specs.Value.{Thing, Number}
+use Rattle.problem_data.specs.Problem.{ProblemData}
+use Rattle.problem_data.specs.Tuple.{object_of}
+use Rattle.problem_data.specs.Value.{Thing, Number}
 use Rattle.rule_expand.specs.declared.plain.Subject.TheVariants as subjects
 use Rattle.rule_expand.specs.Plain.{PlainCollTree, PlainFormulaTree, quantified}
 use Rattle.rule_expand.specs.PlainTruth.{PlainEnv, set_variable}

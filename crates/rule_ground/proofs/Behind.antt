@@ -4,7 +4,7 @@ use Rattle.std.proofs.lemmas.List.{drop_more, map-append}
 use Rattle.std.proofs.Math.ListN.{drop_of_length-le}
 use Rattle.std.specs.Prelude.{Result, Ok, Err, MatchResult}
 use Rattle.geo_conditions.specs.declared.cond.Cond.{Cond}
-use Rattle.problem_text.specs.Problem.{ProblemData}
+use Rattle.problem_data.specs.Problem.{ProblemData}
 use Rattle.rule_expand.specs.Plain.{PlainFormulaTree, PlainFormulas, a_formula}
 use Rattle.rule_expand.specs.PlainTruth.{PlainEnv}
 use Rattle.rule_expand.specs.PlainView.{plain_formula_view, plain_formulas_view}

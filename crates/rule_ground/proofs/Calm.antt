@@ -5,11 +5,11 @@ use Rattle.std.proofs.Math.Logic.{⊎_elim}
 use Rattle.std.proofs.lemmas.Bool.{false≢true}
 use Rattle.geo_base.specs.Tuple.{Tuple, spot}
 use Rattle.rule_syntax.specs.declared.tree.Rel.{Rel}
-use Rattle.problem_text.specs.Problem.{ProblemData}
-use Rattle.problem_text.specs.Tuple.{object_of}
-use Rattle.problem_text.specs.Value.{Thing, Number, Object, Part}
-use Rattle.problem_text.specs.Cells.{IsTuple}
-use Rattle.problem_text.specs.WellFormed.{IsWellFormed}
+use Rattle.problem_data.specs.Problem.{ProblemData}
+use Rattle.problem_data.specs.Tuple.{object_of}
+use Rattle.problem_data.specs.Value.{Thing, Number, Object, Part}
+use Rattle.problem_data.specs.Cells.{IsTuple}
+use Rattle.problem_data.specs.WellFormed.{IsWellFormed}
 use Rattle.rule_expand.specs.declared.plain.Subject.{Subject}
 use Rattle.rule_expand.specs.declared.plain.Subject.TheVariants as subjects
 use Rattle.rule_expand.specs.Plain.{PlainExprTree, PlainCollTree, PlainFormulaTree, truth, falsehood, negation, all_of, any_of, implication, equivalence, comparison, quantified, PlainFormulas, no_formulas, a_formula}

@@ -7,9 +7,9 @@ use Rattle.geo_base.specs.Tuple.{Tuple}
 use Rattle.geo_tokens.specs.declared.fault.TextFault.{TextFault}
 use Rattle.geo_tokens.specs.declared.fault.TextFault.TheVariants as faults
 use Rattle.geo_tokens.specs.declared.fault.FaultWord.TheVariants.{Expand, Product}
-use Rattle.problem_text.specs.Problem.{ProblemData}
-use Rattle.problem_text.specs.Cells.{IsTuple}
-use Rattle.problem_text.specs.WellFormed.{IsWellFormed}
+use Rattle.problem_data.specs.Problem.{ProblemData}
+use Rattle.problem_data.specs.Cells.{IsTuple}
+use Rattle.problem_data.specs.WellFormed.{IsWellFormed}
 use Rattle.rule_expand.specs.Counts.{nodes, depth}
 use Rattle.rule_expand.specs.Rules.{PlainDemand, apart, within, plain, PlainRuleData, rules_expanded, is_large, multiplies_coordinates, first_place, expansion_fault}
 use Rattle.rule_values.specs.Calm.{IsCalm, IsCalmDemand, AreCalm}

@@ -8,9 +8,9 @@ use Rattle.std.proofs.lemmas.Bool.{cases_eq}
 use Rattle.std.proofs.lemmas.Int.{ints, clamps}
 use Rattle.std.proofs.lemmas.List.FromFn.{get_or-map-range_with_len}
 use Rattle.geo_base.specs.Boxes.{coordinate}
-use Rattle.problem_text.specs.Problem.{BoxData}
-use Rattle.problem_text.specs.Cells.{IsIn, BoxHas}
-use Rattle.problem_text.specs.WellFormed.{IsBox}
+use Rattle.problem_data.specs.Problem.{BoxData}
+use Rattle.problem_data.specs.Cells.{IsIn, BoxHas}
+use Rattle.problem_data.specs.WellFormed.{IsBox}
 
 -- where the box begins in the dimension d, seen from the origin
 abbrev pub low_of : BoxData → List ℤ → ℕ → ℤ

@@ -12,10 +12,10 @@ use Rattle.geo_conditions.specs.Reach.{Exists, dims}
 use Rattle.geo_conditions.specs.Conditions.{FitsIn, AllFitIn, AllFit}
 use Rattle.rule_syntax.specs.declared.tree.QuantKind.{QuantKind}
 use Rattle.rule_syntax.specs.declared.tree.QuantKind.TheVariants.{ForAll, Exists as SomeOf, AtLeast, AtMost}
-use Rattle.problem_text.specs.Problem.{BoxData, RangeData, ProblemData}
-use Rattle.problem_text.specs.Tuple.{object_of}
-use Rattle.problem_text.specs.Value.{Thing, Number, Object, Part}
-use Rattle.problem_text.specs.WellFormed.{IsObject, IsWellFormed}
+use Rattle.problem_data.specs.Problem.{BoxData, RangeData, ProblemData}
+use Rattle.problem_data.specs.Tuple.{object_of}
+use Rattle.problem_data.specs.Value.{Thing, Number, Object, Part}
+use Rattle.problem_data.specs.WellFormed.{IsObject, IsWellFormed}
 use Rattle.rule_expand.specs.declared.plain.Subject.TheVariants as subjects
 use Rattle.rule_expand.specs.Plain.{PlainFormulaTree, truth, falsehood, negation, all_of, any_of, implication, equivalence, comparison, quantified, PlainFormulas, no_formulas, a_formula}
 use Rattle.rule_expand.specs.PlainTruth.{PlainEnv, set_variable}

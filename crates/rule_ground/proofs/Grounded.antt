@@ -6,7 +6,7 @@ use Rattle.std.specs.declared.alloc.Global.{Global}
 use Rattle.geo_tokens.specs.declared.fault.TextFault.{TextFault}
 use Rattle.geo_tokens.specs.declared.fault.TextFault.TheVariants as faults
 use Rattle.geo_conditions.specs.declared.cond.Cond.{Cond}
-use Rattle.problem_text.specs.Problem.{ProblemData}
+use Rattle.problem_data.specs.Problem.{ProblemData}
 use Rattle.rule_expand.specs.Rules.{PlainRuleData, rules_expanded}
 use Rattle.linear_conditions.specs.CondTree.{cond_view}
 use Rattle.rule_ground.specs.Faults.{AnswersRules}

@@ -10,11 +10,11 @@ use Rattle.geo_base.specs.Tuple.{Tuple}
 use Rattle.geo_tokens.specs.declared.fault.TextFault.{TextFault}
 use Rattle.geo_conditions.specs.declared.cond.Cond.{Cond}
 use Rattle.geo_conditions.specs.Conditions.{holds, AllHold}
-use Rattle.problem_text.specs.Problem.{DemandData, RuleData, ProblemData}
-use Rattle.problem_text.specs.Problem as written
-use Rattle.problem_text.specs.Cells.{IsApart, IsWithin, IsShaped, IsTuple}
-use Rattle.problem_text.specs.Layouts.{DemandHolds}
-use Rattle.problem_text.specs.WellFormed.{IsDemand, IsWellFormed}
+use Rattle.problem_data.specs.Problem.{DemandData, RuleData, ProblemData}
+use Rattle.problem_data.specs.Problem as written
+use Rattle.problem_data.specs.Cells.{IsApart, IsWithin, IsShaped, IsTuple}
+use Rattle.problem_data.specs.Layouts.{DemandHolds}
+use Rattle.problem_data.specs.WellFormed.{IsDemand, IsWellFormed}
 use Rattle.rule_expand.specs.PlainTruth.{plain_holds}
 use Rattle.rule_expand.specs.Rules.{PlainDemand, apart, within, plain, PlainRuleData, demand_expanded, rule_expanded, rules_expanded, expansion_fault, first_place, is_large, multiplies_coordinates}
 use Rattle.rule_expand.proofs.Expanded.{expanded-holds}

@@ -4,7 +4,7 @@ use Rattle.std.specs.List.{flat_map, range_with_len}
 use Rattle.std.proofs.lemmas.Nat.{mul-le}
 use Rattle.std.proofs.lemmas.List.{length-append, length-map}
 use Rattle.std.proofs.lemmas.List.FromFn.{length-range_with_len}
-use Rattle.problem_text.specs.Problem.{BoxData, RangeData, ProblemData}
+use Rattle.problem_data.specs.Problem.{BoxData, RangeData, ProblemData}
 use Rattle.rule_ground.specs.Shapes.{places}
 use Rattle.rule_values.specs.Shapes.{boxes_at}
 use Rattle.rule_ground.specs.Apart.{apart_condition, apart_from_box, apart_at_places, apart_at_place, apart_of, apart_behind}

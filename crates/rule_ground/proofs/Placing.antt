@@ -8,10 +8,10 @@ use Rattle.std.proofs.lemmas.Bool.{cases_lt, eq-eqb, ltb-false}
 use Rattle.std.proofs.lemmas.List.{get_or_past}
 use Rattle.std.proofs.lemmas.List.Elements.{All-nil}
 use Rattle.geo_base.specs.Tuple.{Tuple, spot}
-use Rattle.problem_text.specs.Problem.{BoxData, ShapeData, ProblemData}
-use Rattle.problem_text.specs.Tuple.{object_of, boxes_of_shape, boxes_in}
-use Rattle.problem_text.specs.Cells.{IsShaped}
-use Rattle.problem_text.specs.WellFormed.{IsBox, IsWellFormed}
+use Rattle.problem_data.specs.Problem.{BoxData, ShapeData, ProblemData}
+use Rattle.problem_data.specs.Tuple.{object_of, boxes_of_shape, boxes_in}
+use Rattle.problem_data.specs.Cells.{IsShaped}
+use Rattle.problem_data.specs.WellFormed.{IsBox, IsWellFormed}
 use Rattle.linear_conditions.specs.CondTree.{shape_is_not, true_on}
 use Rattle.rule_ground.specs.Shapes.{IsPlace, has_several, other_shape, IsSmallBox, HasSmallShapes}
 use Rattle.rule_values.specs.Shapes.{boxes_at}

@@ -4,11 +4,11 @@ use Rattle.std.proofs.Math.Logic.{⊎_elim}
 use Rattle.std.proofs.lemmas.Bool.{cases_lt}
 use Rattle.std.proofs.lemmas.Bool.Decides.{nat_tests}
 use Rattle.std.proofs.lemmas.List.{get_or_past}
-use Rattle.problem_text.specs.Problem.{ObjectData, ProblemData}
-use Rattle.problem_text.specs.Tuple.{object_of}
-use Rattle.problem_text.specs.FirstFault.{IsSaid}
-use Rattle.problem_text.specs.WellFormed.{IsWellFormed}
-use Rattle.problem_text.proofs.OneProblem.{accepted_well_formed}
+use Rattle.problem_data.specs.Problem.{ObjectData, ProblemData}
+use Rattle.problem_data.specs.Tuple.{object_of}
+use Rattle.problem_data.specs.Accepted.{IsSaid}
+use Rattle.problem_data.specs.WellFormed.{IsWellFormed}
+use Rattle.problem_data.proofs.Accepted.{accepted_well_formed}
 use Rattle.rule_ground.specs.Shapes.{has_several, HasSmallShapes}
 use Rattle.rule_ground.proofs.Settled.{several-there}
 use Rattle.rule_ground.proofs.Accepted.{accepted-small}

@@ -6,10 +6,10 @@ use Rattle.std.proofs.lemmas.Bool.Decides.{nat_tests}
 use Rattle.std.proofs.lemmas.Bool.{cases_lt}
 use Rattle.std.proofs.lemmas.List.{get_or_past}
 use Rattle.geo_base.specs.Tuple.{Tuple, spot}
-use Rattle.problem_text.specs.Problem.{ObjectData, ProblemData}
-use Rattle.problem_text.specs.Tuple.{object_of, shape_of}
-use Rattle.problem_text.specs.Value.{Thing, Number, Object, Part}
-use Rattle.problem_text.specs.Cells.{IsTuple}
+use Rattle.problem_data.specs.Problem.{ObjectData, ProblemData}
+use Rattle.problem_data.specs.Tuple.{object_of, shape_of}
+use Rattle.problem_data.specs.Value.{Thing, Number, Object, Part}
+use Rattle.problem_data.specs.Cells.{IsTuple}
 use Rattle.rule_expand.specs.declared.plain.Subject.{Subject}
 use Rattle.rule_expand.specs.declared.plain.Subject.TheVariants as subjects
 use Rattle.rule_expand.specs.PlainTruth.{PlainEnv, set_variable, subject_in}

@@ -11,11 +11,11 @@ use Rattle.geo_base.specs.Tuple.{Tuple, spot}
 use Rattle.geo_conditions.specs.Reach.{count}
 use Rattle.rule_syntax.specs.declared.tree.QuantKind.{QuantKind}
 use Rattle.rule_syntax.specs.declared.tree.QuantKind.TheVariants.{ForAll, Exists, AtLeast, AtMost}
-use Rattle.problem_text.specs.Problem.{ProblemData}
-use Rattle.problem_text.specs.Tuple.{object_of, boxes_of_shape}
-use Rattle.problem_text.specs.Value.{Thing, Number, Object, Part}
-use Rattle.problem_text.specs.Truth.{same_truth, quantify, boxes_of_thing}
-use Rattle.problem_text.specs.Cells.{IsTuple}
+use Rattle.problem_data.specs.Problem.{ProblemData}
+use Rattle.problem_data.specs.Tuple.{object_of, boxes_of_shape}
+use Rattle.problem_data.specs.Value.{Thing, Number, Object, Part}
+use Rattle.problem_data.specs.Truth.{same_truth, quantify, boxes_of_thing}
+use Rattle.problem_data.specs.Cells.{IsTuple}
 use Rattle.rule_expand.specs.declared.plain.Subject.{Subject}
 use Rattle.rule_expand.specs.declared.plain.Subject.TheVariants as subjects
 use Rattle.rule_expand.specs.Plain.{PlainCollTree, all_objects, listed, boxes_of, PlainFormulaTree, truth, falsehood, negation, all_of, any_of, implication, equivalence, comparison, quantified, PlainFormulas, no_formulas, a_formula}

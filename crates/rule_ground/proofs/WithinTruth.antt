@@ -10,10 +10,10 @@ use Rattle.std.proofs.lemmas.List.Elements.{All-nil, All-cons, All-head, All-tai
 use lib.Signed.{le_z}
 use Rattle.geo_base.specs.Boxes.{coordinate}
 use Rattle.geo_base.specs.Tuple.{Tuple, spot}
-use Rattle.problem_text.specs.Problem.{BoxData, RangeData, ProblemData}
-use Rattle.problem_text.specs.Tuple.{object_of}
-use Rattle.problem_text.specs.Cells.{BoxHas, box_at, range_at, IsInRanges, IsCellOf, IsWithin, IsShaped}
-use Rattle.problem_text.specs.WellFormed.{IsBox, IsWellFormed}
+use Rattle.problem_data.specs.Problem.{BoxData, RangeData, ProblemData}
+use Rattle.problem_data.specs.Tuple.{object_of}
+use Rattle.problem_data.specs.Cells.{BoxHas, box_at, range_at, IsInRanges, IsCellOf, IsWithin, IsShaped}
+use Rattle.problem_data.specs.WellFormed.{IsBox, IsWellFormed}
 use Rattle.linear_conditions.specs.CondTree.{CondTree, shape_is_not, at_least, conds, true_on}
 use Rattle.rule_ground.specs.Shapes.{places, IsPlace, has_several}
 use Rattle.rule_values.specs.Shapes.{boxes_at}

@@ -3,7 +3,7 @@ use Rattle.std.specs.Prelude.{◌≡◌, List, ◌++◌, map, Result, MatchResul
 use Rattle.std.specs.declared.vec.Vec.{Vec}
 use Rattle.std.specs.declared.alloc.Global.{Global}
 use Rattle.geo_conditions.specs.declared.cond.Cond.{Cond}
-use Rattle.problem_text.specs.Problem.{ProblemData}
+use Rattle.problem_data.specs.Problem.{ProblemData}
 use Rattle.rule_expand.specs.PlainTruth.{set_variable}
 use Rattle.rule_expand.specs.PlainView.{plain_formula_view}
 use Rattle.linear_conditions.specs.CondTree.{CondTree, cond_view}

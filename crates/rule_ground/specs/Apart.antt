@@ -2,7 +2,7 @@
 use Rattle.std.specs.Prelude.{ℕ, ◌+◌, ◌-◌, pos, negsuc, ◌+ℤ◌, ◌-ℤ◌, List, [], ◌∷◌, ◌++◌, map, length}
 use Rattle.std.specs.List.{range_with_len, flat_map}
 use Rattle.geo_base.specs.Boxes.{coordinate}
-use Rattle.problem_text.specs.Problem.{BoxData, ProblemData}
+use Rattle.problem_data.specs.Problem.{BoxData, ProblemData}
 use Rattle.linear_conditions.specs.CondTree.{CondTree, linear, at_least, conds}
 use Rattle.rule_ground.specs.Shapes.{places, other_shape, term}
 use Rattle.rule_values.specs.Shapes.{boxes_at}

@@ -1,6 +1,6 @@
 -- How many boxes objects have.
 use Rattle.std.specs.Prelude.{ℕ, ◌+◌, List, [], ◌∷◌, length}
-use Rattle.problem_text.specs.Problem.{ProblemData}
+use Rattle.problem_data.specs.Problem.{ProblemData}
 use Rattle.rule_ground.specs.Shapes.{places}
 use Rattle.rule_values.specs.Shapes.{boxes_at}
 

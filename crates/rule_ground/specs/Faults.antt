@@ -6,8 +6,8 @@ use Rattle.geo_tokens.specs.declared.fault.TextFault.{TextFault}
 use Rattle.geo_tokens.specs.declared.fault.TextFault.TheVariants as faults
 use Rattle.geo_tokens.specs.declared.fault.FaultWord.TheVariants as words
 use Rattle.geo_conditions.specs.declared.cond.Cond.{Cond}
-use Rattle.problem_text.specs.Problem.{ProblemData}
-use Rattle.problem_text.specs.WellFormed.{IsRange}
+use Rattle.problem_data.specs.Problem.{ProblemData}
+use Rattle.problem_data.specs.WellFormed.{IsRange}
 use Rattle.rule_expand.specs.Rules.{PlainDemand, apart, within, plain}
 use Rattle.linear_conditions.specs.CondTree.{CondTree, cond_view}
 use Rattle.linear_conditions.specs.declared.fault.GroundFault.{GroundFault}

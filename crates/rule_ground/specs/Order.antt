@@ -2,9 +2,9 @@
 use Rattle.std.specs.Prelude.{Bool, true, false, List, map}
 use Rattle.geo_base.specs.Tuple.{Tuple}
 use Rattle.geo_conditions.specs.Walk.{Order, Variable, variables_in, values, Precedes}
-use Rattle.problem_text.specs.declared.tree.Side.{Side}
-use Rattle.problem_text.specs.declared.tree.Side.TheVariants.{Low, High}
-use Rattle.problem_text.specs.Problem.{ProblemData}
+use Rattle.problem_data.specs.declared.tree.Side.{Side}
+use Rattle.problem_data.specs.declared.tree.Side.TheVariants.{Low, High}
+use Rattle.problem_data.specs.Problem.{ProblemData}
 
 -- whether the values of a coordinate are tried from the high end down
 abbrev pub runs_down : Side → Bool

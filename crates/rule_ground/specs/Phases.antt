@@ -7,7 +7,7 @@ use Rattle.geo_tokens.specs.declared.fault.FaultWord.{FaultWord}
 use Rattle.geo_tokens.specs.declared.fault.TextFault.{TextFault}
 use Rattle.geo_tokens.specs.declared.fault.TextFault.TheVariants as faults
 use Rattle.geo_conditions.specs.declared.cond.Cond.{Cond}
-use Rattle.problem_text.specs.Problem.{ProblemData}
+use Rattle.problem_data.specs.Problem.{ProblemData}
 use Rattle.rule_names.specs.Answers.{AreNamesRight, HasFirstMistake}
 use Rattle.rule_expand.specs.Rules.{expansion_fault}
 use Rattle.linear_conditions.specs.CondTree.{cond_view}

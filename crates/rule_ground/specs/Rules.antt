@@ -2,7 +2,7 @@
 use Rattle.std.specs.Prelude.{ℕ, ◌+◌, ◌==◌, Bool, false, if◌then◌else◌, List, [], ◌∷◌, ◌++◌, length, ℤ, pos, negsuc, Result, Ok, Err}
 use Rattle.geo_tokens.specs.declared.fault.TextFault.{TextFault}
 use Rattle.geo_tokens.specs.declared.fault.TextFault.TheVariants as faults
-use Rattle.problem_text.specs.Problem.{ProblemData}
+use Rattle.problem_data.specs.Problem.{ProblemData}
 use Rattle.rule_expand.specs.Rules.{PlainDemand, apart, within, plain, PlainRuleData, rules_expanded}
 use Rattle.linear_conditions.specs.CondTree.{CondTree, linear, shape_is, shape_is_not, at_least, CondTrees, no_conds, a_cond}
 use Rattle.linear_conditions.specs.Counts.{Counts, Outcome, Fault, Done, and_then, within_limits}

@@ -2,9 +2,9 @@
 use Rattle.std.specs.Prelude.{ℕ, ◌≤◌, ◌<◌, nat_lt, Bool, if◌then◌else◌, ℤ, List, [], ◌∷◌, length, All}
 use Rattle.std.specs.List.{range_with_len}
 use Rattle.geo_conditions.specs.declared.form.Term.{Term}
-use Rattle.problem_text.specs.Limits.{IsSmall, IsSize, most_boxes}
-use Rattle.problem_text.specs.Problem.{BoxData, ShapeData, ProblemData}
-use Rattle.problem_text.specs.Tuple.{object_of}
+use Rattle.problem_data.specs.Limits.{IsSmall, IsSize, most_boxes}
+use Rattle.problem_data.specs.Problem.{BoxData, ShapeData, ProblemData}
+use Rattle.problem_data.specs.Tuple.{object_of}
 use Rattle.linear_conditions.specs.CondTree.{CondTree, shape_is_not}
 
 -- the places of the shapes of the object o

@@ -1,6 +1,6 @@
 -- The state in which a search begins: all shapes and all ranges.
 use Rattle.std.specs.Prelude.{◌≤ℤ◌, ℕ, pos, negsuc, map, length}
-use Rattle.problem_text.specs.Problem.{RangeData, ObjectData, ProblemData}
+use Rattle.problem_data.specs.Problem.{RangeData, ObjectData, ProblemData}
 use Rattle.geo_conditions.specs.Reach.{State, Reach, Region, first_places, low, high}
 
 -- the points that the ranges of an object allow

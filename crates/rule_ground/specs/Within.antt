@@ -2,8 +2,8 @@
 use Rattle.std.specs.Prelude.{ℕ, pos, negsuc, ◌+ℤ◌, ◌-ℤ◌, if◌then◌else◌, List, [], ◌∷◌, length}
 use Rattle.std.specs.List.{range_with_len, flat_map}
 use Rattle.geo_base.specs.Boxes.{coordinate}
-use Rattle.problem_text.specs.Problem.{BoxData, RangeData, ProblemData}
-use Rattle.problem_text.specs.Cells.{range_at}
+use Rattle.problem_data.specs.Problem.{BoxData, RangeData, ProblemData}
+use Rattle.problem_data.specs.Cells.{range_at}
 use Rattle.linear_conditions.specs.CondTree.{CondTree, linear, shape_is_not, at_least, conds}
 use Rattle.rule_ground.specs.Shapes.{places, has_several, term}
 use Rattle.rule_values.specs.Shapes.{boxes_at}

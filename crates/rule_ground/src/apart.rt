@@ -3,8 +3,8 @@
 ghost use Rattle.std.specs.Prelude.{◌≡◌, ◌<◌, ◌+ℤ◌, ◌-ℤ◌, ◌++◌, IfOk, OnOk, length, map};
 ghost use Rattle.geo_base.specs.Boxes.{coordinate};
 ghost use Rattle.geo_conditions.specs.Form.{IsBounded};
-ghost use Rattle.problem_text.specs.Limits.{IsSize, IsSmall};
-ghost use Rattle.problem_text.specs.WellFormed.{IsBox, IsWellFormed};
+ghost use Rattle.problem_data.specs.Limits.{IsSize, IsSmall};
+ghost use Rattle.problem_data.specs.WellFormed.{IsBox, IsWellFormed};
 ghost use Rattle.rule_ground.specs.Apart.{apart_at_place, apart_at_places, apart_behind, apart_condition, apart_conditions, apart_from_box, apart_of, parted_in};
 ghost use Rattle.linear_conditions.specs.CondTree.{cond_view};
 ghost use Rattle.rule_ground.specs.Shapes.{HasSmallShapes, IsPlace, IsSmallBox};
@@ -12,7 +12,7 @@ ghost use Rattle.rule_ground.specs.Shapes.{HasSmallShapes, IsPlace, IsSmallBox};
 use crate::literals::{at_least, at_most};
 use crate::shapes::{Placed, boxes, places, push_other_shape};
 use geo_conditions::{Cond, Conds, ObjId};
-use problem_text::problem::{BoxDef, Problem};
+use problem_data::problem::{BoxDef, Problem};
 use std::alloc::{AllocError, Global};
 
 // How far one box, which begins at an offset and has a size, reaches beyond the offset of another.

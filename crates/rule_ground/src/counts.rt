@@ -1,8 +1,8 @@
 //! How many conditions there are, counted before they are made.
 
 ghost use Rattle.std.specs.Prelude.{◌≡◌, ◌+◌, ◌-◌, ◌*◌, ◌<◌, ◌≤◌, List, length};
-ghost use Rattle.problem_text.specs.Problem.{RangeData};
-ghost use Rattle.problem_text.specs.WellFormed.{IsWellFormed};
+ghost use Rattle.problem_data.specs.Problem.{RangeData};
+ghost use Rattle.problem_data.specs.WellFormed.{IsWellFormed};
 ghost use Rattle.rule_ground.specs.Apart.{apart_behind, apart_conditions};
 ghost use Rattle.rule_ground.specs.BoxCounts.{box_count};
 ghost use Rattle.rule_ground.specs.Shapes.{HasSmallShapes, IsPlace};
@@ -11,7 +11,7 @@ ghost use Rattle.rule_ground.specs.Within.{within_conditions};
 
 use crate::shapes::{Placed, boxes, places};
 use geo_conditions::ObjId;
-use problem_text::problem::Problem;
+use problem_data::problem::Problem;
 
 // How many boxes the object has with that shape.
 fn boxes_with(problem: &Problem, at: Placed) -> u64

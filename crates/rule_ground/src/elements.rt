@@ -4,7 +4,7 @@ ghost use Rattle.std.specs.Option.{option_map_or};
 ghost use Rattle.std.specs.Prelude.{◌≡◌, ◌<◌, ◌^◌, None, Some, if◌then◌else◌, length};
 ghost use Rattle.linear_conditions.specs.Fixings.{place_of};
 ghost use Rattle.linear_conditions.specs.Views.{fixings_view};
-ghost use Rattle.problem_text.specs.Tuple.{object_of};
+ghost use Rattle.problem_data.specs.Tuple.{object_of};
 ghost use Rattle.rule_expand.specs.PlainView.{plain_coll_view};
 ghost use Rattle.rule_ground.specs.Answers.{element_view};
 ghost use Rattle.rule_ground.specs.Grounding.{element_of, is_open, things_of};
@@ -13,7 +13,7 @@ ghost use Rattle.rule_values.specs.View.{env_view, thing_view};
 
 use geo_conditions::ObjId;
 use linear_conditions::fixings::{Fixings, fixed_place, place_of};
-use problem_text::problem::Problem;
+use problem_data::problem::Problem;
 use rule_expand::plain::PlainColl;
 use rule_values::elements::{Elements, elements_of, owner};
 use rule_values::env::{Env, Thing};

@@ -25,7 +25,7 @@ use linear_conditions::counter::Counter;
 use linear_conditions::fault::GroundFault;
 use linear_conditions::fixings::Fixings;
 use linear_conditions::fold::{certain, decides, joined};
-use problem_text::problem::Problem;
+use problem_data::problem::Problem;
 use rule_expand::plain::{PlainColl, PlainFormula, Subject};
 use rule_syntax::tree::{QuantKind, Rel};
 use rule_values::elements::Elements;

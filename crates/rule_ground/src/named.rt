@@ -18,7 +18,7 @@ use geo_conditions::{Cond, ObjId};
 use linear_conditions::counter::Counter;
 use linear_conditions::fault::GroundFault;
 use linear_conditions::fixings::Fixings;
-use problem_text::problem::Problem;
+use problem_data::problem::Problem;
 use rule_expand::plain::{PlainFormula, Subject};
 use rule_values::env::{Env, Thing};
 use std::alloc::{AllocError, Global};

@@ -1,14 +1,14 @@
 //! Shapes of objects by their places, and their boxes.
 
 ghost use Rattle.std.specs.Prelude.{◌≡◌, ◌<◌, ◌++◌, All, OnOk, length, map};
-ghost use Rattle.problem_text.specs.Tuple.{object_of};
-ghost use Rattle.problem_text.specs.WellFormed.{IsBox, IsWellFormed};
+ghost use Rattle.problem_data.specs.Tuple.{object_of};
+ghost use Rattle.problem_data.specs.WellFormed.{IsBox, IsWellFormed};
 ghost use Rattle.linear_conditions.specs.CondTree.{cond_view};
 ghost use Rattle.rule_ground.specs.Shapes.{IsPlace, has_several, other_shape};
 ghost use Rattle.rule_values.specs.Shapes.{boxes_at};
 
 use geo_conditions::{Cond, Conds, ObjId};
-use problem_text::problem::{BoxDef, Problem};
+use problem_data::problem::{BoxDef, Problem};
 use rule_values::shapes::boxes_at;
 use std::alloc::AllocError;
 

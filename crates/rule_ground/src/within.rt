@@ -3,10 +3,10 @@
 ghost use Rattle.std.specs.Prelude.{◌≡◌, ◌<◌, ◌+ℤ◌, ◌-ℤ◌, ◌∷◌, ◌++◌, [], All, IfOk, OnOk, length, map, pos};
 ghost use Rattle.geo_base.specs.Boxes.{coordinate};
 ghost use Rattle.geo_conditions.specs.Form.{IsBounded};
-ghost use Rattle.problem_text.specs.Cells.{range_at};
-ghost use Rattle.problem_text.specs.Limits.{IsSize, IsSmall};
-ghost use Rattle.problem_text.specs.ProblemView.{range_data};
-ghost use Rattle.problem_text.specs.WellFormed.{IsBox, IsRange, IsWellFormed};
+ghost use Rattle.problem_data.specs.Cells.{range_at};
+ghost use Rattle.problem_data.specs.Limits.{IsSize, IsSmall};
+ghost use Rattle.problem_data.specs.ProblemView.{range_data};
+ghost use Rattle.problem_data.specs.WellFormed.{IsBox, IsRange, IsWellFormed};
 ghost use Rattle.linear_conditions.specs.CondTree.{at_least, cond_view, conds, shape_is_not};
 ghost use Rattle.rule_ground.specs.Shapes.{HasSmallShapes, IsPlace, IsSmallBox};
 ghost use Rattle.rule_ground.specs.Within.{from_low, to_high, unless_other, within_at_place, within_conditions, within_in, within_of, within_of_box};
@@ -14,7 +14,7 @@ ghost use Rattle.rule_ground.specs.Within.{from_low, to_high, unless_other, with
 use crate::literals;
 use crate::shapes::{Placed, boxes, has_several, places};
 use geo_conditions::{Cond, Conds, ObjId};
-use problem_text::problem::{BoxDef, Problem, RangeDef};
+use problem_data::problem::{BoxDef, Problem, RangeDef};
 use std::alloc::{AllocError, Global};
 
 // How far the low end of the range lies behind the place where the box begins.

@@ -5,8 +5,8 @@ use Rattle.std.specs.List.{list_any}
 use Rattle.std.specs.Str.{bytes_eq}
 use Rattle.std.proofs.lemmas.List.{take_more, take_all}
 use Rattle.std.proofs.lemmas.List.Folds.{list_any-append}
-use Rattle.problem_text.specs.declared.problem.AttributeDef.{AttributeDef}
-use Rattle.problem_text.specs.ProblemView.{attribute_data}
+use Rattle.problem_data.specs.declared.problem.AttributeDef.{AttributeDef}
+use Rattle.problem_data.specs.ProblemView.{attribute_data}
 use Rattle.rule_names.specs.Table.{later}
 
 or-none : (b : Bool) → (b || false) ≡ b

@@ -5,10 +5,10 @@ use Rattle.std.specs.List.{list_any}
 use Rattle.std.specs.Str.{bytes_eq}
 use Rattle.std.proofs.lemmas.List.{drop_more, drop_all, take_more, map-append}
 use Rattle.rule_syntax.specs.declared.tree.PlacedName.{PlacedName}
-use Rattle.problem_text.specs.Problem.{ProblemData}
-use Rattle.problem_text.specs.Value.{object_position}
-use Rattle.problem_text.specs.Seen.{met, meet}
-use Rattle.problem_text.proofs.MetNames.{met_any, met_push}
+use Rattle.problem_data.specs.Problem.{ProblemData}
+use Rattle.problem_data.specs.Value.{object_position}
+use Rattle.problem_data.specs.Seen.{met, meet}
+use Rattle.problem_data.proofs.MetNames.{met_any, met_push}
 use Rattle.rule_names.specs.declared.mistake.Mistake.{Mistake}
 use Rattle.rule_names.specs.declared.mistake.Flaw.TheVariants.{UnknownName, RepeatedName}
 use Rattle.rule_names.specs.Mistakes.{earlier, first_of, mistake_if}

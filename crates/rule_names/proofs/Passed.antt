@@ -5,10 +5,10 @@ use Rattle.std.proofs.lemmas.List.{drop_more, drop_all, length-map}
 use Rattle.rule_syntax.specs.Tree.{ArgumentTrees, arguments, no_arguments}
 use Rattle.rule_syntax.specs.declared.tree.Argument.{Argument}
 use Rattle.rule_syntax.specs.View.{argument_view}
-use Rattle.problem_text.specs.Problem.{ParamData, MacroData, ProblemData}
-use Rattle.problem_text.specs.Tree.{BodyTree}
-use Rattle.problem_text.specs.declared.problem.ParamDef.{ParamDef}
-use Rattle.problem_text.specs.ProblemView.{param_data}
+use Rattle.problem_data.specs.Problem.{ParamData, MacroData, ProblemData}
+use Rattle.problem_data.specs.Tree.{BodyTree}
+use Rattle.problem_data.specs.declared.problem.ParamDef.{ParamDef}
+use Rattle.problem_data.specs.ProblemView.{param_data}
 use Rattle.rule_names.specs.declared.mistake.Mistake.{Mistake}
 use Rattle.rule_names.specs.declared.mistake.Flaw.TheVariants.{WrongKind, WrongCount}
 use Rattle.rule_names.specs.Mistakes.{earlier, first_of, mistake_if}

@@ -7,13 +7,13 @@ use Rattle.std.proofs.lemmas.Bool.Decides.{nat_tests}
 use Rattle.std.proofs.lemmas.List.{drop_more, drop_all, get_or_default}
 use Rattle.std.proofs.lemmas.List.Quantifiers.{position-Some}
 use Rattle.rule_syntax.specs.Tree.{falsehood}
-use Rattle.problem_text.specs.Tree.{means}
-use Rattle.problem_text.specs.declared.tree.ParamKind.{ParamKind}
-use Rattle.problem_text.specs.declared.problem.ParamDef.{ParamDef}
-use Rattle.problem_text.specs.Problem.{MacroData, ProblemData}
-use Rattle.problem_text.specs.ProblemView.{param_data}
-use Rattle.problem_text.specs.Value.{macro_position}
-use Rattle.problem_text.specs.Truth.{macro_of}
+use Rattle.problem_data.specs.Tree.{means}
+use Rattle.problem_data.specs.declared.tree.ParamKind.{ParamKind}
+use Rattle.problem_data.specs.declared.problem.ParamDef.{ParamDef}
+use Rattle.problem_data.specs.Problem.{MacroData, ProblemData}
+use Rattle.problem_data.specs.ProblemView.{param_data}
+use Rattle.problem_data.specs.Value.{macro_position}
+use Rattle.problem_data.specs.Truth.{macro_of}
 use Rattle.rule_names.specs.Sight.{kind_of, kind_of_object, macro_called}
 
 -- ---- a loop over parameters

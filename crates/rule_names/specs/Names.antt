@@ -5,11 +5,11 @@ use Rattle.std.specs.List.{list_any}
 use Rattle.std.specs.Str.{bytes_eq}
 use Rattle.rule_syntax.specs.declared.tree.PlacedName.{PlacedName}
 use Rattle.rule_syntax.specs.Tree.{ExprTree, number, field, param, shape_number, negative, sum, product, least, greatest, value_call, SumTree, plus, minus, SumTrees, no_sums, a_sum, ProductTree, times, over, modulo, ProductTrees, no_products, a_product, ArgumentTree, argument, ArgumentTrees, no_arguments, an_argument, CollTree, all_objects, listed, boxes_of, FormulaTree, truth, falsehood, negation, all_of, any_of, implication, equivalence, comparison, quantified, formula_call, FormulaTrees, no_formulas, a_formula}
-use Rattle.problem_text.specs.declared.tree.ParamKind.{ParamKind}
-use Rattle.problem_text.specs.declared.tree.ParamKind.TheVariants as kinds
-use Rattle.problem_text.specs.Problem.{ParamData, MacroData, DemandData, apart, within, plain, RuleData, ProblemData}
-use Rattle.problem_text.specs.Tree.{BodyTree, means, equals}
-use Rattle.problem_text.specs.Value.{object_position, shape_position}
+use Rattle.problem_data.specs.declared.tree.ParamKind.{ParamKind}
+use Rattle.problem_data.specs.declared.tree.ParamKind.TheVariants as kinds
+use Rattle.problem_data.specs.Problem.{ParamData, MacroData, DemandData, apart, within, plain, RuleData, ProblemData}
+use Rattle.problem_data.specs.Tree.{BodyTree, means, equals}
+use Rattle.problem_data.specs.Value.{object_position, shape_position}
 use Rattle.rule_names.specs.declared.mistake.Mistake.{Mistake}
 use Rattle.rule_names.specs.declared.mistake.Flaw.TheVariants.{UnknownName, RepeatedName, WrongKind, WrongCount, UnknownField}
 use Rattle.rule_names.specs.Mistakes.{mistake, mistake_if}

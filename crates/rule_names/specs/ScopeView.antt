@@ -1,6 +1,6 @@
 -- What the names in sight of the program stand for.
 use Rattle.std.specs.Prelude.{map}
-use Rattle.problem_text.specs.ProblemView.{param_data}
+use Rattle.problem_data.specs.ProblemView.{param_data}
 use Rattle.rule_names.specs.Sight.{Sight, binding}
 use Rattle.rule_names.specs.declared.scope.Scope.{Scope}
 use Rattle.rule_names.specs.declared.scope.Scope.TheOpen.{Scope-F}

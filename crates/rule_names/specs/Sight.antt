@@ -3,11 +3,11 @@ use Rattle.std.specs.Prelude.{ℕ, Bool, true, false, ◌||◌, nat_lt, if◌the
 use Rattle.std.specs.Option.{option_map, option_map_or}
 use Rattle.std.specs.List.{list_any}
 use Rattle.std.specs.Str.{bytes_eq}
-use Rattle.problem_text.specs.declared.tree.ParamKind.{ParamKind}
-use Rattle.problem_text.specs.declared.tree.ParamKind.TheVariants as kinds
-use Rattle.problem_text.specs.Problem.{ObjectData, ParamData, MacroData, ProblemData}
-use Rattle.problem_text.specs.Value.{object_position, macro_position, dimension_of}
-use Rattle.problem_text.specs.Truth.{macro_of}
+use Rattle.problem_data.specs.declared.tree.ParamKind.{ParamKind}
+use Rattle.problem_data.specs.declared.tree.ParamKind.TheVariants as kinds
+use Rattle.problem_data.specs.Problem.{ObjectData, ParamData, MacroData, ProblemData}
+use Rattle.problem_data.specs.Value.{object_position, macro_position, dimension_of}
+use Rattle.problem_data.specs.Truth.{macro_of}
 
 -- variables and parameters in sight with their kinds, the innermost first
 abbrev pub Sight : Type 0

@@ -3,8 +3,8 @@ use Rattle.std.specs.Prelude.{◌≡◌, ℕ, List, Option, None, Some, is_some,
 use Rattle.std.specs.HashMap.{get_by}
 use Rattle.std.specs.List.{position}
 use Rattle.std.specs.Str.{bytes_eq}
-use Rattle.problem_text.specs.Problem.{ProblemData}
-use Rattle.problem_text.specs.Value.{object_position, shape_position, macro_position}
+use Rattle.problem_data.specs.Problem.{ProblemData}
+use Rattle.problem_data.specs.Value.{object_position, shape_position, macro_position}
 use Rattle.rule_names.specs.Sight.{is_attribute}
 use Rattle.rule_names.specs.declared.table.NameTable.{NameTable}
 use Rattle.rule_names.specs.declared.table.Tables.{Tables}

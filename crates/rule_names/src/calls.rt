@@ -4,8 +4,8 @@ ghost use Rattle.std.specs.Prelude.{◌≡◌, map};
 ghost use Rattle.std.specs.Option.{option_map};
 ghost use Rattle.rule_syntax.specs.Tree.{arguments};
 ghost use Rattle.rule_syntax.specs.View.{expr_view, argument_view};
-ghost use Rattle.problem_text.specs.ProblemView.{param_data};
-ghost use Rattle.problem_text.specs.View.{body_view};
+ghost use Rattle.problem_data.specs.ProblemView.{param_data};
+ghost use Rattle.problem_data.specs.View.{body_view};
 ghost use Rattle.rule_names.specs.Mistakes.{first_of};
 ghost use Rattle.rule_names.specs.Sight.{macro_called};
 ghost use Rattle.rule_names.specs.ScopeView.{scope_view};
@@ -16,8 +16,8 @@ use crate::mistake::{Flaw, Mistake, earlier, mistake_if};
 use crate::scope::{Scope, kind_of, same_kind};
 use crate::table::{Tables, position_of};
 use geo_tokens::name::Name;
-use problem_text::problem::{MacroDef, ParamDef, Problem};
-use problem_text::tree::{MacroBody, ParamKind};
+use problem_data::problem::{MacroDef, ParamDef, Problem};
+use problem_data::tree::{MacroBody, ParamKind};
 use rule_syntax::tree::{Argument, Expr, PlacedName};
 
 /// The kind of an argument; none where it is a bare name that stands for nothing.

@@ -1,8 +1,8 @@
 //! The first mistake of a problem's macros and rules.
 
 ghost use Rattle.std.specs.Prelude.{◌≡◌, [], IfOk, map};
-ghost use Rattle.problem_text.specs.ProblemView.{demand_data, param_data};
-ghost use Rattle.problem_text.specs.View.{body_view};
+ghost use Rattle.problem_data.specs.ProblemView.{demand_data, param_data};
+ghost use Rattle.problem_data.specs.View.{body_view};
 ghost use Rattle.rule_names.specs.Mistakes.{first_of};
 ghost use Rattle.rule_names.specs.ScopeView.{scope_view};
 ghost use Rattle.rule_names.specs.Names.{body_mistakes, macros_mistakes, demand_mistakes, rules_mistakes, mistakes};
@@ -15,8 +15,8 @@ use crate::mistake::{Mistake, earlier, word_of};
 use crate::scope::Scope;
 use crate::table::{Tables, tables_of};
 use geo_tokens::fault::TextFault;
-use problem_text::problem::{Demand, ParamDef, Problem};
-use problem_text::tree::MacroBody;
+use problem_data::problem::{Demand, ParamDef, Problem};
+use problem_data::tree::MacroBody;
 use std::alloc::{AllocError, Global};
 
 /// The first mistake of the body of a macro, which sees these parameters and calls the macros that are made before.

@@ -10,9 +10,9 @@ ghost use Rattle.rule_names.specs.Table.{AreTables};
 use crate::mistake::{Flaw, Mistake, earlier, mistake_if};
 use crate::scope::{Scope, kind_of, same_kind};
 use crate::table::{Tables, position_of};
-use problem_text::faults::seen::SeenNames;
-use problem_text::problem::Problem;
-use problem_text::tree::ParamKind;
+use problem_data::seen::SeenNames;
+use problem_data::problem::Problem;
+use problem_data::tree::ParamKind;
 use rule_syntax::tree::{Coll, PlacedName};
 use std::alloc::{AllocError, Global};
 

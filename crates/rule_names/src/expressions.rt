@@ -13,7 +13,7 @@ use crate::fields::{bare_mistake, field_mistake, shape_mistake};
 use crate::mistake::{Mistake, earlier};
 use crate::scope::Scope;
 use crate::table::Tables;
-use problem_text::problem::Problem;
+use problem_data::problem::Problem;
 use rule_syntax::tree::{Argument, Expr, ProdStep, SumStep};
 
 /// The first mistake of an expression, in a statement whose name stands at this place. A bare name may be of any kind where `any_kind` says

@@ -11,8 +11,8 @@ use crate::mistake::{Flaw, Mistake, mistake_if};
 use crate::scope::{Scope, kind_of, same_kind};
 use crate::table::{Tables, position_of};
 use geo_tokens::name::Name;
-use problem_text::problem::Problem;
-use problem_text::tree::ParamKind;
+use problem_data::problem::Problem;
+use problem_data::tree::ParamKind;
 use rule_syntax::tree::PlacedName;
 
 /// A letter and a digit that name one of the first dimensions.

@@ -16,7 +16,7 @@ use crate::expressions::{arguments_mistake, expr_mistake};
 use crate::mistake::{Mistake, earlier};
 use crate::scope::Scope;
 use crate::table::Tables;
-use problem_text::problem::Problem;
+use problem_data::problem::Problem;
 use rule_syntax::tree::{Coll, Expr, Formula, PlacedName};
 use std::alloc::{AllocError, Global};
 

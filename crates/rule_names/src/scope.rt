@@ -1,15 +1,15 @@
 //! The names in sight of a part of a formula, and of which kind they are.
 
 ghost use Rattle.std.specs.Prelude.{◌≡◌, map};
-ghost use Rattle.problem_text.specs.ProblemView.{param_data};
+ghost use Rattle.problem_data.specs.ProblemView.{param_data};
 ghost use Rattle.rule_names.specs.Sight.{same_kind, kind_of_object, kind_of};
 ghost use Rattle.rule_names.specs.ScopeView.{scope_view};
 ghost use Rattle.rule_names.specs.Table.{AreTables};
 
 use crate::table::{Tables, position_of};
 use geo_tokens::name::Name;
-use problem_text::problem::{ParamDef, Problem};
-use problem_text::tree::ParamKind;
+use problem_data::problem::{ParamDef, Problem};
+use problem_data::tree::ParamKind;
 
 /// The names in sight, the innermost first. The objects' names are always in sight.
 #[derive(Clone, Copy, Drop)]

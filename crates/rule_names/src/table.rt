@@ -5,7 +5,7 @@ ghost use Rattle.std.specs.List.{list_any};
 ghost use Rattle.rule_names.specs.Sight.{lists_attribute};
 ghost use Rattle.rule_names.specs.Table.{found, later, IsTableOf, AreTables};
 
-use problem_text::problem::{MacroDef, ObjectDef, Problem, ShapeDef};
+use problem_data::problem::{MacroDef, ObjectDef, Problem, ShapeDef};
 use std::alloc::{AllocError, AllocFailed, Global};
 use std::collections::HashMap;
 

@@ -13,7 +13,7 @@ pub struct PlacedName {
 
 /// An expression.
 #[cycle(expression)]
-#[derive(Debug, Drop)]
+#[derive(Debug)]
 pub enum Expr {
     /// A number.
     Num(u64, u32),
@@ -35,6 +35,25 @@ pub enum Expr {
     Max(u64, Box<Expr>, Box<Expr>),
     /// A call of a macro that gives a number.
     CallValue(u64, PlacedName, Vec<Argument>),
+}
+
+/// Written out, since a derived one is made and proved anew in each crate that drops an expression.
+impl Drop for Expr {
+    #[cycle(expression_drop)]
+    fn drop(self) {
+        match self {
+            Expr::Num(_, _) => {}
+            Expr::Field(_object, _, _field) => {}
+            Expr::Param(_name) => {}
+            Expr::ShapeNum(_, _name) => {}
+            Expr::Neg(_, _of) => {}
+            Expr::Sum(_, _first, _steps) => {}
+            Expr::Prod(_, _first, _steps) => {}
+            Expr::Min(_, _left, _right) => {}
+            Expr::Max(_, _left, _right) => {}
+            Expr::CallValue(_, _name, _arguments) => {}
+        }
+    }
 }
 
 /// What is done with a term of a sum behind the first one.

@@ -2,9 +2,9 @@
 use Rattle.std.proofs.Common.{◌≡◌, ℕ, ◌+◌, ◌<◌, ◌≤◌, true, false, cond, List, length, drop, map, get_or, ℤ, pos, sym, ap, ◌∙◌}
 use Rattle.std.specs.Str.{bytes_eq}
 use Rattle.std.proofs.lemmas.List.{drop_more, drop_all}
-use Rattle.problem_text.specs.declared.problem.AttributeDef.{AttributeDef}
-use Rattle.problem_text.specs.ProblemView.{attribute_data}
-use Rattle.problem_text.specs.Value.{attribute_in}
+use Rattle.problem_data.specs.declared.problem.AttributeDef.{AttributeDef}
+use Rattle.problem_data.specs.ProblemView.{attribute_data}
+use Rattle.problem_data.specs.Value.{attribute_in}
 
 attribute-at : (n : List ℕ) (xs : List AttributeDef) (i : ℕ) (a : AttributeDef) → i < length xs → a ≡ get_or xs i a →
     attribute_in n (map attribute_data (drop i xs)) ≡ cond (bytes_eq n a.name) a.value (attribute_in n (map attribute_data (drop (i + 1) xs)))

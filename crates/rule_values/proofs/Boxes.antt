@@ -6,11 +6,11 @@ use Rattle.std.proofs.Math.Logic.{⊎_elim}
 use Rattle.std.proofs.lemmas.Bool.{cases_lt}
 use Rattle.std.proofs.lemmas.List.{get_or_past}
 use Rattle.std.proofs.lemmas.List.Elements.{All-nil}
-use Rattle.problem_text.specs.Problem.{BoxData, ShapeData, ProblemData}
-use Rattle.problem_text.specs.Tuple.{object_of, boxes_of_shape}
-use Rattle.problem_text.specs.FirstFault.{IsSaid}
-use Rattle.problem_text.specs.WellFormed.{IsBox, IsWellFormed}
-use Rattle.problem_text.proofs.OneProblem.{accepted_well_formed}
+use Rattle.problem_data.specs.Problem.{BoxData, ShapeData, ProblemData}
+use Rattle.problem_data.specs.Tuple.{object_of, boxes_of_shape}
+use Rattle.problem_data.specs.Accepted.{IsSaid}
+use Rattle.problem_data.specs.WellFormed.{IsBox, IsWellFormed}
+use Rattle.problem_data.proofs.Accepted.{accepted_well_formed}
 use Rattle.rule_values.specs.Shapes.{boxes_at}
 
 -- the boxes of a shape that is not there are none

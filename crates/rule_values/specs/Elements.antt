@@ -3,9 +3,9 @@ use Rattle.std.specs.Prelude.{◌≡◌, ℕ, List, [], map, length, pos, slice_
 use Rattle.std.specs.Prelude.{Option, None, Some}
 use Rattle.std.specs.Option.{option_map_or}
 use Rattle.std.specs.List.{range_with_len}
-use Rattle.problem_text.specs.Problem.{ProblemData}
-use Rattle.problem_text.specs.Tuple.{Tuple, spot_of}
-use Rattle.problem_text.specs.Value.{Thing, Number, Object, Part}
+use Rattle.problem_data.specs.Problem.{ProblemData}
+use Rattle.problem_data.specs.Tuple.{Tuple, spot_of}
+use Rattle.problem_data.specs.Value.{Thing, Number, Object, Part}
 use Rattle.rule_expand.specs.Plain.{PlainCollTree, all_objects, listed, boxes_of}
 use Rattle.rule_expand.specs.PlainTruth.{PlainEnv, subject_in}
 use Rattle.rule_values.specs.Shapes.{boxes_at}

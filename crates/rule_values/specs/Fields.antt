@@ -2,9 +2,9 @@
 use Rattle.std.specs.Prelude.{ℕ, ◌+◌, if◌then◌else◌, List, ℤ, pos, slice_index_or, codes}
 use Rattle.std.specs.Option.{option_map_or}
 use Rattle.std.specs.Str.{bytes_eq}
-use Rattle.problem_text.specs.Problem.{ProblemData}
-use Rattle.problem_text.specs.Tuple.{Tuple, spot_of, object_of, shape_number_in}
-use Rattle.problem_text.specs.Value.{coordinate_of, attribute_in}
+use Rattle.problem_data.specs.Problem.{ProblemData}
+use Rattle.problem_data.specs.Tuple.{Tuple, spot_of, object_of, shape_number_in}
+use Rattle.problem_data.specs.Value.{coordinate_of, attribute_in}
 use Rattle.rule_values.specs.declared.fields.ObjectField.{ObjectField}
 use Rattle.rule_values.specs.declared.fields.ObjectField.TheVariants.{Coordinate, Shape, Constant}
 

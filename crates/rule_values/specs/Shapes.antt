@@ -3,8 +3,8 @@
 use Rattle.std.specs.Prelude.{ℕ, ◌+◌, ◌-◌, ◌==◌, if◌then◌else◌, List, [], ℤ, pos, slice_get}
 use Rattle.std.specs.Prelude.{Option, None}
 use Rattle.std.specs.Option.{option_map_or}
-use Rattle.problem_text.specs.Problem.{BoxData, ProblemData}
-use Rattle.problem_text.specs.Tuple.{object_of, boxes_of_shape}
+use Rattle.problem_data.specs.Problem.{BoxData, ProblemData}
+use Rattle.problem_data.specs.Tuple.{object_of, boxes_of_shape}
 
 -- by its position among all shapes; place 0 and places past the list are none
 abbrev pub shape_at : ProblemData → ℕ → ℕ → Option ℕ

@@ -1,6 +1,6 @@
 -- What the things and the variables in sight of the program stand for.
 use Rattle.std.specs.Prelude.{[], pos}
-use Rattle.problem_text.specs.Value as meaning
+use Rattle.problem_data.specs.Value as meaning
 use Rattle.rule_expand.specs.PlainTruth.{PlainEnv, set_variable}
 use Rattle.rule_values.specs.declared.env.Thing.{Thing}
 use Rattle.rule_values.specs.declared.env.Thing.TheVariants as things

@@ -2,8 +2,8 @@
 
 ghost use Rattle.std.specs.Prelude.{◌≡◌, ◌<◌, ◌^◌, length, map};
 ghost use Rattle.std.specs.List.{range_with_len};
-ghost use Rattle.problem_text.specs.Tuple.{Tuple};
-ghost use Rattle.problem_text.specs.Value.{Object};
+ghost use Rattle.problem_data.specs.Tuple.{Tuple};
+ghost use Rattle.problem_data.specs.Value.{Object};
 ghost use Rattle.rule_expand.specs.PlainTruth.{plain_elements};
 ghost use Rattle.rule_expand.specs.PlainView.{plain_coll_view};
 ghost use Rattle.rule_values.specs.Elements.{IsPlacedIn, element_at, elements_at, elements_view, object_in, owner_of};
@@ -11,7 +11,7 @@ ghost use Rattle.rule_values.specs.View.{env_view, thing_view};
 
 use crate::env::{Env, Thing, subject};
 use crate::shapes::boxes_at;
-use problem_text::problem::{BoxDef, Problem};
+use problem_data::problem::{BoxDef, Problem};
 use rule_expand::plain::PlainColl;
 
 /// The elements that a variable ranges over.

@@ -4,7 +4,7 @@ ghost use Rattle.std.specs.Prelude.{◌≡◌};
 ghost use Rattle.rule_expand.specs.PlainTruth.{subject_in, variable_in};
 ghost use Rattle.rule_values.specs.View.{env_view, thing_view};
 
-use problem_text::problem::BoxDef;
+use problem_data::problem::BoxDef;
 use rule_expand::plain::Subject;
 
 /// What a variable stands for.

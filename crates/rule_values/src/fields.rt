@@ -1,13 +1,13 @@
 //! Fields of objects and boxes.
 
 ghost use Rattle.std.specs.Prelude.{◌≡◌, List, map, pos, slice_index_or};
-ghost use Rattle.problem_text.specs.ProblemView.{attribute_data};
-ghost use Rattle.problem_text.specs.Tuple.{Tuple};
-ghost use Rattle.problem_text.specs.Value.{attribute_in, box_field, dimension_of, object_field};
+ghost use Rattle.problem_data.specs.ProblemView.{attribute_data};
+ghost use Rattle.problem_data.specs.Tuple.{Tuple};
+ghost use Rattle.problem_data.specs.Value.{attribute_in, box_field, dimension_of, object_field};
 ghost use Rattle.rule_values.specs.Fields.{attribute_at, field_at, field_on};
 
 use geo_tokens::name::Name;
-use problem_text::problem::{AttributeDef, BoxDef, Problem};
+use problem_data::problem::{AttributeDef, BoxDef, Problem};
 
 /// What a field of an object is.
 #[derive(Clone, Copy, Debug)]

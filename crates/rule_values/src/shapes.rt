@@ -1,10 +1,10 @@
 //! Shapes of objects, by their places from 1 in the objects' own lists.
 
 ghost use Rattle.std.specs.Prelude.{◌≡◌, All};
-ghost use Rattle.problem_text.specs.WellFormed.{IsBox};
+ghost use Rattle.problem_data.specs.WellFormed.{IsBox};
 ghost use Rattle.rule_values.specs.Shapes.{boxes_at, shape_at, shape_number_at};
 
-use problem_text::problem::{BoxDef, Problem};
+use problem_data::problem::{BoxDef, Problem};
 
 /// The shape at a place of an object's list, by its position among all shapes.
 fn shape_at(problem: &Problem, o: usize, place: u8) -> Option<u16>

@@ -2,20 +2,20 @@
 
 ghost use Rattle.std.specs.Prelude.{◌≡◌, ℕ, List, length, map, slice_get};
 ghost use Rattle.geo_tokens.specs.declared.fault.FaultWord.TheVariants.{Limit};
-ghost use Rattle.problem_text.specs.declared.tree.Int.{Int};
-ghost use Rattle.problem_text.specs.Least.{IsLeast};
-ghost use Rattle.problem_text.specs.ProblemView.{range_data};
-ghost use Rattle.problem_text.specs.WellFormed.{IsWellFormed, IsObject};
+ghost use Rattle.problem_data.specs.declared.tree.Int.{Int};
+ghost use Rattle.problem_data.specs.Least.{IsLeast};
+ghost use Rattle.problem_data.specs.ProblemView.{range_data};
+ghost use Rattle.problem_data.specs.WellFormed.{IsWellFormed, IsObject};
 ghost use Rattle.layout_text.specs.View.{line_view};
 ghost use Rattle.layout_text.specs.Faults.{NameFault, ShapeFault, CountFault, OutsideFault, RangesFault, LineFault};
 
 use crate::names::shape_position;
 use crate::tree::LineText;
 use geo_tokens::fault::FaultWord;
-use problem_text::faults::fault::{Fault, earlier, fault_if};
-use problem_text::faults::numbers::first_int;
-use problem_text::problem::{ObjectDef, Problem, RangeDef};
-use problem_text::tree::Int;
+use problem_data::fault::{Fault, earlier, fault_if};
+use statement_faults::numbers::first_int;
+use problem_data::problem::{ObjectDef, Problem, RangeDef};
+use problem_data::tree::Int;
 
 fn name_fault(object: &ObjectDef, line: &LineText) -> Option<Fault>
     ensures { IsLeast (NameFault object.now (line_view line.now)) result }

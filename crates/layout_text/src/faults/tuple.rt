@@ -1,15 +1,15 @@
 //! Whether the groups of a token line give the tuple of the lines.
 
 ghost use Rattle.std.specs.Prelude.{◌≡◌, ◌↔◌, IsTrue, All, map};
-ghost use Rattle.problem_text.specs.Meaning.{number_of};
-ghost use Rattle.problem_text.specs.WellFormed.{IsWellFormed, IsObject};
+ghost use Rattle.problem_data.specs.Meaning.{number_of};
+ghost use Rattle.problem_data.specs.WellFormed.{IsWellFormed, IsObject};
 ghost use Rattle.layout_text.specs.View.{line_view, group_view};
 ghost use Rattle.layout_text.specs.Faults.{spot_of, spots_of, tuple_of, spot_in};
 
 use crate::names::shape_position;
 use crate::tree::{GroupText, LineText};
-use problem_text::problem::{ObjectDef, Problem};
-use problem_text::tree::Int;
+use problem_data::problem::{ObjectDef, Problem};
+use problem_data::tree::Int;
 
 // The two lists have the same numbers.
 fn same_numbers(a: &[Int], b: &[Int]) -> bool

@@ -1,13 +1,13 @@
 //! The objects that statements spell.
 
 ghost use Rattle.std.specs.Prelude.{◌≡◌, ◌≤◌, map, length, IfOk};
-ghost use Rattle.problem_text.specs.View.{object_view};
-ghost use Rattle.problem_text.specs.ProblemView.{range_data, attribute_data};
-ghost use Rattle.problem_text.specs.Meaning.{position_of, range_of, attribute_of, object_of};
+ghost use Rattle.problem_data.specs.View.{object_view};
+ghost use Rattle.problem_data.specs.ProblemView.{range_data, attribute_data};
+ghost use Rattle.problem_data.specs.Meaning.{position_of, range_of, attribute_of, object_of};
 
-use crate::faults::seen::SeenNames;
-use crate::problem::{AttributeDef, ObjectDef, RangeDef};
-use crate::tree::{AttributeText, ObjectText, RangeText};
+use problem_data::seen::SeenNames;
+use problem_data::problem::{AttributeDef, ObjectDef, RangeDef};
+use problem_data::tree::{AttributeText, ObjectText, RangeText};
 use rule_syntax::tree::PlacedName;
 use std::alloc::{AllocError, Global};
 

@@ -2,13 +2,13 @@
 
 ghost use Rattle.std.specs.Prelude.{◌≡◌, ◌≤◌, map, length, replicate, IfOk};
 ghost use Rattle.std.specs.List.{range_with_len};
-ghost use Rattle.problem_text.specs.declared.tree.Side.TheVariants.{Low};
-ghost use Rattle.problem_text.specs.View.{order_view, sides_view};
-ghost use Rattle.problem_text.specs.Meaning.{order_of, side_of, sides_of};
+ghost use Rattle.problem_data.specs.declared.tree.Side.TheVariants.{Low};
+ghost use Rattle.problem_data.specs.View.{order_view, sides_view};
+ghost use Rattle.problem_data.specs.Meaning.{order_of, side_of, sides_of};
 
 use crate::build::objects::build_positions;
-use crate::faults::seen::SeenNames;
-use crate::tree::{OrderText, Side, SideText, SidesText};
+use problem_data::seen::SeenNames;
+use problem_data::tree::{OrderText, Side, SideText, SidesText};
 use std::alloc::{AllocError, Global};
 
 /// The numbers from 0 to below n.

@@ -1,13 +1,13 @@
 //! The macros and rules that statements spell.
 
 ghost use Rattle.std.specs.Prelude.{◌≡◌, map, IfOk};
-ghost use Rattle.problem_text.specs.View.{macro_view, demand_view, rule_view};
-ghost use Rattle.problem_text.specs.ProblemView.{param_data, demand_data};
-ghost use Rattle.problem_text.specs.Meaning.{param_of, macro_of, demand_of, rule_of};
+ghost use Rattle.problem_data.specs.View.{macro_view, demand_view, rule_view};
+ghost use Rattle.problem_data.specs.ProblemView.{param_data, demand_data};
+ghost use Rattle.problem_data.specs.Meaning.{param_of, macro_of, demand_of, rule_of};
 
 use crate::build::objects::build_ranges;
-use crate::problem::{Demand, MacroDef, ParamDef, RuleDef};
-use crate::tree::{MacroText, ParamText, RuleBody, RuleText};
+use problem_data::problem::{Demand, MacroDef, ParamDef, RuleDef};
+use problem_data::tree::{MacroText, ParamText, RuleBody, RuleText};
 use rule_syntax::tree::PlacedName;
 use std::alloc::{AllocError, Global};
 

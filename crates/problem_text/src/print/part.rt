@@ -2,13 +2,13 @@
 
 ghost use Rattle.std.specs.Prelude.{◌≡◌, ◌++◌, IfOk, map, flat_map};
 ghost use Rattle.rule_print.specs.Canonical.{written};
-ghost use Rattle.problem_text.specs.View.{body_view};
-ghost use Rattle.problem_text.specs.ProblemView.{range_data, attribute_data, param_data, demand_data};
+ghost use Rattle.problem_data.specs.View.{body_view};
+ghost use Rattle.problem_data.specs.ProblemView.{range_data, attribute_data, param_data, demand_data};
 ghost use Rattle.problem_text.specs.Canonical.{listed, int_spelling, ints_spelling, range_spelling, ranges_spelling, box_spelling, attribute_spelling, attributes_spelling, kind_word, param_spelling, body_spelling, demand_spelling, side_spelling};
 
 use crate::print::line::push_name;
-use crate::problem::{AttributeDef, BoxDef, Demand, ParamDef, RangeDef};
-use crate::tree::{MacroBody, ParamKind, Side};
+use problem_data::problem::{AttributeDef, BoxDef, Demand, ParamDef, RangeDef};
+use problem_data::tree::{MacroBody, ParamKind, Side};
 use geo_tokens::token::{Keyword, Sym};
 use rule_print::expression::spell_expression;
 use rule_print::formula::spell_formula;

@@ -10,8 +10,8 @@ use crate::print::line::push_line;
 use crate::print::statement::{
     push_macro, push_object, push_order, push_rule, push_shape, push_sides,
 };
-use crate::problem::{MacroDef, ObjectDef, Problem, RuleDef, ShapeDef};
-use crate::tree::Side;
+use problem_data::problem::{MacroDef, ObjectDef, Problem, RuleDef, ShapeDef};
+use problem_data::tree::Side;
 use geo_tokens::token::Keyword;
 use rule_print::lexeme::{Lexeme, push, push_word};
 use std::alloc::{AllocError, Global};

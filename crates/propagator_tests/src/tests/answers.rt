@@ -4,7 +4,7 @@ ghost use Rattle.std.specs.Prelude.{◌≡◌, ◌≤◌, ◌<◌, IsSome, lengt
 ghost use Rattle.geo_base.specs.declared.TheConstants.{MAX_DIMS};
 ghost use Rattle.geo_conditions.specs.declared.object.TheConstants.{MAX_OBJECTS};
 ghost use Rattle.geo_conditions.specs.Conditions.{AllFit};
-ghost use Rattle.problem_text.specs.WellFormed.{IsWellFormed};
+ghost use Rattle.problem_data.specs.WellFormed.{IsWellFormed};
 ghost use Rattle.rule_ground.specs.Start.{first_state};
 
 use super::tuples::Put;
@@ -12,7 +12,7 @@ use derivation::NoRecord;
 use geo_base::MAX_DIMS;
 use geo_conditions::{MAX_OBJECTS, ObjId, State};
 use geo_state::{Propagate, Settled, Trailed};
-use problem_text::problem::Problem;
+use problem_data::problem::Problem;
 use rule_ground::start::start_state;
 use std::alloc::{AllocError, Global};
 use trail_search::{Search, Step};

@@ -9,7 +9,7 @@ use super::task::read_task;
 use super::tuples::{Put, is_layout, keys_of};
 use super::{all_answers, are_same, difference};
 use geo_tokens::fault::TextFault;
-use problem_text::problem::Problem;
+use problem_data::problem::Problem;
 use rule_expand::plain::PlainRule;
 use std::alloc::{AllocError, Global};
 use std::test::Fail;

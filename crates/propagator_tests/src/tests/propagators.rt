@@ -3,7 +3,7 @@
 ghost use Rattle.std.specs.Prelude.{◌≡◌, ◌<◌, ◌≤◌, IfOk, length, map};
 ghost use Rattle.geo_base.specs.declared.TheConstants.{MAX_DIMS};
 ghost use Rattle.geo_conditions.specs.Conditions.{AllFit};
-ghost use Rattle.problem_text.specs.WellFormed.{IsWellFormed};
+ghost use Rattle.problem_data.specs.WellFormed.{IsWellFormed};
 ghost use Rattle.rule_expand.specs.Rules.{plain_rule_data};
 ghost use Rattle.rule_ground.specs.Start.{first_state};
 ghost use Rattle.propagator_tests.specs.Ready.{IsReady};
@@ -17,7 +17,7 @@ use geo_conditions::Cond;
 use geo_state::{Propagate, Settled, Trailed};
 use geo_tokens::fault::{FaultWord, TextFault};
 use indexical::AnyIndexical;
-use problem_text::problem::Problem;
+use problem_data::problem::Problem;
 use queued_fixpoint::Fixpoint;
 use rule_expand::plain::PlainRule;
 use rule_ground::order::search_order;

@@ -2,7 +2,7 @@
 
 ghost use Rattle.std.specs.Prelude.{◌≡◌, IfOk, map};
 ghost use Rattle.geo_conditions.specs.Conditions.{AllFit};
-ghost use Rattle.problem_text.specs.Cells.{IsTuple};
+ghost use Rattle.problem_data.specs.Cells.{IsTuple};
 ghost use Rattle.rule_expand.specs.Rules.{plain_rule_data};
 ghost use Rattle.rule_ground.specs.Start.{first_state};
 ghost use Rattle.propagator_tests.specs.Ready.{IsReady};
@@ -10,7 +10,7 @@ ghost use Rattle.propagator_tests.specs.Ready.{IsReady};
 use geo_conditions::{Cond, Layout};
 use geo_meaning::judging::{Judged, judge_rules};
 use geo_tokens::fault::TextFault;
-use problem_text::problem::Problem;
+use problem_data::problem::Problem;
 use problem_text::read::read_problem;
 use rule_expand::plain::PlainRule;
 use rule_expand::rules::expand_all;

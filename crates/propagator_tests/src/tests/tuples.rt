@@ -7,8 +7,8 @@ ghost use Rattle.propagator_tests.specs.Ready.{IsReady};
 use super::task::is_good;
 use geo_tokens::fault::TextFault;
 use layout_text::read_layout;
-use problem_text::problem::{ObjectDef, Problem};
-use problem_text::tree::Side;
+use problem_data::problem::{ObjectDef, Problem};
+use problem_data::tree::Side;
 use rule_expand::plain::PlainRule;
 use std::alloc::{AllocError, Global};
 

@@ -2,13 +2,13 @@
 
 ghost use Rattle.std.specs.Prelude.{◌≡◌, IfOk};
 ghost use Rattle.geo_conditions.specs.Walk.{NamesEach};
-ghost use Rattle.problem_text.specs.WellFormed.{IsWellFormed};
+ghost use Rattle.problem_data.specs.WellFormed.{IsWellFormed};
 ghost use Rattle.rule_ground.specs.Order.{order_of, runs_down};
 ghost use Rattle.rule_ground.specs.Start.{first_state};
 
 use geo_conditions::{ObjId, SearchOrder};
-use problem_text::problem::Problem;
-use problem_text::tree::Side;
+use problem_data::problem::Problem;
+use problem_data::tree::Side;
 use std::alloc::{AllocError, Global};
 
 // Whether the values of a coordinate are tried from the high end down.

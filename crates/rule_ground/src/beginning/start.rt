@@ -5,13 +5,13 @@ ghost use Rattle.geo_base.specs.declared.TheConstants.{MAX_DIMS};
 ghost use Rattle.geo_base.specs.Tuple.{Tuple};
 ghost use Rattle.geo_conditions.specs.Reach.{TupleIn};
 ghost use Rattle.geo_conditions.specs.Regions.{region_of};
-ghost use Rattle.problem_text.specs.Cells.{IsTuple};
-ghost use Rattle.problem_text.specs.WellFormed.{IsWellFormed};
+ghost use Rattle.problem_data.specs.Cells.{IsTuple};
+ghost use Rattle.problem_data.specs.WellFormed.{IsWellFormed};
 ghost use Rattle.rule_ground.specs.Start.{HasSmallEnds, first_state, whole_region};
 
 use geo_base::{KBox, Point};
 use geo_conditions::State;
-use problem_text::problem::{ObjectDef, Problem};
+use problem_data::problem::{ObjectDef, Problem};
 use std::alloc::{AllocError, Global};
 
 // The points that the ranges of an object allow.

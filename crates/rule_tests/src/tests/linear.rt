@@ -4,7 +4,7 @@ use geo_conditions::{Cond, Form};
 use linear_conditions::compare::compare;
 use linear_conditions::counter::Counter;
 use linear_conditions::fixings::Fixings;
-use problem_text::problem::Problem;
+use problem_data::problem::Problem;
 use problem_text::read::read_problem;
 use rule_expand::plain::{PlainBody, PlainFormula, PlainRule};
 use rule_expand::rules::expand_all;

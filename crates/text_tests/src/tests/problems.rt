@@ -5,7 +5,7 @@ use geo_tokens::fault::{FaultWord, TextFault};
 use problem_text::names::names;
 use problem_text::print::print_problem;
 use problem_text::read::read_problem;
-use problem_text::tree::Side;
+use problem_data::tree::Side;
 use std::test::Fail;
 
 #[test]

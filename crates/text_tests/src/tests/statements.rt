@@ -2,7 +2,7 @@
 
 use geo_tokens::fault::{FaultWord, TextFault};
 use geo_tokens::lexer::tokens;
-use problem_text::syntax::read_statements;
+use problem_syntax::syntax::read_statements;
 use std::alloc::Global;
 use std::process::Abort;
 use std::test::Fail;

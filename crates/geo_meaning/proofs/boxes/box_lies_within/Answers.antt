@@ -2,10 +2,10 @@ use Rattle.std.proofs.Common.{ℕ, ℤ, List, ◌≡◌, ◌<◌, ◌≤ℤ◌, 
 use Rattle.std.proofs.lemmas.List.{get_or-map, length-map}
 use Rattle.geo_base.specs.Boxes.{coordinate}
 use Rattle.geo_base.specs.Tuple.{spot}
-use Rattle.problem_text.specs.declared.problem.RangeDef.{RangeDef}
-use Rattle.problem_text.specs.Problem.{RangeData}
-use Rattle.problem_text.specs.Cells.{range_at, IsIn, IsInRanges}
-use Rattle.problem_text.specs.ProblemView.{range_data}
+use Rattle.problem_data.specs.declared.problem.RangeDef.{RangeDef}
+use Rattle.problem_data.specs.Problem.{RangeData}
+use Rattle.problem_data.specs.Cells.{range_at, IsIn, IsInRanges}
+use Rattle.problem_data.specs.ProblemView.{range_data}
 use Rattle.geo_meaning.proofs.Corners.{cell_with}
 use Rattle.geo_meaning.proofs.boxes.box_lies_within.Goals as goal
 

@@ -1,7 +1,7 @@
 use Rattle.std.proofs.Common.{◌<◌, ◌≤ℤ◌, ℕ, ℤ, map}
 use Rattle.geo_base.specs.Tuple.{spot}
-use Rattle.problem_text.specs.Cells.{IsIn, range_at}
-use Rattle.problem_text.specs.ProblemView.{range_data}
+use Rattle.problem_data.specs.Cells.{IsIn, range_at}
+use Rattle.problem_data.specs.ProblemView.{range_data}
 use Rattle.geo_meaning.proofs.boxes.box_lies_within.Given as goal
 
 abbrev pub invariant-loop-d : goal.invariant-loop-d

@@ -1,6 +1,6 @@
 use Rattle.std.proofs.Common.{ℕ, ℤ, arith, below_more}
 use Rattle.geo_base.specs.Tuple.{spot}
-use Rattle.problem_text.specs.Cells.{IsIn}
+use Rattle.problem_data.specs.Cells.{IsIn}
 use Rattle.geo_meaning.proofs.Corners.{common_cell}
 use Rattle.geo_meaning.proofs.boxes.box_shares_no_cell.Goals as goal
 

@@ -1,6 +1,6 @@
 use Rattle.std.proofs.Common.{◌<◌, ℕ, ℤ}
 use Rattle.geo_base.specs.Tuple.{spot}
-use Rattle.problem_text.specs.Cells.{IsIn}
+use Rattle.problem_data.specs.Cells.{IsIn}
 use Rattle.geo_meaning.proofs.boxes.box_shares_no_cell.Given as goal
 
 abbrev pub invariant-loop-d : goal.invariant-loop-d

@@ -1,7 +1,7 @@
 use Rattle.std.proofs.Common.{ℤ, ◌≤ℤ◌, ◌<ℤ◌, arith}
 use Rattle.std.proofs.lemmas.Int.{ints}
 use Rattle.geo_base.specs.Tuple.{spot}
-use Rattle.problem_text.specs.Cells.{IsIn}
+use Rattle.problem_data.specs.Cells.{IsIn}
 use Rattle.geo_meaning.proofs.Corners.{on_true_map, on_false_map}
 use Rattle.geo_meaning.proofs.boxes.parts_in.Goals as goal
 

@@ -1,5 +1,5 @@
 use Rattle.std.proofs.Common.{◌<◌, ℕ, length, ap, arith, below_more}
-use Rattle.problem_text.specs.Cells.{NoCommonCell}
+use Rattle.problem_data.specs.Cells.{NoCommonCell}
 use Rattle.geo_meaning.proofs.Pairs.{apart-all, apart-not}
 use Rattle.geo_meaning.proofs.judging.all_apart.Goals as goal
 

@@ -1,6 +1,6 @@
 use Rattle.std.proofs.Common.{ℕ, map, length, ap, arith, below_more}
-use Rattle.problem_text.specs.Cells.{LiesWithin}
-use Rattle.problem_text.specs.ProblemView.{range_data}
+use Rattle.problem_data.specs.Cells.{LiesWithin}
+use Rattle.problem_data.specs.ProblemView.{range_data}
 use Rattle.geo_meaning.proofs.judging.all_within.Goals as goal
 
 pub loop-o-preserved : goal.loop-o-preserved

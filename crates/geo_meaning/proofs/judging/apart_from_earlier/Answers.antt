@@ -1,5 +1,5 @@
 use Rattle.std.proofs.Common.{ℕ, arith, below_more}
-use Rattle.problem_text.specs.Cells.{NoCommonCell}
+use Rattle.problem_data.specs.Cells.{NoCommonCell}
 use Rattle.geo_meaning.proofs.Pairs.{not-common}
 use Rattle.geo_meaning.proofs.judging.apart_from_earlier.Goals as goal
 

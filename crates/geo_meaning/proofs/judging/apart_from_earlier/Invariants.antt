@@ -1,5 +1,5 @@
 use Rattle.std.proofs.Common.{◌<◌, ℕ}
-use Rattle.problem_text.specs.Cells.{NoCommonCell}
+use Rattle.problem_data.specs.Cells.{NoCommonCell}
 use Rattle.geo_meaning.proofs.judging.apart_from_earlier.Given as goal
 
 abbrev pub invariant-loop-u : goal.invariant-loop-u

@@ -1,8 +1,8 @@
 use Rattle.std.proofs.Common.{List, map, sym, subst}
 use Rattle.std.specs.Bool.{OnTrue, OnFalse}
-use Rattle.problem_text.specs.declared.problem.RangeDef.{RangeDef}
-use Rattle.problem_text.specs.ProblemView.{range_data}
-use Rattle.problem_text.specs.Cells.{IsWithin}
+use Rattle.problem_data.specs.declared.problem.RangeDef.{RangeDef}
+use Rattle.problem_data.specs.ProblemView.{range_data}
+use Rattle.problem_data.specs.Cells.{IsWithin}
 use Rattle.rule_expand.specs.declared.plain.PlainBody.{PlainBody}
 use Rattle.rule_expand.specs.Rules.{body_data}
 use Rattle.geo_meaning.specs.Judged.{PlainHolds}

@@ -1,8 +1,8 @@
 use Rattle.std.proofs.Common.{◌<◌, ℕ, ℤ, List, length, map, subst, sym, arith, below_more}
 use Rattle.geo_base.specs.Tuple.{spot}
-use Rattle.problem_text.specs.Problem.{BoxData}
-use Rattle.problem_text.specs.Cells.{BoxHas, box_at, IsInRanges}
-use Rattle.problem_text.specs.ProblemView.{range_data}
+use Rattle.problem_data.specs.Problem.{BoxData}
+use Rattle.problem_data.specs.Cells.{BoxHas, box_at, IsInRanges}
+use Rattle.problem_data.specs.ProblemView.{range_data}
 use Rattle.geo_meaning.proofs.Corners.{box_there}
 use Rattle.geo_meaning.proofs.objects.lies_within.Goals as goal
 

@@ -1,7 +1,7 @@
 use Rattle.std.proofs.Common.{◌<◌, ℕ, ℤ, List, map}
 use Rattle.geo_base.specs.Tuple.{spot}
-use Rattle.problem_text.specs.Cells.{BoxHas, box_at, IsInRanges}
-use Rattle.problem_text.specs.ProblemView.{range_data}
+use Rattle.problem_data.specs.Cells.{BoxHas, box_at, IsInRanges}
+use Rattle.problem_data.specs.ProblemView.{range_data}
 use Rattle.geo_meaning.proofs.objects.lies_within.Given as goal
 
 abbrev pub invariant-loop-a : goal.invariant-loop-a

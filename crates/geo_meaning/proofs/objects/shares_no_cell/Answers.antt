@@ -1,7 +1,7 @@
 use Rattle.std.proofs.Common.{◌<◌, ℕ, ℤ, List, length, subst, sym, arith, below_more}
 use Rattle.geo_base.specs.Tuple.{spot}
-use Rattle.problem_text.specs.Problem.{BoxData}
-use Rattle.problem_text.specs.Cells.{BoxHas, box_at, IsCellOf}
+use Rattle.problem_data.specs.Problem.{BoxData}
+use Rattle.problem_data.specs.Cells.{BoxHas, box_at, IsCellOf}
 use Rattle.geo_meaning.proofs.Corners.{box_there}
 use Rattle.geo_meaning.proofs.objects.shares_no_cell.Goals as goal
 

@@ -1,6 +1,6 @@
 use Rattle.std.proofs.Common.{◌<◌, ℕ, ℤ, List}
 use Rattle.geo_base.specs.Tuple.{spot}
-use Rattle.problem_text.specs.Cells.{BoxHas, box_at, IsCellOf}
+use Rattle.problem_data.specs.Cells.{BoxHas, box_at, IsCellOf}
 use Rattle.geo_meaning.proofs.objects.shares_no_cell.Given as goal
 
 abbrev pub invariant-loop-a : goal.invariant-loop-a

@@ -1,7 +1,7 @@
 use Rattle.std.proofs.Common.{List, map, subst}
 use Rattle.std.proofs.lemmas.Result.{err_from_is_err_and}
 use Rattle.geo_base.specs.Tuple.{Tuple}
-use Rattle.problem_text.specs.Cells.{IsTuple}
+use Rattle.problem_data.specs.Cells.{IsTuple}
 use Rattle.rule_expand.specs.declared.plain.PlainRule.{PlainRule}
 use Rattle.rule_expand.specs.Rules.{plain_rule_data}
 use Rattle.rule_values.specs.Calm.{AreCalm}

@@ -4,7 +4,7 @@ use Rattle.geo_tokens.specs.declared.fault.TextFault.{TextFault}
 use Rattle.geost_run.specs.Accepted.{AnswersAccepted}
 use Rattle.geost_run.specs.Decision.{decision_text, decision_status, IsDecided}
 use Rattle.geost_run.proofs.Refusals.{refused_as}
-use Rattle.problem_text.proofs.OneProblem.{accepted_well_formed}
+use Rattle.problem_data.proofs.Accepted.{accepted_well_formed}
 use Rattle.layout_search.specs.FirstLayout.{Finds}
 use Rattle.layout_search.specs.declared.first.Outcome.{Outcome}
 use Rattle.geost_run.proofs.Ending.{shaped_tuple}

@@ -1,7 +1,7 @@
 use Rattle.std.proofs.Common.{◌≡◌, ◌<◌, ap, length, subst, sym, arith, ◌∙◌}
 use Rattle.layout_search.proofs.Spots.{one-more, all-made}
 use Rattle.trail_search.specs.Next.{HasFound}
-use Rattle.problem_text.specs.Cells.{IsTuple}
+use Rattle.problem_data.specs.Cells.{IsTuple}
 use Rattle.layout_search.proofs.first.found_layout.Goals as goal
 
 pub loop-i-preserved : goal.loop-i-preserved

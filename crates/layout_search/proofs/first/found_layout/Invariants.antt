@@ -1,6 +1,6 @@
 use Rattle.std.proofs.Common.{◌≡◌, take}
 use Rattle.geo_base.specs.Tuple.{Tuple}
-use Rattle.problem_text.specs.Cells.{IsTuple}
+use Rattle.problem_data.specs.Cells.{IsTuple}
 use Rattle.trail_search.specs.Next.{HasFound}
 use Rattle.layout_search.proofs.first.found_layout.Given as goal
 

@@ -1,6 +1,6 @@
 use Rattle.std.proofs.Common.{◌≡◌, ◌<◌, List, [], ◌∷◌, ◌++◌, length, map, take, get_or, sym, ap, ◌∙◌, arith}
-use Rattle.problem_text.specs.Problem.{ObjectData, ProblemData}
-use Rattle.problem_text.specs.Tuple.{Spot, Tuple}
+use Rattle.problem_data.specs.Problem.{ObjectData, ProblemData}
+use Rattle.problem_data.specs.Tuple.{Spot, Tuple}
 use Rattle.problem_text.proofs.Listed.{inside, stands}
 use Rattle.layout_text.specs.Tree.{LineTree}
 use Rattle.layout_text.specs.View.{line_view}

@@ -1,6 +1,6 @@
 use Rattle.std.proofs.Common.{◌⊎◌, List, map, subst}
-use Rattle.problem_text.specs.Least.{IsLeast}
-use Rattle.problem_text.proofs.Firsts.{joined}
+use Rattle.problem_data.specs.Least.{IsLeast}
+use Rattle.problem_data.proofs.Firsts.{joined}
 use Rattle.layout_text.specs.declared.tree.LineText.{LineText}
 use Rattle.layout_text.specs.View.{line_view, layout_view, token_views}
 use Rattle.layout_text.specs.Faults.{LinesFault, MissingFault, TokenFault}

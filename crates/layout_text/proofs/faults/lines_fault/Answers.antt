@@ -1,7 +1,7 @@
 use Rattle.std.proofs.Common.{ℕ, length, subst, sym}
 use Rattle.std.specs.Prelude.{slice_get}
-use Rattle.problem_text.specs.Least.{IsLeast}
-use Rattle.problem_text.proofs.InLists.{among_none, more_view, all_view, before_length}
+use Rattle.problem_data.specs.Least.{IsLeast}
+use Rattle.problem_data.proofs.InLists.{among_none, more_view, all_view, before_length}
 use Rattle.layout_text.specs.View.{line_view}
 use Rattle.layout_text.specs.Faults.{LineFault}
 use Rattle.layout_text.proofs.faults.lines_fault.Goals as goal

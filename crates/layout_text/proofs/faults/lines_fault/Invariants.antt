@@ -1,5 +1,5 @@
 use Rattle.std.proofs.Common.{take, map}
-use Rattle.problem_text.specs.Least.{IsLeast}
+use Rattle.problem_data.specs.Least.{IsLeast}
 use Rattle.layout_text.specs.View.{line_view}
 use Rattle.layout_text.specs.Faults.{LinesFault}
 use Rattle.layout_text.proofs.faults.lines_fault.Given as goal

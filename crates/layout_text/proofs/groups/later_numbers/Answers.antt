@@ -3,8 +3,8 @@ use Rattle.geo_tokens.specs.declared.token.Sym.TheVariants.{Comma}
 use Rattle.geo_tokens.specs.Words.{symbol, Bind, Tok}
 use Rattle.geo_tokens.specs.Reading.{many_at}
 use Rattle.geo_tokens.proofs.Loop.{goes_on, found_shorter}
-use Rattle.problem_text.specs.Grammar.{IntWords}
-use Rattle.problem_text.specs.Reading.{next_at, int_at}
+use Rattle.problem_data.specs.Grammar.{IntWords}
+use Rattle.problem_syntax.specs.Reading.{next_at, int_at}
 use Rattle.layout_text.proofs.Right.{next_int_good}
 use Rattle.layout_text.proofs.groups.later_numbers.Goals as goal
 

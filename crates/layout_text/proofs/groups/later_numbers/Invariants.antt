@@ -3,7 +3,7 @@ use Rattle.geo_tokens.specs.declared.token.Sym.TheVariants.{Comma}
 use Rattle.geo_tokens.specs.Words.{symbol}
 use Rattle.geo_tokens.specs.Reading.{many_at}
 use Rattle.geo_tokens.specs.Gives.{with_front}
-use Rattle.problem_text.specs.Reading.{next_at, int_at}
+use Rattle.problem_syntax.specs.Reading.{next_at, int_at}
 use Rattle.layout_text.proofs.groups.later_numbers.Given as goal
 
 -- what was read, with what is read behind it, is the whole

@@ -3,7 +3,7 @@ use Rattle.std.proofs.lemmas.List.{map_push}
 use Rattle.geo_tokens.specs.Words.{names}
 use Rattle.geo_tokens.specs.Reading.{many_at}
 use Rattle.geo_tokens.proofs.Loop.{goes_on, found_shorter}
-use Rattle.problem_text.specs.Marks.{int_firsts}
+use Rattle.problem_data.specs.Marks.{int_firsts}
 use Rattle.layout_text.specs.Grammar.{LineWords}
 use Rattle.layout_text.specs.Reading.{line_at}
 use Rattle.layout_text.specs.View.{line_view, line_views}

@@ -5,9 +5,9 @@ use Rattle.geo_conditions.specs.declared.layout.Layout.{Layout}
 use Rattle.geo_tokens.specs.declared.token.Token.{Token}
 use Rattle.geo_tokens.specs.declared.fault.TextFault.{TextFault}
 use Rattle.geo_tokens.specs.Cut.{IsTokens}
-use Rattle.problem_text.specs.Problem.{ProblemData}
-use Rattle.problem_text.specs.declared.faults.fault.Fault.{Fault}
-use Rattle.problem_text.specs.Least.{IsLeast}
+use Rattle.problem_data.specs.Problem.{ProblemData}
+use Rattle.problem_data.specs.declared.fault.Fault.{Fault}
+use Rattle.problem_data.specs.Least.{IsLeast}
 use Rattle.layout_text.specs.declared.tree.LineText.{LineText}
 use Rattle.layout_text.specs.View.{line_view, layout_view}
 use Rattle.layout_text.specs.Faults.{tuple_of, IsFault}

@@ -11,10 +11,11 @@ use Rattle.layout_text.specs.declared.tree.LayoutText.{LayoutText}
 use Rattle.layout_text.specs.Grammar.{LayoutWords}
 use Rattle.layout_text.specs.Reading.{layout_at}
 use Rattle.layout_text.specs.View.{layout_view}
-use Rattle.problem_text.specs.WholeText.{IsWhole, IsWrong, AnswersText, IsOnlyAnswer}
+use Rattle.problem_data.specs.Whole.{IsWhole}
+use Rattle.problem_syntax.specs.WholeText.{IsWrong, AnswersText, IsOnlyAnswer}
 use Rattle.layout_text.proofs.Right.{layout_good}
 use Rattle.layout_text.proofs.Levels.{layout_reading}
-use Rattle.problem_text.proofs.WholeText.{only_answer, is_whole, is_left_over, is_stopped}
+use Rattle.problem_syntax.proofs.WholeText.{only_answer, is_whole, is_left_over, is_stopped}
 use Rattle.layout_text.proofs.syntax.read_lines.Goals as goal
 
 not_empty : (xs : List Token) → length xs ≡ 0 → xs ≡ []

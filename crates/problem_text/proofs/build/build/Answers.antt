@@ -1,20 +1,20 @@
 use Rattle.std.proofs.Common.{◌≡◌, ◌≤◌, ℕ, List, map, length, inl, inr, sym, ◌∙◌, subst, arith}
 use Rattle.std.proofs.lemmas.List.{length-map}
 use Rattle.rule_syntax.specs.declared.tree.PlacedName.{PlacedName}
-use Rattle.problem_text.specs.declared.tree.ShapeText.{ShapeText}
-use Rattle.problem_text.specs.declared.tree.ObjectText.{ObjectText}
-use Rattle.problem_text.specs.declared.tree.OrderText.{OrderText}
-use Rattle.problem_text.specs.declared.tree.SidesText.{SidesText}
-use Rattle.problem_text.specs.declared.tree.Side.{Side}
-use Rattle.problem_text.specs.declared.parts.Parts.{Parts as PartsText}
-use Rattle.problem_text.specs.Problem.{ShapeData, ObjectData, MacroData, RuleData}
-use Rattle.problem_text.specs.Parts.{parts_view}
-use Rattle.problem_text.specs.View.{shape_view, object_view, order_view, sides_view, macro_view, rule_view}
-use Rattle.problem_text.specs.Seen.{met}
-use Rattle.problem_text.specs.Limits.{most_shapes, most_objects}
-use Rattle.problem_text.specs.Faults.{shapes, objects, shape_name, object_name, shape_names, object_names, count_of}
-use Rattle.problem_text.specs.Meaning.{shape_of, object_of, macro_of, rule_of, order_of, sides_of, problem_of}
-use Rattle.problem_text.proofs.Distinct.{few, differ}
+use Rattle.problem_data.specs.declared.tree.ShapeText.{ShapeText}
+use Rattle.problem_data.specs.declared.tree.ObjectText.{ObjectText}
+use Rattle.problem_data.specs.declared.tree.OrderText.{OrderText}
+use Rattle.problem_data.specs.declared.tree.SidesText.{SidesText}
+use Rattle.problem_data.specs.declared.tree.Side.{Side}
+use Rattle.problem_data.specs.declared.parts.Parts.{Parts as PartsText}
+use Rattle.problem_data.specs.Problem.{ShapeData, ObjectData, MacroData, RuleData}
+use Rattle.problem_data.specs.Parts.{parts_view}
+use Rattle.problem_data.specs.View.{shape_view, object_view, order_view, sides_view, macro_view, rule_view}
+use Rattle.problem_data.specs.Seen.{met}
+use Rattle.problem_data.specs.Limits.{most_shapes, most_objects}
+use Rattle.problem_data.specs.Faults.{shapes, objects, shape_name, object_name, shape_names, object_names, count_of}
+use Rattle.problem_data.specs.Meaning.{shape_of, object_of, macro_of, rule_of, order_of, sides_of, problem_of}
+use Rattle.problem_data.proofs.Distinct.{few, differ}
 use Rattle.problem_text.proofs.Said.{said_right}
 use Rattle.problem_text.proofs.build.build.Goals as goal
 

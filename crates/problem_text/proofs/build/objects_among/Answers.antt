@@ -1,11 +1,11 @@
 use Rattle.std.proofs.Common.{◌≡◌, ℕ, List, map, sym, ap, ◌∙◌, subst}
 use Rattle.std.specs.Prelude.{IfOk}
 use Rattle.rule_syntax.specs.declared.tree.PlacedName.{PlacedName}
-use Rattle.problem_text.specs.View.{shape_view, object_view}
-use Rattle.problem_text.specs.Seen.{met}
-use Rattle.problem_text.specs.Faults.{text_of, shape_name, shape_names}
-use Rattle.problem_text.specs.Meaning.{object_of}
-use Rattle.problem_text.proofs.InLists.{map_twice}
+use Rattle.problem_data.specs.View.{shape_view, object_view}
+use Rattle.problem_data.specs.Seen.{met}
+use Rattle.problem_data.specs.Faults.{text_of, shape_name, shape_names}
+use Rattle.problem_data.specs.Meaning.{object_of}
+use Rattle.problem_data.proofs.InLists.{map_twice}
 use Rattle.problem_text.proofs.build.objects_among.Goals as goal
 
 pub returns : goal.returns

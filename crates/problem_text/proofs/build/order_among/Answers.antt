@@ -1,11 +1,11 @@
 use Rattle.std.proofs.Common.{◌≡◌, ℕ, List, map, sym, ap, ◌∙◌, subst}
 use Rattle.std.specs.Prelude.{IfOk}
 use Rattle.rule_syntax.specs.declared.tree.PlacedName.{PlacedName}
-use Rattle.problem_text.specs.View.{object_view, order_view}
-use Rattle.problem_text.specs.Seen.{met}
-use Rattle.problem_text.specs.Faults.{text_of, object_name, object_names}
-use Rattle.problem_text.specs.Meaning.{order_of}
-use Rattle.problem_text.proofs.InLists.{map_twice}
+use Rattle.problem_data.specs.View.{object_view, order_view}
+use Rattle.problem_data.specs.Seen.{met}
+use Rattle.problem_data.specs.Faults.{text_of, object_name, object_names}
+use Rattle.problem_data.specs.Meaning.{order_of}
+use Rattle.problem_data.proofs.InLists.{map_twice}
 use Rattle.problem_text.proofs.build.order_among.Goals as goal
 
 pub returns : goal.returns

@@ -3,7 +3,7 @@ use Rattle.std.specs.List.{Contains}
 use Rattle.std.proofs.lemmas.List.{take-map}
 use Rattle.geo_tokens.specs.Names.{NameTable, IsNameText, IsShapeList}
 use Rattle.problem_text.specs.NameTable.{named_object}
-use Rattle.problem_text.proofs.InLists.{push_view}
+use Rattle.problem_data.proofs.InLists.{push_view}
 use Rattle.problem_text.proofs.Listed.{holds, inside, stands, is_new}
 use Rattle.problem_text.proofs.names.add_objects.Goals as goal
 

@@ -2,7 +2,7 @@ use Rattle.std.proofs.Common.{◌≡◌, ℕ, List, [], ◌∷◌, ◌++◌, tak
 use Rattle.std.specs.List.{Contains}
 use Rattle.geo_tokens.specs.Names.{NameTable, IsNameText}
 use Rattle.problem_text.specs.NameTable.{shape_name}
-use Rattle.problem_text.proofs.InLists.{push_view}
+use Rattle.problem_data.proofs.InLists.{push_view}
 use Rattle.problem_text.proofs.Listed.{holds, is_new}
 use Rattle.problem_text.proofs.names.add_shapes.Goals as goal
 

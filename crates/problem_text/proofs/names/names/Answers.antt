@@ -1,6 +1,6 @@
 use Rattle.std.proofs.Common.{◌≡◌, ℕ, ◌≤◌, List, [], map, sym, ap, ◌∙◌, subst, arith}
 use Rattle.geo_tokens.specs.Names.{NameTable, IsNameTable}
-use Rattle.problem_text.specs.Problem.{ShapeData}
+use Rattle.problem_data.specs.Problem.{ShapeData}
 use Rattle.problem_text.specs.NameTable.{shape_name, named_object, name_table}
 use Rattle.problem_text.proofs.Said.{said_table}
 use Rattle.problem_text.proofs.names.names.Goals as goal

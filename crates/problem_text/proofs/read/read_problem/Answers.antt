@@ -3,12 +3,12 @@ use Rattle.std.specs.Result.{IsErrAnd}
 use Rattle.geo_tokens.specs.declared.token.Token.{Token}
 use Rattle.geo_tokens.specs.declared.fault.TextFault.{TextFault}
 use Rattle.geo_tokens.specs.Cut.{IsTokens}
-use Rattle.problem_text.specs.declared.problem.Problem.{Problem}
-use Rattle.problem_text.specs.View.{problem_view}
-use Rattle.problem_text.specs.Parts.{Parts, parts_of, parts_view}
-use Rattle.problem_text.specs.Least.{IsLeast}
-use Rattle.problem_text.specs.Faults.{IsFault}
-use Rattle.problem_text.specs.Meaning.{problem_of}
+use Rattle.problem_data.specs.declared.problem.Problem.{Problem}
+use Rattle.problem_data.specs.View.{problem_view}
+use Rattle.problem_data.specs.Parts.{Parts, parts_of, parts_view}
+use Rattle.problem_data.specs.Least.{IsLeast}
+use Rattle.problem_data.specs.Faults.{IsFault}
+use Rattle.problem_data.specs.Meaning.{problem_of}
 use Rattle.problem_text.proofs.Answered.{Answer, not_cut, not_spelled, at_fault, accepted}
 use Rattle.problem_text.proofs.read.read_problem.Goals as goal
 

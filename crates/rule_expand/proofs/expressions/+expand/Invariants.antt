@@ -2,7 +2,7 @@ use Rattle.std.proofs.Common.{◌+◌, ◌*◌, map, sum}
 use Rattle.std.specs.Option.{option_map_or}
 use Rattle.rule_syntax.specs.Tree as tree
 use Rattle.rule_syntax.specs.View.{expr_view, sum_view, product_view, argument_view}
-use Rattle.problem_text.specs.Value.{macro_position}
+use Rattle.problem_data.specs.Value.{macro_position}
 use Rattle.rule_expand.specs.Costs.{cost, cost_by, sum_cost, sums_cost, product_cost, products_cost, costs, costs_of}
 use Rattle.rule_expand.specs.ScopeView.{scope_view, prices}
 use Rattle.rule_expand.specs.Expansion.{expansions_of}

@@ -1,7 +1,7 @@
 use Rattle.std.proofs.Common.{◌+◌, ◌*◌, drop}
 use Rattle.std.specs.Option.{option_map_or}
 use Rattle.rule_syntax.specs.View.{formula_view}
-use Rattle.problem_text.specs.Value.{macro_position}
+use Rattle.problem_data.specs.Value.{macro_position}
 use Rattle.rule_expand.specs.Costs.{formula_cost, formulas_cost, formula_costs_of}
 use Rattle.rule_expand.specs.Expansion.{expansions_of}
 use Rattle.rule_expand.specs.ScopeView.{scope_view}

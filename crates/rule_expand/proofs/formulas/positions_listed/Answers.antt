@@ -2,8 +2,8 @@ use Rattle.std.proofs.Common.{◌∙◌, ap, sym, [], ◌∷◌, ◌++◌, take}
 use Rattle.std.specs.List.{cons_option}
 use Rattle.std.proofs.lemmas.List.{take_more}
 use Rattle.std.proofs.lemmas.List.Elements.{filter_map-append}
-use Rattle.problem_text.specs.Value.{object_position}
-use Rattle.problem_text.specs.Truth.{listed_objects}
+use Rattle.problem_data.specs.Value.{object_position}
+use Rattle.problem_data.specs.Truth.{listed_objects}
 use Rattle.rule_names.specs.Table.{found}
 use Rattle.rule_expand.proofs.formulas.positions_listed.Goals as goal
 

@@ -1,5 +1,5 @@
 use Rattle.std.proofs.Common.{◌≡◌, take}
-use Rattle.problem_text.specs.Truth.{listed_objects}
+use Rattle.problem_data.specs.Truth.{listed_objects}
 use Rattle.rule_expand.proofs.formulas.positions_listed.Given as goal
 
 abbrev pub invariant-loop-name : goal.invariant-loop-name

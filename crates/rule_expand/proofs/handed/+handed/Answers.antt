@@ -1,6 +1,6 @@
 use Rattle.std.proofs.Common.{◌≡◌, ◌∙◌, ap, sym}
 use Rattle.std.specs.Prelude.{Some}
-use Rattle.problem_text.specs.Value.{macro_position}
+use Rattle.problem_data.specs.Value.{macro_position}
 use Rattle.rule_names.specs.Table.{found}
 use Rattle.rule_expand.proofs.HandedOn.{call-case}
 use Rattle.rule_expand.proofs.handed.+handed.Goals as goal

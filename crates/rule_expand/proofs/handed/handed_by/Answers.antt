@@ -1,6 +1,6 @@
 use Rattle.std.proofs.Common.{◌∙◌, ap, sym, length}
 use Rattle.rule_syntax.specs.View.{expr_view}
-use Rattle.problem_text.specs.View.{body_view}
+use Rattle.problem_data.specs.View.{body_view}
 use Rattle.rule_expand.proofs.HandedOn.{hands-on}
 use Rattle.rule_expand.proofs.handed.handed_by.Goals as goal
 

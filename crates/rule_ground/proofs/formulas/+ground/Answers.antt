@@ -4,7 +4,7 @@ use Rattle.linear_conditions.specs.Counts.{Counts, Outcome, Done, and_then, one_
 use Rattle.linear_conditions.specs.Faults.{IsFault}
 use Rattle.linear_conditions.specs.Folding.{joined}
 use Rattle.linear_conditions.specs.Views.{fixings_view}
-use Rattle.problem_text.specs.Value.{Object}
+use Rattle.problem_data.specs.Value.{Object}
 use Rattle.rule_expand.specs.Plain.{implication}
 use Rattle.rule_expand.specs.PlainView.{plain_coll_view, plain_formula_view, plain_formulas_view}
 use Rattle.rule_values.specs.Elements.{elements_view}

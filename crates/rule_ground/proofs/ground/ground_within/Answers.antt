@@ -1,6 +1,6 @@
 use Rattle.std.proofs.Common.{◌+◌, map}
 use Rattle.linear_conditions.specs.CondTree.{cond_view}
-use Rattle.problem_text.specs.ProblemView.{range_data}
+use Rattle.problem_data.specs.ProblemView.{range_data}
 use Rattle.linear_conditions.specs.Counts.{within_limits}
 use Rattle.linear_conditions.proofs.CounterSteps.{past-fault}
 use Rattle.rule_ground.specs.Within.{within_conditions}

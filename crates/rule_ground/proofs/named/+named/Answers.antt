@@ -5,7 +5,7 @@ use Rattle.linear_conditions.specs.Faults.{IsFault}
 use Rattle.linear_conditions.specs.Folding.{joined}
 use Rattle.linear_conditions.specs.Views.{fixings_view}
 use Rattle.linear_conditions.specs.declared.fixings.Fixings.TheVariants as chain
-use Rattle.problem_text.specs.Value.{Object}
+use Rattle.problem_data.specs.Value.{Object}
 use Rattle.rule_expand.specs.PlainView.{plain_formula_view}
 use Rattle.rule_values.specs.View.{thing_view}
 use Rattle.rule_ground.specs.declared.quantifiers.Manner.TheVariants as ways

@@ -2,7 +2,7 @@ use Rattle.std.proofs.Common.{◌+◌, map, arith}
 use Rattle.std.specs.List.{range_with_len}
 use Rattle.rule_ground.proofs.Lists.{flat-more, number-more}
 use Rattle.rule_ground.specs.Within.{within_at_place}
-use Rattle.problem_text.specs.ProblemView.{range_data}
+use Rattle.problem_data.specs.ProblemView.{range_data}
 use Rattle.rule_ground.proofs.within.push_object.Goals as goal
 
 pub loop-before-preserved : goal.loop-before-preserved

@@ -1,7 +1,7 @@
 use Rattle.std.proofs.Common.{◌≡◌, ◌++◌, map}
 use Rattle.std.specs.List.{flat_map, range_with_len}
 use Rattle.linear_conditions.specs.CondTree.{cond_view}
-use Rattle.problem_text.specs.ProblemView.{range_data}
+use Rattle.problem_data.specs.ProblemView.{range_data}
 use Rattle.rule_ground.specs.Within.{within_at_place}
 use Rattle.rule_ground.proofs.within.push_object.Given as goal
 

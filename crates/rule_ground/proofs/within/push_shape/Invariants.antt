@@ -1,7 +1,7 @@
 use Rattle.std.proofs.Common.{◌≡◌, ◌++◌, map, take}
 use Rattle.std.specs.List.{flat_map}
 use Rattle.linear_conditions.specs.CondTree.{cond_view}
-use Rattle.problem_text.specs.ProblemView.{range_data}
+use Rattle.problem_data.specs.ProblemView.{range_data}
 use Rattle.rule_ground.specs.Within.{within_of_box}
 use Rattle.rule_ground.proofs.within.push_shape.Given as goal
 

@@ -1,8 +1,8 @@
 use Rattle.std.proofs.Common.{◌<◌, ℕ, pos, subst, sym}
 use Rattle.std.proofs.lemmas.List.{get_or-map, length-map}
-use Rattle.problem_text.specs.declared.problem.RangeDef.{RangeDef}
-use Rattle.problem_text.specs.ProblemView.{range_data}
-use Rattle.problem_text.specs.WellFormed.{IsRange}
+use Rattle.problem_data.specs.declared.problem.RangeDef.{RangeDef}
+use Rattle.problem_data.specs.ProblemView.{range_data}
+use Rattle.problem_data.specs.WellFormed.{IsRange}
 use Rattle.rule_ground.proofs.within.range_in.Goals as goal
 
 pub returns-clause-small : goal.returns-clause-small

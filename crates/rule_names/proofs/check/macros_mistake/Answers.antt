@@ -1,6 +1,6 @@
 use Rattle.std.proofs.Common.{◌≡◌, ◌∙◌, ℕ, ap, refl, Option}
-use Rattle.problem_text.specs.Problem.{MacroData, ProblemData}
-use Rattle.problem_text.specs.Tree.{BodyTree}
+use Rattle.problem_data.specs.Problem.{MacroData, ProblemData}
+use Rattle.problem_data.specs.Tree.{BodyTree}
 use Rattle.rule_names.specs.declared.mistake.Mistake.{Mistake}
 use Rattle.rule_names.specs.Mistakes.{first_of}
 use Rattle.rule_names.specs.Sight.{Sight}

@@ -1,5 +1,5 @@
 use Rattle.std.proofs.Common.{◌≡◌, ◌∙◌, ℕ, ap, refl, Option}
-use Rattle.problem_text.specs.Problem.{DemandData, RuleData, ProblemData}
+use Rattle.problem_data.specs.Problem.{DemandData, RuleData, ProblemData}
 use Rattle.rule_names.specs.declared.mistake.Mistake.{Mistake}
 use Rattle.rule_names.specs.Mistakes.{first_of}
 use Rattle.rule_names.specs.Names.{demand_mistakes, rules_mistakes}

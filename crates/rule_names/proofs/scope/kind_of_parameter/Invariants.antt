@@ -1,5 +1,5 @@
 use Rattle.std.proofs.Common.{◌≡◌, map, drop}
-use Rattle.problem_text.specs.ProblemView.{param_data}
+use Rattle.problem_data.specs.ProblemView.{param_data}
 use Rattle.rule_names.specs.Sight.{kind_of}
 use Rattle.rule_names.proofs.scope.kind_of_parameter.Given as goal
 

@@ -1,6 +1,6 @@
 use Rattle.std.proofs.Common.{length, arith}
 use Rattle.std.proofs.lemmas.List.FromFn.{length-map-range_with_len}
-use Rattle.problem_text.specs.Value.{Object}
+use Rattle.problem_data.specs.Value.{Object}
 use Rattle.rule_values.proofs.elements.elements_of.Goals as goal
 
 pub returns-in-Objects-clause-few : goal.returns-in-Objects-clause-few

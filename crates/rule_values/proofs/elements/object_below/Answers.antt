@@ -2,7 +2,7 @@ use Rattle.std.proofs.Common.{sym, arith, pos, map}
 use Rattle.std.specs.List.{range_with_len}
 use Rattle.std.proofs.lemmas.List.{get_or_past}
 use Rattle.std.proofs.lemmas.List.FromFn.{length-map-range_with_len, get_or-map-range_with_len}
-use Rattle.problem_text.specs.Value.{Number, Object}
+use Rattle.problem_data.specs.Value.{Number, Object}
 use Rattle.rule_values.proofs.elements.object_below.Goals as goal
 
 pub returns-then-i-count : goal.returns-then-i-count

@@ -1,6 +1,6 @@
 use Rattle.std.proofs.Common.{◌≡◌, map, drop}
-use Rattle.problem_text.specs.ProblemView.{attribute_data}
-use Rattle.problem_text.specs.Value.{attribute_in}
+use Rattle.problem_data.specs.ProblemView.{attribute_data}
+use Rattle.problem_data.specs.Value.{attribute_in}
 use Rattle.rule_values.proofs.fields.attribute_in.Given as goal
 
 -- the name is among the attributes that are left, as it is among all

@@ -1,8 +1,8 @@
 use Rattle.std.proofs.Common.{◌≡◌, ◌<◌, List, length, Option, Some, sym, ap, ◌∙◌, subst, arith}
 use Rattle.std.specs.Prelude.{slice_get}
 use Rattle.std.proofs.lemmas.Option.{slice_get-get_or}
-use Rattle.problem_text.specs.Problem.{ObjectData}
-use Rattle.problem_text.specs.Least.{IsLeast}
+use Rattle.problem_data.specs.Problem.{ObjectData}
+use Rattle.problem_data.specs.Least.{IsLeast}
 use Rattle.layout_text.specs.View.{line_view}
 use Rattle.layout_text.specs.Faults.{LineFault}
 use Rattle.layout_text.proofs.faults.line.line_fault.Goals as goal

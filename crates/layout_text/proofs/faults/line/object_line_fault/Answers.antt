@@ -1,9 +1,9 @@
 use Rattle.std.proofs.Common.{◌⊎◌, List, map, subst}
-use Rattle.problem_text.specs.declared.tree.Int.{Int}
-use Rattle.problem_text.specs.Problem.{RangeData}
-use Rattle.problem_text.specs.Least.{IsLeast}
-use Rattle.problem_text.specs.ProblemView.{range_data}
-use Rattle.problem_text.proofs.Firsts.{joined}
+use Rattle.problem_data.specs.declared.tree.Int.{Int}
+use Rattle.problem_data.specs.Problem.{RangeData}
+use Rattle.problem_data.specs.Least.{IsLeast}
+use Rattle.problem_data.specs.ProblemView.{range_data}
+use Rattle.problem_data.proofs.Firsts.{joined}
 use Rattle.layout_text.specs.Tree.{LineTree}
 use Rattle.layout_text.specs.View.{line_view}
 use Rattle.layout_text.specs.Faults.{NameFault, ShapeFault, CountFault, RangesFault}

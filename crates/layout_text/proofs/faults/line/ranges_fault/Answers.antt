@@ -1,10 +1,10 @@
 use Rattle.std.proofs.Common.{◌≡◌, ◌<◌, ℕ, take, map, length, get_or, subst, sym, arith}
 use Rattle.std.specs.Prelude.{slice_get, pos}
 use Rattle.std.proofs.lemmas.List.{length-take-le}
-use Rattle.problem_text.specs.declared.tree.Int.{Int}
-use Rattle.problem_text.specs.Least.{IsLeast}
-use Rattle.problem_text.specs.ProblemView.{range_data}
-use Rattle.problem_text.proofs.InLists.{among_none, more, among_all}
+use Rattle.problem_data.specs.declared.tree.Int.{Int}
+use Rattle.problem_data.specs.Least.{IsLeast}
+use Rattle.problem_data.specs.ProblemView.{range_data}
+use Rattle.problem_data.proofs.InLists.{among_none, more, among_all}
 use Rattle.layout_text.specs.Faults.{OutsideFault}
 use Rattle.layout_text.proofs.faults.line.ranges_fault.Goals as goal
 

@@ -1,6 +1,6 @@
 use Rattle.std.proofs.Common.{take, map}
-use Rattle.problem_text.specs.Least.{IsLeast}
-use Rattle.problem_text.specs.ProblemView.{range_data}
+use Rattle.problem_data.specs.Least.{IsLeast}
+use Rattle.problem_data.specs.ProblemView.{range_data}
 use Rattle.layout_text.specs.Faults.{RangesFault}
 use Rattle.layout_text.proofs.faults.line.ranges_fault.Given as goal
 

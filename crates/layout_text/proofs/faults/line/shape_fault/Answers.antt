@@ -1,8 +1,8 @@
 use Rattle.std.proofs.Common.{◌≡◌, ◌<◌, ℕ, List, length, refl, sym, ap, subst}
 use Rattle.std.specs.Prelude.{nat_lt}
 use Rattle.std.specs.List.{Contains}
-use Rattle.problem_text.specs.Meaning.{position_of}
-use Rattle.problem_text.proofs.Firsts.{tested, unless, unless_back}
+use Rattle.problem_data.specs.Meaning.{position_of}
+use Rattle.problem_data.proofs.Firsts.{tested, unless, unless_back}
 use Rattle.layout_text.specs.Tree.{LineTree}
 use Rattle.layout_text.specs.View.{line_view}
 use Rattle.layout_text.specs.Faults.{shape_names}

@@ -1,7 +1,7 @@
 use Rattle.std.proofs.Common.{◌≡◌, ◌<◌, ℤ, pos, length, get_or, of_z, w64, sym, ap, ◌∙◌, arith, List, true, false}
 use Rattle.std.proofs.lemmas.List.{get_or-map}
-use Rattle.problem_text.specs.declared.tree.Int.{Int}
-use Rattle.problem_text.specs.Meaning.{number_of}
+use Rattle.problem_data.specs.declared.tree.Int.{Int}
+use Rattle.problem_data.specs.Meaning.{number_of}
 use Rattle.layout_text.proofs.faults.tuple.same_numbers.Goals as goal
 
 pub returns-then-number-b : goal.returns-then-number-b

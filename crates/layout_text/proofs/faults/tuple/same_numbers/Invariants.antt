@@ -1,5 +1,5 @@
 use Rattle.std.proofs.Common.{◌≡◌, take, map}
-use Rattle.problem_text.specs.Meaning.{number_of}
+use Rattle.problem_data.specs.Meaning.{number_of}
 use Rattle.layout_text.proofs.faults.tuple.same_numbers.Given as goal
 
 -- the numbers so far are the same

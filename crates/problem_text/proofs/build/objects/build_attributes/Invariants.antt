@@ -1,7 +1,7 @@
 use Rattle.std.proofs.Common.{◌≡◌, ◌++◌, map, length}
 use Rattle.std.specs.Vec.Iter.{into_iter_items, into_iter_len}
-use Rattle.problem_text.specs.ProblemView.{attribute_data}
-use Rattle.problem_text.specs.Meaning.{attribute_of}
+use Rattle.problem_data.specs.ProblemView.{attribute_data}
+use Rattle.problem_data.specs.Meaning.{attribute_of}
 use Rattle.problem_text.proofs.build.objects.build_attributes.Given as goal
 
 -- what was made so far, with what the rest makes, is the whole

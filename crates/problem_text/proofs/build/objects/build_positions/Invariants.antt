@@ -1,5 +1,5 @@
 use Rattle.std.proofs.Common.{◌≡◌, take, map}
-use Rattle.problem_text.specs.Meaning.{position_of}
+use Rattle.problem_data.specs.Meaning.{position_of}
 use Rattle.problem_text.proofs.build.objects.build_positions.Given as goal
 
 -- what was made so far

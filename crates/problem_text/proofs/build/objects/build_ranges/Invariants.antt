@@ -1,6 +1,6 @@
 use Rattle.std.proofs.Common.{◌≡◌, take, map}
-use Rattle.problem_text.specs.ProblemView.{range_data}
-use Rattle.problem_text.specs.Meaning.{range_of}
+use Rattle.problem_data.specs.ProblemView.{range_data}
+use Rattle.problem_data.specs.Meaning.{range_of}
 use Rattle.problem_text.proofs.build.objects.build_ranges.Given as goal
 
 -- what was made so far

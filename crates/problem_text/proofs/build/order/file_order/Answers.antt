@@ -1,5 +1,5 @@
 use Rattle.std.proofs.Common.{ℕ, List, [], ◌∷◌, ◌++◌, sym, ap, ◌∙◌}
-use Rattle.problem_text.proofs.Distinct.{range_push}
+use Rattle.problem_data.proofs.Distinct.{range_push}
 use Rattle.problem_text.proofs.build.order.file_order.Goals as goal
 
 pub loop-i-preserved : goal.loop-i-preserved

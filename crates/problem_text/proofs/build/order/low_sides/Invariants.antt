@@ -1,6 +1,6 @@
 use Rattle.std.proofs.Common.{◌≡◌}
 use Rattle.std.specs.Prelude.{replicate}
-use Rattle.problem_text.specs.declared.tree.Side.TheVariants.{Low}
+use Rattle.problem_data.specs.declared.tree.Side.TheVariants.{Low}
 use Rattle.problem_text.proofs.build.order.low_sides.Given as goal
 
 -- what was made so far

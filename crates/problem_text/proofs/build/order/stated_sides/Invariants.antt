@@ -1,5 +1,5 @@
 use Rattle.std.proofs.Common.{◌≡◌, take, map}
-use Rattle.problem_text.specs.Meaning.{side_of}
+use Rattle.problem_data.specs.Meaning.{side_of}
 use Rattle.problem_text.proofs.build.order.stated_sides.Given as goal
 
 -- what was made so far

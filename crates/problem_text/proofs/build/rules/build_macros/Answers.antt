@@ -1,9 +1,9 @@
 use Rattle.std.proofs.Common.{sym, ◌∙◌}
 use Rattle.std.specs.Vec.Iter.{into_iter_items}
-use Rattle.problem_text.specs.View.{macro_view}
-use Rattle.problem_text.specs.Meaning.{macro_of}
-use Rattle.problem_text.proofs.Taken.{none_left, made_all}
-use Rattle.problem_text.proofs.InLists.{map_twice}
+use Rattle.problem_data.specs.View.{macro_view}
+use Rattle.problem_data.specs.Meaning.{macro_of}
+use Rattle.problem_data.proofs.Taken.{none_left, made_all}
+use Rattle.problem_data.proofs.InLists.{map_twice}
 use Rattle.problem_text.proofs.build.rules.build_macros.Goals as goal
 
 pub returns : goal.returns

@@ -1,7 +1,7 @@
 use Rattle.std.proofs.Common.{◌≡◌, ◌++◌, map, length}
 use Rattle.std.specs.Vec.Iter.{into_iter_items, into_iter_len}
-use Rattle.problem_text.specs.ProblemView.{param_data}
-use Rattle.problem_text.specs.Meaning.{param_of}
+use Rattle.problem_data.specs.ProblemView.{param_data}
+use Rattle.problem_data.specs.Meaning.{param_of}
 use Rattle.problem_text.proofs.build.rules.build_params.Given as goal
 
 -- what was made so far, with what the rest makes, is the whole

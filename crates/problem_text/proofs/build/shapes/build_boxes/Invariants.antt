@@ -1,6 +1,6 @@
 use Rattle.std.proofs.Common.{◌≡◌, take, map}
-use Rattle.problem_text.specs.View.{box_view}
-use Rattle.problem_text.specs.Meaning.{box_of}
+use Rattle.problem_data.specs.View.{box_view}
+use Rattle.problem_data.specs.Meaning.{box_of}
 use Rattle.problem_text.proofs.build.shapes.build_boxes.Given as goal
 
 -- what was made so far

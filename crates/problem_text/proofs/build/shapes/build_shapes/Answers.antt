@@ -1,9 +1,9 @@
 use Rattle.std.proofs.Common.{sym, ◌∙◌}
 use Rattle.std.specs.Vec.Iter.{into_iter_items}
-use Rattle.problem_text.specs.View.{shape_view}
-use Rattle.problem_text.specs.Meaning.{shape_of}
-use Rattle.problem_text.proofs.Taken.{none_left, made_all}
-use Rattle.problem_text.proofs.InLists.{map_twice}
+use Rattle.problem_data.specs.View.{shape_view}
+use Rattle.problem_data.specs.Meaning.{shape_of}
+use Rattle.problem_data.proofs.Taken.{none_left, made_all}
+use Rattle.problem_data.proofs.InLists.{map_twice}
 use Rattle.problem_text.proofs.build.shapes.build_shapes.Goals as goal
 
 pub returns : goal.returns

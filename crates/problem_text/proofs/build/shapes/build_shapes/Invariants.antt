@@ -1,7 +1,7 @@
 use Rattle.std.proofs.Common.{◌≡◌, ◌++◌, map, length}
 use Rattle.std.specs.Vec.Iter.{into_iter_items, into_iter_len}
-use Rattle.problem_text.specs.View.{shape_view}
-use Rattle.problem_text.specs.Meaning.{shape_of}
+use Rattle.problem_data.specs.View.{shape_view}
+use Rattle.problem_data.specs.Meaning.{shape_of}
 use Rattle.problem_text.proofs.build.shapes.build_shapes.Given as goal
 
 -- what was made so far, with what the rest makes, is the whole

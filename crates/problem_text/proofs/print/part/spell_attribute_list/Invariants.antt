@@ -1,7 +1,7 @@
 use Rattle.std.proofs.Common.{◌≡◌, ◌++◌, map, drop}
 use Rattle.rule_print.specs.Canonical.{written}
 use Rattle.problem_text.specs.Canonical.{listed, attribute_spelling}
-use Rattle.problem_text.specs.ProblemView.{attribute_data}
+use Rattle.problem_data.specs.ProblemView.{attribute_data}
 use Rattle.problem_text.proofs.PrintingLists.{left_listed}
 use Rattle.problem_text.proofs.print.part.spell_attribute_list.Given as goal
 

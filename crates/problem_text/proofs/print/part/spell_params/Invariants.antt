@@ -1,7 +1,7 @@
 use Rattle.std.proofs.Common.{◌≡◌, ◌++◌, map, drop}
 use Rattle.rule_print.specs.Canonical.{written}
 use Rattle.problem_text.specs.Canonical.{listed, param_spelling}
-use Rattle.problem_text.specs.ProblemView.{param_data}
+use Rattle.problem_data.specs.ProblemView.{param_data}
 use Rattle.problem_text.proofs.PrintingLists.{left_listed}
 use Rattle.problem_text.proofs.print.part.spell_params.Given as goal
 

@@ -1,7 +1,7 @@
 use Rattle.std.proofs.Common.{◌↔◌, subst, sym}
 use Rattle.geo_base.specs.Tuple.{Tuple}
 use Rattle.geo_conditions.specs.Reach.{State, TupleIn}
-use Rattle.problem_text.specs.Cells.{IsTuple}
+use Rattle.problem_data.specs.Cells.{IsTuple}
 use Rattle.rule_ground.specs.Start.{HasSmallEnds}
 use Rattle.rule_ground.proofs.Starts.{tuples-are, ends-small, state-end}
 use Rattle.rule_ground.proofs.beginning.start.first_state.Goals as goal

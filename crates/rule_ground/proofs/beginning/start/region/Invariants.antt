@@ -1,7 +1,7 @@
 use Rattle.std.proofs.Common.{◌≡◌, ℕ, ◌<◌, length, map}
 use Rattle.geo_base.specs.Boxes.{coordinate}
-use Rattle.problem_text.specs.ProblemView.{range_data}
-use Rattle.problem_text.specs.Cells.{range_at}
+use Rattle.problem_data.specs.ProblemView.{range_data}
+use Rattle.problem_data.specs.Cells.{range_at}
 use Rattle.rule_ground.proofs.beginning.start.region.Given as goal
 
 -- the ends so far

@@ -1,6 +1,6 @@
 use Rattle.std.proofs.Common.{sym, ◌∙◌, ap, length}
 use Rattle.std.proofs.lemmas.List.FromFn.{length-map-range_with_len}
-use Rattle.problem_text.specs.Value.{Object}
+use Rattle.problem_data.specs.Value.{Object}
 use Rattle.rule_values.specs.Elements.{elements_view}
 use Rattle.rule_values.proofs.elements.Elements.len.Goals as goal
 

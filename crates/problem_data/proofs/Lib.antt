@@ -1,0 +1,11 @@
+pub mod Signs
+pub mod NoFault
+pub mod Sound
+pub mod Yielded
+pub mod Accepted
+pub mod MetNames
+pub mod Firsts
+pub mod InLists
+pub mod Taken
+pub mod StatementKinds
+pub mod Distinct

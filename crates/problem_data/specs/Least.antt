@@ -1,0 +1,55 @@
+-- Which of several faults comes first: the one at the least place, and at one place the one whose word stands first in the
+-- order limit, twice, unknown, range, size, order.
+use Rattle.std.specs.Prelude.{◌≡◌, ℕ, Option, Some, None, Bool, false, ◌==◌, ◌&&◌, ◌||◌, nat_lt, if◌then◌else◌}
+use Rattle.geo_tokens.specs.declared.fault.FaultWord.{FaultWord}
+use Rattle.geo_tokens.specs.declared.fault.FaultWord.TheVariants as words
+use Rattle.problem_data.specs.declared.fault.Fault.{Fault}
+
+abbrev pub fault : ℕ → FaultWord → Fault
+fault p w = record { place = p; word = w }
+
+-- the words in their order; behind those of statements all others
+abbrev pub word_rank : FaultWord → ℕ
+word_rank words.Limit = 0
+word_rank words.Twice = 1
+word_rank words.Unknown = 2
+word_rank words.Range = 3
+word_rank words.Size = 4
+word_rank words.Order = 5
+word_rank words.Byte = 6
+word_rank words.Number = 7
+word_rank words.Name = 8
+word_rank words.Syntax = 9
+word_rank words.Deep = 10
+word_rank words.Kind = 11
+word_rank words.Args = 12
+word_rank words.Expand = 13
+word_rank words.Product = 14
+word_rank words.Overflow = 15
+word_rank words.Ground = 16
+word_rank words.Token = 17
+word_rank words.Long = 18
+
+-- f comes after g
+abbrev pub is_after : Fault → Fault → Bool
+is_after f g = nat_lt g.place f.place || ((f.place == g.place) && nat_lt (word_rank g.word) (word_rank f.word))
+
+-- f is one of these faults, and comes after none of them
+pub record IsFirst (P : Fault → Type 0) (f : Fault) : Type 0 where
+  pub there : P f
+  pub first : (g : Fault) → P g → is_after f g ≡ false
+
+-- the first of these faults, or None where there is none
+abbrev pub IsLeast : (Fault → Type 0) → Option Fault → Type 0
+IsLeast P None = (f : Fault) → P f → ⊥
+IsLeast P (Some f) = IsFirst P f
+
+-- the one of two that comes first
+abbrev pub earlier : Option Fault → Option Fault → Option Fault
+earlier None b = b
+earlier (Some f) None = Some f
+earlier (Some f) (Some g) = if is_after f g then Some g else Some f
+
+-- the fault, where there is one
+abbrev pub fault_if : Bool → ℕ → FaultWord → Option Fault
+fault_if wrong p w = if wrong then Some (fault p w) else None

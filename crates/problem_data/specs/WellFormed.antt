@@ -1,0 +1,42 @@
+-- What holds of the data of every problem that a text says.
+use Rattle.std.specs.Prelude.{◌≡◌, ◌≢◌, ◌<◌, ◌≤◌, ◌≤ℤ◌, ◌<ℤ◌, ℕ, length, pos, negsuc, All, AllPairs, Contains}
+use Rattle.problem_data.specs.Limits.{most_dims}
+use Rattle.problem_data.specs.Problem.{BoxData, RangeData, ObjectData, DemandData, apart, within, plain, ProblemData}
+
+-- an offset and a size from 1 on for each dimension
+pub record IsBox (k : ℕ) (b : BoxData) : Type 0 where
+  pub offsets : length b.offsets ≡ k
+  pub sizes : length b.sizes ≡ k
+  pub solid : All (λ n. pos 0 <ℤ n) b.sizes
+
+-- the range is not empty, and its ends are small
+pub record IsRange (r : RangeData) : Type 0 where
+  pub low : negsuc 999999 ≤ℤ r.low
+  pub filled : r.low ≤ℤ r.high
+  pub high : r.high ≤ℤ pos 1000000
+
+-- 1 to 16 different shapes that are there, and a range for each dimension
+pub record IsObject (p : ProblemData) (o : ObjectData) : Type 0 where
+  pub some : 0 < length o.shapes
+  pub few : length o.shapes ≤ 16
+  pub shapes : All (λ n. n < length p.shapes) o.shapes
+  pub once : AllPairs (λ m n. m ≢ n) o.shapes
+  pub dimensions : length o.ranges ≡ p.dims
+  pub ranges : All IsRange o.ranges
+
+abbrev pub IsDemand : ℕ → DemandData → Type 0
+IsDemand k apart = Unit {0}
+IsDemand k (within ranges) = (length ranges ≡ k) × All IsRange ranges
+IsDemand k (plain f) = Unit {0}
+
+pub record IsWellFormed (p : ProblemData) : Type 0 where
+  pub some : 0 < p.dims
+  pub dimensions : p.dims ≤ most_dims
+  pub boxes : All (λ s. All (IsBox p.dims) s.boxes) p.shapes
+  pub few : length p.objects ≤ 200
+  pub objects : All (IsObject p) p.objects
+  pub demands : All (λ r. IsDemand p.dims r.demand) p.rules
+  pub order : All (λ o. o < length p.objects) p.order
+  pub each : (o : ℕ) → o < length p.objects → Contains p.order o
+  pub once : AllPairs (λ o u. o ≢ u) p.order
+  pub sides : length p.sides ≡ p.dims

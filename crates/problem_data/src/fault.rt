@@ -1,0 +1,68 @@
+//! A fault of statements, and which of two faults comes first.
+
+ghost use Rattle.std.specs.Prelude.{◌≡◌};
+ghost use Rattle.problem_data.specs.Least.{word_rank, is_after, earlier, fault_if};
+
+use geo_tokens::fault::FaultWord;
+
+/// What is wrong at a place. The place is how many bytes of the text stand before it.
+#[derive(Clone, Copy, Debug, PartialEq, Eq)]
+pub struct Fault {
+    pub place: u64,
+    pub word: FaultWord,
+}
+
+/// Where the word stands in the order in which the words of one place are taken.
+fn word_rank(word: FaultWord) -> u8
+    ensures { result ≡ word_rank word }
+{
+    match word {
+        FaultWord::Limit => 0,
+        FaultWord::Twice => 1,
+        FaultWord::Unknown => 2,
+        FaultWord::Range => 3,
+        FaultWord::Size => 4,
+        FaultWord::Order => 5,
+        FaultWord::Byte => 6,
+        FaultWord::Number => 7,
+        FaultWord::Name => 8,
+        FaultWord::Syntax => 9,
+        FaultWord::Deep => 10,
+        FaultWord::Kind => 11,
+        FaultWord::Args => 12,
+        FaultWord::Expand => 13,
+        FaultWord::Product => 14,
+        FaultWord::Overflow => 15,
+        FaultWord::Ground => 16,
+        FaultWord::Token => 17,
+        FaultWord::Long => 18,
+    }
+}
+
+fn is_after(f: Fault, g: Fault) -> bool
+    ensures { result ≡ is_after f g }
+{
+    f.place > g.place || f.place == g.place && word_rank(f.word) > word_rank(g.word)
+}
+
+/// The one of two that comes first: at the lesser place, and at one place by the order of the words.
+pub fn earlier(a: Option<Fault>, b: Option<Fault>) -> Option<Fault>
+    ensures { result ≡ earlier a b }
+{
+    match (a, b) {
+        (Some(f), Some(g)) => { if is_after(f, g) { Some(g) } else { Some(f) } }
+        (Some(f), None) => Some(f),
+        (None, g) => g,
+    }
+}
+
+/// The fault, where there is one.
+pub fn fault_if(wrong: bool, place: u64, word: FaultWord) -> Option<Fault>
+    ensures { result ≡ fault_if wrong place word }
+{
+    if wrong {
+        Some(Fault { place, word })
+    } else {
+        None
+    }
+}

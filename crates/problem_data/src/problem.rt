@@ -1,0 +1,420 @@
+//! A problem: what a text with no fault says.
+
+ghost use Rattle.std.specs.Prelude.{◌≡◌, map};
+ghost use Rattle.problem_data.specs.View.{body_view};
+ghost use Rattle.problem_data.specs.ProblemView.{range_data, attribute_data, param_data, demand_data};
+ghost use Rattle.problem_data.specs.Accepted.{IsSaid};
+
+use crate::tree::{MacroBody, ParamKind, Side};
+use geo_tokens::name::Name;
+use rule_syntax::tree::Formula;
+use std::marker::Model;
+
+/// A box of a shape: in each dimension where it begins, as seen from the origin of an object, and how many cells it has.
+#[derive(Debug, Drop)]
+pub struct BoxDef {
+    offsets: Vec<i64>,
+    sizes: Vec<i64>,
+}
+
+impl Model for BoxDef {
+    ghost use Rattle.problem_data.specs.Problem.{BoxData};
+
+    ghost Value = { BoxData };
+
+    ghost view = { λ b. record { offsets = b.offsets.items; sizes = b.sizes.items } };
+}
+
+impl BoxDef {
+    /// A box.
+    pub fn new(offsets: Vec<i64>, sizes: Vec<i64>) -> BoxDef
+        ensures { result ≡ record { offsets = offsets.items; sizes = sizes.items } }
+    {
+        BoxDef { offsets, sizes }
+    }
+
+    /// Where it begins in each dimension.
+    pub fn offsets(&self) -> &[i64]
+        ensures { result.now ≡ self.now.offsets }
+    {
+        self.offsets.as_slice()
+    }
+
+    /// How many cells it has in each dimension.
+    pub fn sizes(&self) -> &[i64]
+        ensures { result.now ≡ self.now.sizes }
+    {
+        self.sizes.as_slice()
+    }
+}
+
+/// A shape: its boxes in file order.
+#[derive(Debug, Drop)]
+pub struct ShapeDef {
+    name: Name,
+    boxes: Vec<BoxDef>,
+}
+
+impl Model for ShapeDef {
+    ghost use Rattle.problem_data.specs.Problem.{ShapeData};
+    ghost use Rattle.problem_data.specs.ProblemCode.{shape_code};
+
+    ghost Value = { ShapeData };
+
+    ghost coded = { shape_code };
+
+    ghost view = { λ s. record { name = s.name; boxes = s.boxes.items } };
+}
+
+impl ShapeDef {
+    /// A shape.
+    pub fn new(name: Name, boxes: Vec<BoxDef>) -> ShapeDef
+        ensures { result ≡ record { name = name; boxes = boxes.items } }
+    {
+        ShapeDef { name, boxes }
+    }
+
+    /// The shape's name.
+    pub fn name(&self) -> &Name
+        ensures { result.now ≡ self.now.name }
+    {
+        &self.name
+    }
+
+    /// The shape's boxes, in file order.
+    pub fn boxes(&self) -> &[BoxDef]
+        ensures { result.now ≡ self.now.boxes }
+    {
+        self.boxes.as_slice()
+    }
+}
+
+/// A range of whole numbers, both ends included.
+#[derive(Clone, Copy, Debug)]
+pub struct RangeDef {
+    pub low: i64,
+    pub high: i64,
+}
+
+/// An attribute of an object.
+#[derive(Debug, Drop)]
+pub struct AttributeDef {
+    pub name: Name,
+    pub value: i64,
+}
+
+/// An object: its shapes by their positions in the list of shapes, from 0, the range of each coordinate of its origin, and
+/// its attributes.
+#[derive(Debug, Drop)]
+pub struct ObjectDef {
+    name: Name,
+    shapes: Vec<u16>,
+    ranges: Vec<RangeDef>,
+    attributes: Vec<AttributeDef>,
+}
+
+impl Model for ObjectDef {
+    ghost use Rattle.std.specs.Prelude.{map};
+    ghost use Rattle.problem_data.specs.Problem.{ObjectData};
+    ghost use Rattle.problem_data.specs.ProblemCode.{object_code};
+    ghost use Rattle.problem_data.specs.ProblemView.{range_data, attribute_data};
+
+    ghost Value = { ObjectData };
+
+    ghost coded = { object_code };
+
+    ghost view = { λ o. record { name = o.name; shapes = o.shapes.items; ranges = map range_data o.ranges.items; attributes = map attribute_data o.attributes.items } };
+}
+
+impl ObjectDef {
+    /// An object.
+    pub fn new(
+        name: Name,
+        shapes: Vec<u16>,
+        ranges: Vec<RangeDef>,
+        attributes: Vec<AttributeDef>,
+    ) -> ObjectDef
+        ensures { result ≡ record { name = name; shapes = shapes.items; ranges = map range_data ranges.items; attributes = map attribute_data attributes.items } }
+    {
+        ObjectDef {
+            name,
+            shapes,
+            ranges,
+            attributes,
+        }
+    }
+
+    /// The object's name.
+    pub fn name(&self) -> &Name
+        ensures { result.now ≡ self.now.name }
+    {
+        &self.name
+    }
+
+    /// The positions of its shapes, from 0, as written.
+    pub fn shapes(&self) -> &[u16]
+        ensures { result.now ≡ self.now.shapes }
+    {
+        self.shapes.as_slice()
+    }
+
+    /// The range of each coordinate of its origin.
+    pub fn ranges(&self) -> &[RangeDef]
+        ensures { map range_data result.now ≡ self.now.ranges }
+    {
+        self.ranges.as_slice()
+    }
+
+    /// Its attributes, as written.
+    pub fn attributes(&self) -> &[AttributeDef]
+        ensures { map attribute_data result.now ≡ self.now.attributes }
+    {
+        self.attributes.as_slice()
+    }
+}
+
+/// A parameter of a macro.
+#[derive(Debug, Drop)]
+pub struct ParamDef {
+    pub name: Name,
+    pub kind: ParamKind,
+}
+
+/// A macro, with the place of its name in the text.
+#[derive(Debug, Drop)]
+pub struct MacroDef {
+    place: u64,
+    name: Name,
+    params: Vec<ParamDef>,
+    body: MacroBody,
+}
+
+impl Model for MacroDef {
+    ghost use Rattle.std.specs.Prelude.{map};
+    ghost use Rattle.problem_data.specs.Problem.{MacroData};
+    ghost use Rattle.problem_data.specs.ProblemCode.{macro_code};
+    ghost use Rattle.problem_data.specs.View.{body_view};
+    ghost use Rattle.problem_data.specs.ProblemView.{param_data};
+
+    ghost Value = { MacroData };
+
+    ghost coded = { macro_code };
+
+    ghost view = { λ m. record { place = m.place; name = m.name; params = map param_data m.params.items; body = body_view m.body } };
+}
+
+impl MacroDef {
+    /// A macro.
+    pub fn new(place: u64, name: Name, params: Vec<ParamDef>, body: MacroBody) -> MacroDef
+        ensures { result ≡ record { place = place; name = name; params = map param_data params.items; body = body_view body } }
+    {
+        MacroDef {
+            place,
+            name,
+            params,
+            body,
+        }
+    }
+
+    /// How many bytes of the text stand before its name.
+    pub fn place(&self) -> u64
+        ensures { result ≡ self.now.place }
+    {
+        self.place
+    }
+
+    /// The macro's name.
+    pub fn name(&self) -> &Name
+        ensures { result.now ≡ self.now.name }
+    {
+        &self.name
+    }
+
+    /// Its parameters.
+    pub fn params(&self) -> &[ParamDef]
+        ensures { map param_data result.now ≡ self.now.params }
+    {
+        self.params.as_slice()
+    }
+
+    /// What it stands for.
+    pub fn body(&self) -> &MacroBody
+        ensures { body_view result.now ≡ self.now.body }
+    {
+        &self.body
+    }
+}
+
+/// What a rule asks for.
+#[derive(Debug, Drop)]
+pub enum Demand {
+    /// No two objects share a cell.
+    Apart,
+    /// Each cell of each object is inside these ranges.
+    Within(Vec<RangeDef>),
+    /// The formula is true.
+    Plain(Formula),
+}
+
+/// A rule, with the place of its name in the text.
+#[derive(Debug, Drop)]
+pub struct RuleDef {
+    place: u64,
+    name: Name,
+    demand: Demand,
+}
+
+impl Model for RuleDef {
+    ghost use Rattle.problem_data.specs.Problem.{RuleData};
+    ghost use Rattle.problem_data.specs.ProblemCode.{rule_code};
+    ghost use Rattle.problem_data.specs.ProblemView.{demand_data};
+
+    ghost Value = { RuleData };
+
+    ghost coded = { rule_code };
+
+    ghost view = { λ r. record { place = r.place; name = r.name; demand = demand_data r.demand } };
+}
+
+impl RuleDef {
+    /// A rule.
+    pub fn new(place: u64, name: Name, demand: Demand) -> RuleDef
+        ensures { result ≡ record { place = place; name = name; demand = demand_data demand } }
+    {
+        RuleDef {
+            place,
+            name,
+            demand,
+        }
+    }
+
+    /// How many bytes of the text stand before its name.
+    pub fn place(&self) -> u64
+        ensures { result ≡ self.now.place }
+    {
+        self.place
+    }
+
+    /// The rule's name.
+    pub fn name(&self) -> &Name
+        ensures { result.now ≡ self.now.name }
+    {
+        &self.name
+    }
+
+    /// What it asks for.
+    pub fn demand(&self) -> &Demand
+        ensures { demand_data result.now ≡ self.now.demand }
+    {
+        &self.demand
+    }
+}
+
+/// A problem. Some text says it.
+#[derive(Debug, Drop)]
+pub struct Problem {
+    dims: usize,
+    shapes: Vec<ShapeDef>,
+    objects: Vec<ObjectDef>,
+    macros: Vec<MacroDef>,
+    rules: Vec<RuleDef>,
+    order: Vec<u16>,
+    sides: Vec<Side>,
+}
+
+impl Model for Problem {
+    ghost use Rattle.problem_data.specs.Problem.{ProblemData};
+    ghost use Rattle.problem_data.specs.ProblemCode.{problem_code};
+
+    ghost Value = { ProblemData };
+
+    ghost coded = { problem_code };
+
+    ghost use Rattle.problem_data.specs.Accepted.{IsSaid};
+
+    ghost view = { λ p. record { dims = p.dims; shapes = p.shapes.items; objects = p.objects.items; macros = p.macros.items; rules = p.rules.items; order = p.order.items; sides = p.sides.items } };
+
+    ghost invariant = { λ p. IsSaid (record { dims = p.dims; shapes = p.shapes.items; objects = p.objects.items; macros = p.macros.items; rules = p.rules.items; order = p.order.items; sides = p.sides.items }) };
+}
+
+impl Problem {
+    /// A problem that some text says.
+    pub fn new(
+        dims: usize,
+        shapes: Vec<ShapeDef>,
+        objects: Vec<ObjectDef>,
+        macros: Vec<MacroDef>,
+        rules: Vec<RuleDef>,
+        order: Vec<u16>,
+        sides: Vec<Side>,
+    ) -> Problem
+        requires { IsSaid (record { dims = dims; shapes = shapes.items; objects = objects.items; macros = macros.items; rules = rules.items; order = order.items; sides = sides.items }) }
+        ensures { result ≡ record { dims = dims; shapes = shapes.items; objects = objects.items; macros = macros.items; rules = rules.items; order = order.items; sides = sides.items } }
+    {
+        Problem {
+            dims,
+            shapes,
+            objects,
+            macros,
+            rules,
+            order,
+            sides,
+        }
+    }
+
+    /// What holds of every problem: some text says it. It does nothing.
+    pub fn is_said(&self)
+        ensures { IsSaid self.now }
+    {
+        let _ = &self.dims;
+    }
+
+    /// The number of dimensions.
+    pub fn dims(&self) -> usize
+        ensures { result ≡ self.now.dims }
+    {
+        self.dims
+    }
+
+    /// The shapes, in file order.
+    pub fn shapes(&self) -> &[ShapeDef]
+        ensures { result.now ≡ self.now.shapes }
+    {
+        self.shapes.as_slice()
+    }
+
+    /// The objects, in file order.
+    pub fn objects(&self) -> &[ObjectDef]
+        ensures { result.now ≡ self.now.objects }
+    {
+        self.objects.as_slice()
+    }
+
+    /// The macros, in file order.
+    pub fn macros(&self) -> &[MacroDef]
+        ensures { result.now ≡ self.now.macros }
+    {
+        self.macros.as_slice()
+    }
+
+    /// The rules, in file order.
+    pub fn rules(&self) -> &[RuleDef]
+        ensures { result.now ≡ self.now.rules }
+    {
+        self.rules.as_slice()
+    }
+
+    /// The positions of the objects, from 0, in the order in which the search takes them.
+    pub fn search_order(&self) -> &[u16]
+        ensures { result.now ≡ self.now.order }
+    {
+        self.order.as_slice()
+    }
+
+    /// For each dimension the end from which its values are tried.
+    pub fn sides(&self) -> &[Side]
+        ensures { result.now ≡ self.now.sides }
+    {
+        self.sides.as_slice()
+    }
+}

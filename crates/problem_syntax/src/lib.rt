@@ -1,0 +1,9 @@
+//! From the tokens of a text to the statements that they spell, or to the first fault of its grammar.
+#![tactic(auto)]
+
+pub mod numbers;
+pub mod objects;
+pub mod order;
+pub mod rules;
+pub mod statements;
+pub mod syntax;

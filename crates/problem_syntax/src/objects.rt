@@ -1,0 +1,189 @@
+//! Reading the statements of shapes and objects.
+
+ghost use Rattle.std.specs.Prelude.{◌≡◌};
+ghost use Rattle.geo_tokens.specs.Gives.{Gives};
+ghost use Rattle.rule_syntax.specs.Reading.{named_at};
+ghost use Rattle.problem_syntax.specs.Reading.{next_at, box_at, boxes_at, shape_at, names_at, attribute_at, attribute_list_at, attributes_at, object_at};
+ghost use Rattle.problem_data.specs.View.{box_view, box_views, statement_view};
+
+use crate::numbers::{int, ints, ranges};
+use problem_data::tree::{AttributeText, BoxText, ObjectText, ShapeText, Statement};
+use geo_tokens::stop::{Stop, next_is, token};
+use geo_tokens::token::{Keyword, Kind, Sym, Token};
+use rule_syntax::tree::PlacedName;
+use rule_syntax::words::placed_name;
+use std::alloc::Global;
+
+/// A box of a shape.
+#[tactic(auto, unfolding(crate::specs::Reading::box_at))]
+fn shape_box(alloc: Global, tokens: &[Token]) -> Result<(BoxText, &[Token]), Stop<'_>>
+    ensures { Gives box_view result (box_at tokens.now) }
+{
+    let (word, rest) = token(tokens, Kind::Word(Keyword::Box))?;
+    let (offsets, rest) = ints(alloc, rest)?;
+    let (_, rest) = token(rest, Kind::Word(Keyword::Size))?;
+    let (sizes, rest) = ints(alloc, rest)?;
+    Ok((
+        BoxText {
+            place: word.start,
+            offsets,
+            sizes,
+        },
+        rest,
+    ))
+}
+
+/// The boxes of a shape, one at least.
+#[tactic(auto, unfolding(crate::specs::Reading::boxes_at))]
+fn boxes(alloc: Global, tokens: &[Token]) -> Result<(Vec<BoxText>, &[Token]), Stop<'_>>
+    ensures { Gives box_views result (boxes_at tokens.now) }
+{
+    let (first, after) = shape_box(alloc, tokens)?;
+    let mut read = vec![in alloc; first]?;
+    let mut rest = after;
+    'items: while next_is(rest, Kind::Word(Keyword::Box)) {
+        let (one, after) = shape_box(alloc, rest)?;
+        read.push(one)?;
+        rest = after;
+    }
+    Ok((read, rest))
+}
+
+/// The statement of a shape.
+#[tactic(auto, unfolding(crate::specs::Reading::shape_at))]
+pub fn shape<'a>(
+    alloc: Global,
+    text: &[u8],
+    tokens: &'a [Token],
+) -> Result<(Statement, &'a [Token]), Stop<'a>>
+    ensures { Gives statement_view result (shape_at text.now tokens.now) }
+{
+    let (_, rest) = token(tokens, Kind::Word(Keyword::Shape))?;
+    let (name, rest) = placed_name(alloc, text, rest)?;
+    let (boxes, rest) = boxes(alloc, rest)?;
+    let (_, rest) = token(rest, Kind::Symbol(Sym::Semicolon))?;
+    Ok((Statement::Shape(ShapeText { name, boxes }), rest))
+}
+
+/// A comma and a name.
+fn next_name<'a>(
+    alloc: Global,
+    text: &[u8],
+    tokens: &'a [Token],
+) -> Result<(PlacedName, &'a [Token]), Stop<'a>>
+    ensures { Gives (λ n. n) result (next_at (named_at text.now) tokens.now) }
+{
+    let (_, rest) = token(tokens, Kind::Symbol(Sym::Comma))?;
+    placed_name(alloc, text, rest)
+}
+
+/// Names with commas between them, one at least.
+#[tactic(auto, unfolding(crate::specs::Reading::names_at))]
+pub fn names<'a>(
+    alloc: Global,
+    text: &[u8],
+    tokens: &'a [Token],
+) -> Result<(Vec<PlacedName>, &'a [Token]), Stop<'a>>
+    ensures { Gives (λ v. v.items) result (names_at text.now tokens.now) }
+{
+    let (first, after) = placed_name(alloc, text, tokens)?;
+    let mut read = vec![in alloc; first]?;
+    let mut rest = after;
+    'items: while next_is(rest, Kind::Symbol(Sym::Comma)) {
+        let (one, after) = next_name(alloc, text, rest)?;
+        read.push(one)?;
+        rest = after;
+    }
+    Ok((read, rest))
+}
+
+/// An attribute of an object.
+#[tactic(auto, unfolding(crate::specs::Reading::attribute_at))]
+fn attribute<'a>(
+    alloc: Global,
+    text: &[u8],
+    tokens: &'a [Token],
+) -> Result<(AttributeText, &'a [Token]), Stop<'a>>
+    ensures { Gives (λ a. a) result (attribute_at text.now tokens.now) }
+{
+    let (name, rest) = placed_name(alloc, text, tokens)?;
+    let (_, rest) = token(rest, Kind::Symbol(Sym::Equal))?;
+    let (value, rest) = int(rest)?;
+    Ok((AttributeText { name, value }, rest))
+}
+
+/// A comma and an attribute.
+fn next_attribute<'a>(
+    alloc: Global,
+    text: &[u8],
+    tokens: &'a [Token],
+) -> Result<(AttributeText, &'a [Token]), Stop<'a>>
+    ensures { Gives (λ a. a) result (next_at (attribute_at text.now) tokens.now) }
+{
+    let (_, rest) = token(tokens, Kind::Symbol(Sym::Comma))?;
+    attribute(alloc, text, rest)
+}
+
+/// Attributes with commas between them, one at least.
+#[tactic(auto, unfolding(crate::specs::Reading::attribute_list_at))]
+fn attribute_list<'a>(
+    alloc: Global,
+    text: &[u8],
+    tokens: &'a [Token],
+) -> Result<(Vec<AttributeText>, &'a [Token]), Stop<'a>>
+    ensures { Gives (λ v. v.items) result (attribute_list_at text.now tokens.now) }
+{
+    let (first, after) = attribute(alloc, text, tokens)?;
+    let mut read = vec![in alloc; first]?;
+    let mut rest = after;
+    'items: while next_is(rest, Kind::Symbol(Sym::Comma)) {
+        let (one, after) = next_attribute(alloc, text, rest)?;
+        read.push(one)?;
+        rest = after;
+    }
+    Ok((read, rest))
+}
+
+/// The attributes of an object, if it has any.
+#[tactic(auto, unfolding(crate::specs::Reading::attributes_at))]
+fn attributes<'a>(
+    alloc: Global,
+    text: &[u8],
+    tokens: &'a [Token],
+) -> Result<(Vec<AttributeText>, &'a [Token]), Stop<'a>>
+    ensures { Gives (λ v. v.items) result (attributes_at text.now tokens.now) }
+{
+    if !next_is(tokens, Kind::Word(Keyword::With)) {
+        return Ok((Vec::new(alloc), tokens));
+    }
+    let (_, rest) = token(tokens, Kind::Word(Keyword::With))?;
+    attribute_list(alloc, text, rest)
+}
+
+/// The statement of an object.
+#[tactic(auto, unfolding(crate::specs::Reading::object_at))]
+pub fn object<'a>(
+    alloc: Global,
+    text: &[u8],
+    tokens: &'a [Token],
+) -> Result<(Statement, &'a [Token]), Stop<'a>>
+    ensures { Gives statement_view result (object_at text.now tokens.now) }
+{
+    let (_, rest) = token(tokens, Kind::Word(Keyword::Object))?;
+    let (name, rest) = placed_name(alloc, text, rest)?;
+    let (_, rest) = token(rest, Kind::Word(Keyword::As))?;
+    let (shapes, rest) = names(alloc, text, rest)?;
+    let (_, rest) = token(rest, Kind::Word(Keyword::At))?;
+    let (ranges, rest) = ranges(alloc, rest)?;
+    let (attributes, rest) = attributes(alloc, text, rest)?;
+    let (_, rest) = token(rest, Kind::Symbol(Sym::Semicolon))?;
+    Ok((
+        Statement::Object(ObjectText {
+            name,
+            shapes,
+            ranges,
+            attributes,
+        }),
+        rest,
+    ))
+}

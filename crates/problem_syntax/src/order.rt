@@ -1,0 +1,99 @@
+//! Reading the statements of the search order and the sides.
+
+ghost use Rattle.std.specs.Prelude.{◌≡◌};
+ghost use Rattle.geo_tokens.specs.Reading.{next_is};
+ghost use Rattle.geo_tokens.specs.Gives.{Gives};
+ghost use Rattle.problem_data.specs.Marks.{side_words};
+ghost use Rattle.problem_syntax.specs.Reading.{order_at, side_at, side_list_at, sides_at};
+ghost use Rattle.problem_data.specs.View.{statement_view};
+
+use crate::objects::names;
+use problem_data::tree::{OrderText, Side, SideText, SidesText, Statement};
+use geo_tokens::stop::{Stop, next_in, one_of, token};
+use geo_tokens::token::{Keyword, Kind, Sym, Token};
+use std::alloc::Global;
+
+/// The statement of the search order.
+#[tactic(auto, unfolding(crate::specs::Reading::order_at))]
+pub fn order<'a>(
+    alloc: Global,
+    text: &[u8],
+    tokens: &'a [Token],
+) -> Result<(Statement, &'a [Token]), Stop<'a>>
+    ensures { Gives statement_view result (order_at text.now tokens.now) }
+{
+    let (word, rest) = token(tokens, Kind::Word(Keyword::Order))?;
+    let (names, rest) = names(alloc, text, rest)?;
+    let (_, rest) = token(rest, Kind::Symbol(Sym::Semicolon))?;
+    Ok((
+        Statement::Order(OrderText {
+            place: word.start,
+            names,
+        }),
+        rest,
+    ))
+}
+
+/// A side.
+fn side(tokens: &[Token]) -> Result<(SideText, &[Token]), Stop<'_>>
+    ensures { Gives (λ s. s) result (side_at tokens.now) }
+{
+    let (word, rest) = one_of(
+        tokens,
+        &[Kind::Word(Keyword::Low), Kind::Word(Keyword::High)],
+    )?;
+    let side = match word.kind {
+        Kind::Word(Keyword::Low) => Side::Low,
+        _ => Side::High,
+    };
+    Ok((
+        SideText {
+            place: word.start,
+            side,
+        },
+        rest,
+    ))
+}
+
+/// A side begins here.
+fn begins_side(tokens: &[Token]) -> bool
+    ensures { result ≡ next_is side_words tokens.now }
+{
+    next_in(
+        tokens,
+        &[Kind::Word(Keyword::Low), Kind::Word(Keyword::High)],
+    )
+}
+
+/// Sides, one at least.
+#[tactic(auto, unfolding(crate::specs::Reading::side_list_at))]
+fn side_list(alloc: Global, tokens: &[Token]) -> Result<(Vec<SideText>, &[Token]), Stop<'_>>
+    ensures { Gives (λ v. v.items) result (side_list_at tokens.now) }
+{
+    let (first, after) = side(tokens)?;
+    let mut read = vec![in alloc; first]?;
+    let mut rest = after;
+    'items: while begins_side(rest) {
+        let (one, after) = side(rest)?;
+        read.push(one)?;
+        rest = after;
+    }
+    Ok((read, rest))
+}
+
+/// The statement of the sides.
+#[tactic(auto, unfolding(crate::specs::Reading::sides_at))]
+pub fn sides(alloc: Global, tokens: &[Token]) -> Result<(Statement, &[Token]), Stop<'_>>
+    ensures { Gives statement_view result (sides_at tokens.now) }
+{
+    let (word, rest) = token(tokens, Kind::Word(Keyword::Sides))?;
+    let (sides, rest) = side_list(alloc, rest)?;
+    let (_, rest) = token(rest, Kind::Symbol(Sym::Semicolon))?;
+    Ok((
+        Statement::Sides(SidesText {
+            place: word.start,
+            sides,
+        }),
+        rest,
+    ))
+}

@@ -1,0 +1,234 @@
+//! Reading the statements of macros and rules.
+
+ghost use Rattle.std.specs.Prelude.{◌≡◌};
+ghost use Rattle.geo_tokens.specs.Gives.{Gives};
+ghost use Rattle.problem_syntax.specs.Reading.{next_at, param_at, param_list_at, some_params_at, params_at, means_at, equals_at, body_at, macro_at, apart_at, within_at, plain_at, demand_at, rule_at};
+ghost use Rattle.problem_data.specs.View.{body_view, demand_view, statement_view};
+
+use crate::numbers::ranges;
+use problem_data::tree::{MacroBody, MacroText, ParamKind, ParamText, RuleBody, RuleText, Statement};
+use geo_tokens::stop::{Stop, next_is, one_of, token};
+use geo_tokens::token::{Keyword, Kind, Sym, Token};
+use rule_reading::formula::formula;
+use rule_syntax::expression::expression;
+use rule_syntax::words::placed_name;
+use std::alloc::Global;
+
+/// A parameter of a macro.
+#[tactic(auto, unfolding(crate::specs::Reading::param_at))]
+fn param<'a>(
+    alloc: Global,
+    text: &[u8],
+    tokens: &'a [Token],
+) -> Result<(ParamText, &'a [Token]), Stop<'a>>
+    ensures { Gives (λ p. p) result (param_at text.now tokens.now) }
+{
+    let (name, rest) = placed_name(alloc, text, tokens)?;
+    let (_, rest) = token(rest, Kind::Symbol(Sym::Colon))?;
+    let (word, rest) = one_of(
+        rest,
+        &[
+            Kind::Word(Keyword::Int),
+            Kind::Word(Keyword::Object),
+            Kind::Word(Keyword::Box),
+        ],
+    )?;
+    let kind = match word.kind {
+        Kind::Word(Keyword::Int) => ParamKind::Int,
+        Kind::Word(Keyword::Object) => ParamKind::Object,
+        _ => ParamKind::Box,
+    };
+    Ok((ParamText { name, kind }, rest))
+}
+
+/// A comma and a parameter.
+fn next_param<'a>(
+    alloc: Global,
+    text: &[u8],
+    tokens: &'a [Token],
+) -> Result<(ParamText, &'a [Token]), Stop<'a>>
+    ensures { Gives (λ p. p) result (next_at (param_at text.now) tokens.now) }
+{
+    let (_, rest) = token(tokens, Kind::Symbol(Sym::Comma))?;
+    param(alloc, text, rest)
+}
+
+/// Parameters with commas between them, one at least.
+#[tactic(auto, unfolding(crate::specs::Reading::param_list_at))]
+fn param_list<'a>(
+    alloc: Global,
+    text: &[u8],
+    tokens: &'a [Token],
+) -> Result<(Vec<ParamText>, &'a [Token]), Stop<'a>>
+    ensures { Gives (λ v. v.items) result (param_list_at text.now tokens.now) }
+{
+    let (first, after) = param(alloc, text, tokens)?;
+    let mut read = vec![in alloc; first]?;
+    let mut rest = after;
+    'items: while next_is(rest, Kind::Symbol(Sym::Comma)) {
+        let (one, after) = next_param(alloc, text, rest)?;
+        read.push(one)?;
+        rest = after;
+    }
+    Ok((read, rest))
+}
+
+/// Parameters with commas between them, or none.
+fn some_params<'a>(
+    alloc: Global,
+    text: &[u8],
+    tokens: &'a [Token],
+) -> Result<(Vec<ParamText>, &'a [Token]), Stop<'a>>
+    ensures { Gives (λ v. v.items) result (some_params_at text.now tokens.now) }
+{
+    if next_is(tokens, Kind::Name) {
+        param_list(alloc, text, tokens)
+    } else {
+        Ok((Vec::new(alloc), tokens))
+    }
+}
+
+/// The parameters of a macro, in their brackets.
+#[tactic(auto, unfolding(crate::specs::Reading::params_at))]
+fn params<'a>(
+    alloc: Global,
+    text: &[u8],
+    tokens: &'a [Token],
+) -> Result<(Vec<ParamText>, &'a [Token]), Stop<'a>>
+    ensures { Gives (λ v. v.items) result (params_at text.now tokens.now) }
+{
+    let (_, rest) = token(tokens, Kind::Symbol(Sym::ParenOpen))?;
+    let (params, rest) = some_params(alloc, text, rest)?;
+    let (_, rest) = token(rest, Kind::Symbol(Sym::ParenClose))?;
+    Ok((params, rest))
+}
+
+/// A formula that a macro stands for.
+fn formula_body<'a>(
+    alloc: Global,
+    text: &[u8],
+    levels: u32,
+    tokens: &'a [Token],
+) -> Result<(MacroBody, &'a [Token]), Stop<'a>>
+    ensures { Gives body_view result (means_at text.now levels tokens.now) }
+{
+    let (_, rest) = token(tokens, Kind::Word(Keyword::Means))?;
+    let (formula, rest) = formula(alloc, text, levels, rest)?;
+    Ok((MacroBody::Means(formula), rest))
+}
+
+/// An expression that a macro stands for.
+fn value_body<'a>(
+    alloc: Global,
+    text: &[u8],
+    levels: u32,
+    tokens: &'a [Token],
+) -> Result<(MacroBody, &'a [Token]), Stop<'a>>
+    ensures { Gives body_view result (equals_at text.now levels tokens.now) }
+{
+    let (_, rest) = token(tokens, Kind::Word(Keyword::Is))?;
+    let (value, rest) = expression(alloc, text, levels, rest)?;
+    Ok((MacroBody::Is(value), rest))
+}
+
+/// What a macro stands for.
+#[tactic(auto, unfolding(crate::specs::Reading::body_at))]
+fn macro_body<'a>(
+    alloc: Global,
+    text: &[u8],
+    levels: u32,
+    tokens: &'a [Token],
+) -> Result<(MacroBody, &'a [Token]), Stop<'a>>
+    ensures { Gives body_view result (body_at text.now levels tokens.now) }
+{
+    if next_is(tokens, Kind::Word(Keyword::Means)) {
+        formula_body(alloc, text, levels, tokens)
+    } else {
+        value_body(alloc, text, levels, tokens)
+    }
+}
+
+/// The statement of a macro.
+#[tactic(auto, unfolding(crate::specs::Reading::macro_at))]
+pub fn macro_statement<'a>(
+    alloc: Global,
+    text: &[u8],
+    levels: u32,
+    tokens: &'a [Token],
+) -> Result<(Statement, &'a [Token]), Stop<'a>>
+    ensures { Gives statement_view result (macro_at text.now levels tokens.now) }
+{
+    let (_, rest) = token(tokens, Kind::Word(Keyword::Macro))?;
+    let (name, rest) = placed_name(alloc, text, rest)?;
+    let (params, rest) = params(alloc, text, rest)?;
+    let (body, rest) = macro_body(alloc, text, levels, rest)?;
+    let (_, rest) = token(rest, Kind::Symbol(Sym::Semicolon))?;
+    Ok((Statement::Macro(MacroText { name, params, body }), rest))
+}
+
+/// The word `apart`.
+fn apart(tokens: &[Token]) -> Result<(RuleBody, &[Token]), Stop<'_>>
+    ensures { Gives demand_view result (apart_at tokens.now) }
+{
+    let (_, rest) = token(tokens, Kind::Word(Keyword::Apart))?;
+    Ok((RuleBody::Apart, rest))
+}
+
+/// The word `within` and the ranges behind it.
+fn within(alloc: Global, tokens: &[Token]) -> Result<(RuleBody, &[Token]), Stop<'_>>
+    ensures { Gives demand_view result (within_at tokens.now) }
+{
+    let (_, rest) = token(tokens, Kind::Word(Keyword::Within))?;
+    let (ranges, rest) = ranges(alloc, rest)?;
+    Ok((RuleBody::Within(ranges), rest))
+}
+
+/// A formula that a rule asks for.
+fn plain<'a>(
+    alloc: Global,
+    text: &[u8],
+    levels: u32,
+    tokens: &'a [Token],
+) -> Result<(RuleBody, &'a [Token]), Stop<'a>>
+    ensures { Gives demand_view result (plain_at text.now levels tokens.now) }
+{
+    let (formula, rest) = formula(alloc, text, levels, tokens)?;
+    Ok((RuleBody::Plain(formula), rest))
+}
+
+/// What a rule asks for, by its first word.
+#[tactic(auto, unfolding(crate::specs::Reading::demand_at))]
+fn rule_body<'a>(
+    alloc: Global,
+    text: &[u8],
+    levels: u32,
+    tokens: &'a [Token],
+) -> Result<(RuleBody, &'a [Token]), Stop<'a>>
+    ensures { Gives demand_view result (demand_at text.now levels tokens.now) }
+{
+    if next_is(tokens, Kind::Word(Keyword::Apart)) {
+        apart(tokens)
+    } else if next_is(tokens, Kind::Word(Keyword::Within)) {
+        within(alloc, tokens)
+    } else {
+        plain(alloc, text, levels, tokens)
+    }
+}
+
+/// The statement of a rule.
+#[tactic(auto, unfolding(crate::specs::Reading::rule_at))]
+pub fn rule<'a>(
+    alloc: Global,
+    text: &[u8],
+    levels: u32,
+    tokens: &'a [Token],
+) -> Result<(Statement, &'a [Token]), Stop<'a>>
+    ensures { Gives statement_view result (rule_at text.now levels tokens.now) }
+{
+    let (_, rest) = token(tokens, Kind::Word(Keyword::Rule))?;
+    let (name, rest) = placed_name(alloc, text, rest)?;
+    let (_, rest) = token(rest, Kind::Symbol(Sym::Colon))?;
+    let (body, rest) = rule_body(alloc, text, levels, rest)?;
+    let (_, rest) = token(rest, Kind::Symbol(Sym::Semicolon))?;
+    Ok((Statement::Rule(RuleText { name, body }), rest))
+}

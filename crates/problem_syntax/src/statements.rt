@@ -1,0 +1,104 @@
+//! Reading statements and the whole of a text, by one function for each production of the grammar.
+
+ghost use Rattle.std.specs.Prelude.{◌≡◌};
+ghost use Rattle.geo_tokens.specs.Reading.{next_is, many_at};
+ghost use Rattle.geo_tokens.specs.Gives.{Gives};
+ghost use Rattle.problem_data.specs.Marks.{statement_firsts};
+ghost use Rattle.problem_syntax.specs.Reading.{statement_at, problem_at};
+ghost use Rattle.problem_data.specs.View.{statement_view, statement_views, problem_view};
+
+use crate::numbers::plain_int;
+use crate::objects::{object, shape};
+use crate::order::{order, sides};
+use crate::rules::{macro_statement, rule};
+use problem_data::tree::{ProblemText, Statement};
+use geo_tokens::stop::{Stop, next_in, next_is, token};
+use geo_tokens::token::{Keyword, Kind, Token};
+use std::alloc::Global;
+
+/// A statement, in which up to `levels` levels may be opened.
+#[tactic(auto, unfolding(crate::specs::Reading::statement_at))]
+fn statement<'a>(
+    alloc: Global,
+    text: &[u8],
+    levels: u32,
+    tokens: &'a [Token],
+) -> Result<(Statement, &'a [Token]), Stop<'a>>
+    ensures { Gives statement_view result (statement_at text.now levels tokens.now) }
+{
+    if next_is(tokens, Kind::Word(Keyword::Shape)) {
+        shape(alloc, text, tokens)
+    } else if next_is(tokens, Kind::Word(Keyword::Object)) {
+        object(alloc, text, tokens)
+    } else if next_is(tokens, Kind::Word(Keyword::Order)) {
+        order(alloc, text, tokens)
+    } else if next_is(tokens, Kind::Word(Keyword::Sides)) {
+        sides(alloc, tokens)
+    } else if next_is(tokens, Kind::Word(Keyword::Macro)) {
+        macro_statement(alloc, text, levels, tokens)
+    } else {
+        rule(alloc, text, levels, tokens)
+    }
+}
+
+/// A statement begins here.
+fn begins_statement(tokens: &[Token]) -> bool
+    ensures { result ≡ next_is statement_firsts tokens.now }
+{
+    next_in(
+        tokens,
+        &[
+            Kind::Word(Keyword::Shape),
+            Kind::Word(Keyword::Object),
+            Kind::Word(Keyword::Order),
+            Kind::Word(Keyword::Sides),
+            Kind::Word(Keyword::Macro),
+            Kind::Word(Keyword::Rule),
+        ],
+    )
+}
+
+/// Statements, as far as they go.
+fn statements<'a>(
+    alloc: Global,
+    text: &[u8],
+    levels: u32,
+    tokens: &'a [Token],
+) -> Result<(Vec<Statement>, &'a [Token]), Stop<'a>>
+    ensures { Gives statement_views result (many_at statement_firsts (statement_at text.now levels) tokens.now) }
+{
+    let mut read = Vec::new(alloc);
+    let mut rest = tokens;
+    'items: while begins_statement(rest) {
+        let (one, after) = statement(alloc, text, levels, rest)?;
+        read.push(one)?;
+        rest = after;
+    }
+    Ok((read, rest))
+}
+
+/// What a text says, in which up to `levels` levels may be open at a time, and the tokens behind it.
+#[tactic(auto, unfolding(crate::specs::Reading::problem_at))]
+pub fn problem<'a>(
+    alloc: Global,
+    text: &[u8],
+    levels: u32,
+    tokens: &'a [Token],
+) -> Result<(ProblemText, &'a [Token]), Stop<'a>>
+    ensures { Gives problem_view result (problem_at text.now levels tokens.now) }
+{
+    let (_, rest) = token(tokens, Kind::Word(Keyword::Geost))?;
+    let (version, rest) = plain_int(rest)?;
+    let (_, rest) = token(rest, Kind::Word(Keyword::Dims))?;
+    let (dims, rest) = plain_int(rest)?;
+    let (statements, rest) = statements(alloc, text, levels, rest)?;
+    let (_, rest) = token(rest, Kind::Word(Keyword::End))?;
+    Ok((
+        ProblemText {
+            version,
+            dims,
+            statements,
+        },
+        rest,
+    ))
+}

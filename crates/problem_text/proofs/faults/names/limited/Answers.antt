@@ -1,7 +1,0 @@
-use Rattle.std.proofs.Common.{map}
-use Rattle.problem_text.specs.Faults.{PastLimit, Repeated}
-use Rattle.problem_text.proofs.Firsts.{joined}
-use Rattle.problem_text.proofs.faults.names.limited.Goals as goal
-
-pub returns : goal.returns
-returns g c = joined (PastLimit c.args.most (map g.T.Named.name_of c.args.items.now)) (Repeated (map g.T.Named.name_of c.args.items.now)) _ _ _ c.earlier.ensures c.past_limit-past.ensures c.requires

@@ -1,8 +1,0 @@
-use Rattle.std.proofs.Common.{map}
-use Rattle.problem_text.specs.Limits.{most_attributes}
-use Rattle.problem_text.specs.Faults.{Among, NamesFault, FieldFault, attribute_name}
-use Rattle.problem_text.proofs.Firsts.{joined}
-use Rattle.problem_text.proofs.faults.objects.attributes_fault.Goals as goal
-
-pub returns : goal.returns
-returns c = joined (NamesFault most_attributes (map attribute_name c.args.attributes.now)) (Among (λ before. FieldFault) c.args.attributes.now) _ _ _ c.earlier.ensures c.in_ok-names.ensures c.each_attribute-each.ensures

@@ -1,0 +1,3 @@
+pub mod Zeros
+pub mod ZeroFaults
+pub mod AllFaults

@@ -1,0 +1,74 @@
+//! The first fault of statements.
+
+ghost use Rattle.std.specs.Prelude.{◌≡◌, IfOk};
+ghost use Rattle.problem_data.specs.Parts.{parts_view};
+ghost use Rattle.problem_data.specs.Least.{IsLeast};
+ghost use Rattle.problem_data.specs.Faults.{VersionFault, DimsFault, IsFault, count_of};
+
+use problem_data::fault::{Fault, earlier, fault_if};
+use crate::names::met_names;
+use crate::objects::objects_fault;
+use crate::order::{orders_fault, sides_fault};
+use crate::rules::{macros_fault, rules_fault};
+use crate::shapes::shapes_fault;
+use problem_data::parts::Parts;
+use problem_data::tree::Int;
+use geo_tokens::fault::FaultWord;
+use std::alloc::{AllocError, Global};
+
+/// How many dimensions a text may have.
+const MOST_DIMS: i64 = 4;
+
+/// The number of dimensions that is stated.
+pub fn count_of(dims: Int) -> usize
+    ensures { result ≡ count_of dims.value }
+{
+    if dims.value < 0 {
+        0
+    } else {
+        dims.value as usize
+    }
+}
+
+fn version_fault(version: Int) -> Option<Fault>
+    ensures { IsLeast (VersionFault version) result }
+{
+    fault_if(version.value != 1, version.place, FaultWord::Limit)
+}
+
+fn dims_fault(dims: Int) -> Option<Fault>
+    ensures { IsLeast (DimsFault dims) result }
+{
+    let right = 1 <= dims.value && dims.value <= MOST_DIMS;
+    fault_if(!right, dims.place, FaultWord::Limit)
+}
+
+/// The first fault of the statements.
+pub fn first_fault(alloc: Global, said: &Parts) -> Result<Option<Fault>, AllocError>
+    ensures { IfOk result (IsLeast (IsFault (parts_view said.now))) }
+{
+    let k = count_of(said.dims);
+    let version = version_fault(said.version);
+    let dims = dims_fault(said.dims);
+    let (shape_names, shape_repeated) = met_names(alloc, said.shapes.as_slice())?;
+    let shapes = shapes_fault(k, said.shapes.as_slice(), shape_repeated);
+    let (object_names, object_repeated) = met_names(alloc, said.objects.as_slice())?;
+    let objects = objects_fault(
+        alloc,
+        k,
+        &shape_names,
+        said.objects.as_slice(),
+        object_repeated,
+    )?;
+    let orders = orders_fault(alloc, &object_names, said.orders.as_slice())?;
+    let sides = sides_fault(k, said.sides.as_slice());
+    let macros = macros_fault(alloc, said.macros.as_slice())?;
+    let rules = rules_fault(alloc, k, said.rules.as_slice())?;
+    let last = earlier(macros, rules);
+    let last = earlier(sides, last);
+    let last = earlier(orders, last);
+    let last = earlier(objects, last);
+    let last = earlier(shapes, last);
+    let last = earlier(dims, last);
+    Ok(earlier(version, last))
+}

@@ -1,0 +1,12 @@
+//! The first fault of the statements of a text.
+#![tactic(auto)]
+
+mod divisors;
+pub mod first;
+mod named;
+pub mod names;
+pub mod numbers;
+mod objects;
+mod order;
+mod rules;
+mod shapes;

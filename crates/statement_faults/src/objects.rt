@@ -1,0 +1,122 @@
+//! Faults of the statements of objects.
+
+ghost use Rattle.std.specs.Prelude.{◌≡◌, ◌↔◌, ◌≤◌, ◌∷◌, [], ℕ, map, IfOk, IsTrue};
+ghost use Rattle.problem_data.specs.Limits.{IsFieldName};
+ghost use Rattle.problem_data.specs.View.{object_view};
+ghost use Rattle.problem_data.specs.Least.{IsLeast};
+ghost use Rattle.problem_data.specs.Faults.{Among, FieldFault, AttributesFault, ObjectFault, ObjectsFault, Repeated};
+
+use problem_data::fault::{Fault, earlier, fault_if};
+use crate::names::{limited, names_fault, not_made};
+use crate::numbers::ranges_fault;
+use problem_data::seen::SeenNames;
+use problem_data::tree::{AttributeText, ObjectText};
+use geo_tokens::fault::FaultWord;
+use std::alloc::{AllocError, Global};
+
+/// How many objects a problem may have.
+const MOST_OBJECTS: usize = 200;
+
+/// How many shapes an object may have.
+const MOST_OBJECT_SHAPES: usize = 16;
+
+/// How many attributes an object may have.
+const MOST_ATTRIBUTES: usize = 32;
+
+/// x1 to x9.
+fn is_coordinate_name(name: &[u8]) -> bool
+    ensures { IsTrue result ↔ ((d : ℕ) × (49 ≤ d) × (d ≤ 57) × (name.now ≡ 120 ∷ d ∷ [])) }
+{
+    match name {
+        [first, digit] => *first == b'x' && b'1' <= *digit && *digit <= b'9',
+        _ => false,
+    }
+}
+
+/// The name of a field that each object has.
+fn is_field_name(name: &[u8]) -> bool
+    ensures { IsTrue result ↔ IsFieldName name.now }
+{
+    name == b"id".as_slice() || name == b"sid".as_slice() || is_coordinate_name(name)
+}
+
+fn field_fault(attribute: &AttributeText) -> Option<Fault>
+    ensures { IsLeast (FieldFault attribute.now) result }
+{
+    let field = is_field_name(attribute.name.name.as_bytes());
+    fault_if(field, attribute.name.place, FaultWord::Twice)
+}
+
+fn each_attribute(attributes: &[AttributeText]) -> Option<Fault>
+    ensures { IsLeast (Among (λ before. FieldFault) attributes.now) result }
+{
+    let mut found = None;
+    for attribute in attributes {
+        let here = field_fault(attribute);
+        found = earlier(found, here);
+    }
+    found
+}
+
+fn attributes_fault(
+    alloc: Global,
+    attributes: &[AttributeText],
+) -> Result<Option<Fault>, AllocError>
+    ensures { IfOk result (IsLeast (AttributesFault attributes.now)) }
+{
+    let names = names_fault(alloc, MOST_ATTRIBUTES, attributes)?;
+    let each = each_attribute(attributes);
+    Ok(earlier(names, each))
+}
+
+/// The first fault of an object by itself, where these are the names of the shapes.
+fn object_fault(
+    alloc: Global,
+    k: usize,
+    made: &SeenNames<'_>,
+    object: &ObjectText,
+) -> Result<Option<Fault>, AllocError>
+    ensures { IfOk result (IsLeast (ObjectFault k made.now (object_view object.now))) }
+{
+    let shapes = object.shapes.as_slice();
+    let names = names_fault(alloc, MOST_OBJECT_SHAPES, shapes)?;
+    let unknown = not_made(made, shapes);
+    let ranges = ranges_fault(k, object.ranges.as_slice());
+    let attributes = attributes_fault(alloc, object.attributes.as_slice())?;
+    let lists = earlier(ranges, attributes);
+    let others = earlier(unknown, lists);
+    Ok(earlier(names, others))
+}
+
+fn each_object(
+    alloc: Global,
+    k: usize,
+    made: &SeenNames<'_>,
+    objects: &[ObjectText],
+) -> Result<Option<Fault>, AllocError>
+    ensures { IfOk result (IsLeast (Among (λ before. ObjectFault k made.now) (map object_view objects.now))) }
+{
+    let mut found = None;
+    for object in objects {
+        let here = object_fault(alloc, k, made, object)?;
+        found = earlier(found, here);
+    }
+    Ok(found)
+}
+
+/// The first fault of the statements of objects, where these are the names of the shapes and the first name of an object
+/// that is repeated is known.
+pub fn objects_fault(
+    alloc: Global,
+    k: usize,
+    made: &SeenNames<'_>,
+    objects: &[ObjectText],
+    repeated: Option<Fault>,
+) -> Result<Option<Fault>, AllocError>
+    requires { IsLeast (Repeated (map (λ o. o.name) objects.now)) repeated }
+    ensures { IfOk result (IsLeast (ObjectsFault k made.now (map object_view objects.now))) }
+{
+    let names = limited(MOST_OBJECTS, objects, repeated);
+    let each = each_object(alloc, k, made, objects)?;
+    Ok(earlier(names, each))
+}
