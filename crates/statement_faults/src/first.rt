@@ -1,6 +1,6 @@
 //! The first fault of statements.
 
-ghost use Rattle.std.specs.Prelude.{◌≡◌, IfOk};
+ghost use Rattle.std.specs.Prelude.{◌≡◌, ◌↔◌, pos, IfOk, IsTrue};
 ghost use Rattle.problem_data.specs.Parts.{parts_view};
 ghost use Rattle.problem_data.specs.Least.{IsLeast};
 ghost use Rattle.problem_data.specs.Faults.{VersionFault, DimsFault, IsFault, count_of};
@@ -30,10 +30,17 @@ pub fn count_of(dims: Int) -> usize
     }
 }
 
+fn is_version(value: i64) -> bool
+    ensures { IsTrue result ↔ (value ≡ pos 1) }
+{
+    value == 1
+}
+
 fn version_fault(version: Int) -> Option<Fault>
     ensures { IsLeast (VersionFault version) result }
 {
-    fault_if(version.value != 1, version.place, FaultWord::Limit)
+    let known = is_version(version.value);
+    fault_if(!known, version.place, FaultWord::Limit)
 }
 
 fn dims_fault(dims: Int) -> Option<Fault>
