@@ -8,9 +8,9 @@ ghost use Rattle.problem_data.specs.Grammar.{plain_int};
 ghost use Rattle.problem_data.specs.Meaning.{number_of};
 ghost use Rattle.problem_syntax.specs.Reading.{plain_int_at, negative_int_at, int_at, ints_at, range_at, ranges_at};
 
-use problem_data::tree::{Int, RangeText};
 use geo_tokens::stop::{Stop, next_in, next_is, token};
 use geo_tokens::token::{Kind, Sym, Token, number_in};
+use problem_data::tree::{Int, RangeText};
 use std::alloc::{AllocError, Global};
 
 /// The values of whole numbers.

@@ -7,9 +7,9 @@ ghost use Rattle.problem_syntax.specs.Reading.{next_at, box_at, boxes_at, shape_
 ghost use Rattle.problem_data.specs.View.{box_view, box_views, statement_view};
 
 use crate::numbers::{int, ints, ranges};
-use problem_data::tree::{AttributeText, BoxText, ObjectText, ShapeText, Statement};
 use geo_tokens::stop::{Stop, next_is, token};
 use geo_tokens::token::{Keyword, Kind, Sym, Token};
+use problem_data::tree::{AttributeText, BoxText, ObjectText, ShapeText, Statement};
 use rule_syntax::tree::PlacedName;
 use rule_syntax::words::placed_name;
 use std::alloc::Global;

@@ -8,9 +8,9 @@ ghost use Rattle.problem_syntax.specs.Reading.{order_at, side_at, side_list_at, 
 ghost use Rattle.problem_data.specs.View.{statement_view};
 
 use crate::objects::names;
-use problem_data::tree::{OrderText, Side, SideText, SidesText, Statement};
 use geo_tokens::stop::{Stop, next_in, one_of, token};
 use geo_tokens::token::{Keyword, Kind, Sym, Token};
+use problem_data::tree::{OrderText, Side, SideText, SidesText, Statement};
 use std::alloc::Global;
 
 /// The statement of the search order.

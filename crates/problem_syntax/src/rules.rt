@@ -6,9 +6,11 @@ ghost use Rattle.problem_syntax.specs.Reading.{next_at, param_at, param_list_at,
 ghost use Rattle.problem_data.specs.View.{body_view, demand_view, statement_view};
 
 use crate::numbers::ranges;
-use problem_data::tree::{MacroBody, MacroText, ParamKind, ParamText, RuleBody, RuleText, Statement};
 use geo_tokens::stop::{Stop, next_is, one_of, token};
 use geo_tokens::token::{Keyword, Kind, Sym, Token};
+use problem_data::tree::{
+    MacroBody, MacroText, ParamKind, ParamText, RuleBody, RuleText, Statement,
+};
 use rule_reading::formula::formula;
 use rule_syntax::expression::expression;
 use rule_syntax::words::placed_name;

@@ -11,9 +11,9 @@ use crate::numbers::plain_int;
 use crate::objects::{object, shape};
 use crate::order::{order, sides};
 use crate::rules::{macro_statement, rule};
-use problem_data::tree::{ProblemText, Statement};
 use geo_tokens::stop::{Stop, next_in, next_is, token};
 use geo_tokens::token::{Keyword, Kind, Token};
+use problem_data::tree::{ProblemText, Statement};
 use std::alloc::Global;
 
 /// A statement, in which up to `levels` levels may be opened.

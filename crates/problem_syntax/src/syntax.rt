@@ -6,10 +6,10 @@ ghost use Rattle.problem_data.specs.View.{problem_view};
 ghost use Rattle.problem_syntax.specs.WholeText.{AnswersText, IsOnlyAnswer};
 
 use crate::statements::problem;
-use problem_data::tree::ProblemText;
 use geo_tokens::fault::TextFault;
 use geo_tokens::stop::Stop;
 use geo_tokens::token::Token;
+use problem_data::tree::ProblemText;
 use rule_reading::read::{LEVELS, fault_of};
 use std::alloc::Global;
 

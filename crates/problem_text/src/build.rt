@@ -18,11 +18,11 @@ use crate::build::objects::build_objects;
 use crate::build::order::{build_order, build_sides};
 use crate::build::rules::{build_macros, build_rules};
 use crate::build::shapes::build_shapes;
-use statement_faults::first::count_of;
-use statement_faults::names::met_names;
 use problem_data::parts::Parts;
 use problem_data::problem::{ObjectDef, Problem};
 use problem_data::tree::{ObjectText, OrderText, ShapeText};
+use statement_faults::first::count_of;
+use statement_faults::names::met_names;
 use std::alloc::{AllocError, Global};
 
 /// The search order, where the names of the objects differ.

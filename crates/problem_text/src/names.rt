@@ -4,8 +4,8 @@ ghost use Rattle.std.specs.Prelude.{◌≡◌, [], map, IfOk};
 ghost use Rattle.geo_tokens.specs.Names.{IsNameTable};
 ghost use Rattle.problem_text.specs.NameTable.{shape_name, named_object, name_table};
 
-use problem_data::problem::{ObjectDef, Problem, ShapeDef};
 use geo_tokens::names::Names;
+use problem_data::problem::{ObjectDef, Problem, ShapeDef};
 use std::alloc::{AllocError, Global};
 
 /// Adds the shapes to a table without any.

@@ -15,8 +15,8 @@ ghost use Rattle.problem_text.specs.Canonical.{problem_text};
 ghost use Rattle.problem_data.specs.Accepted.{most_bytes};
 ghost use Rattle.problem_text.specs.ReadBack.{IsSpelled, ReadsBack};
 
-use problem_data::problem::Problem;
 use geo_chan::{PutFault, Sink, write_all_bytes};
+use problem_data::problem::Problem;
 use std::alloc::Global;
 use text::canonical_text;
 

@@ -4,12 +4,12 @@ ghost use Rattle.std.specs.Prelude.{◌≡◌};
 ghost use Rattle.problem_text.specs.FirstFault.{AnswersProblem, IsOnlyProblem};
 
 use crate::build::build;
-use statement_faults::first::first_fault;
+use geo_tokens::fault::{FaultWord, TextFault};
+use geo_tokens::lexer::tokens;
 use problem_data::parts::by_kind;
 use problem_data::problem::Problem;
 use problem_syntax::syntax::read_statements;
-use geo_tokens::fault::{FaultWord, TextFault};
-use geo_tokens::lexer::tokens;
+use statement_faults::first::first_fault;
 use std::alloc::Global;
 
 /// How many bytes a text may have.

@@ -7,9 +7,9 @@ ghost use Rattle.problem_data.specs.View.{body_view};
 ghost use Rattle.problem_data.specs.Divisors.{zero_at, lesser, least_in, expr_zeros, sums_zeros, sum_zeros, products_zeros, product_zeros, arguments_zeros, argument_zeros, formula_zeros, formulas_zeros, body_zeros};
 ghost use Rattle.problem_data.specs.Faults.{divisor_at};
 
+use geo_tokens::fault::FaultWord;
 use problem_data::fault::Fault;
 use problem_data::tree::MacroBody;
-use geo_tokens::fault::FaultWord;
 use rule_syntax::tree::{Argument, Expr, Formula, ProdStep, SumStep};
 
 fn lesser_place(a: Option<u64>, b: Option<u64>) -> Option<u64>

@@ -5,15 +5,15 @@ ghost use Rattle.problem_data.specs.Parts.{parts_view};
 ghost use Rattle.problem_data.specs.Least.{IsLeast};
 ghost use Rattle.problem_data.specs.Faults.{VersionFault, DimsFault, IsFault, count_of};
 
-use problem_data::fault::{Fault, earlier, fault_if};
 use crate::names::met_names;
 use crate::objects::objects_fault;
 use crate::order::{orders_fault, sides_fault};
 use crate::rules::{macros_fault, rules_fault};
 use crate::shapes::shapes_fault;
+use geo_tokens::fault::FaultWord;
+use problem_data::fault::{Fault, earlier, fault_if};
 use problem_data::parts::Parts;
 use problem_data::tree::Int;
-use geo_tokens::fault::FaultWord;
 use std::alloc::{AllocError, Global};
 
 /// How many dimensions a text may have.

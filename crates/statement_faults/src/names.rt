@@ -5,10 +5,10 @@ ghost use Rattle.problem_data.specs.Least.{IsLeast};
 ghost use Rattle.problem_data.specs.Faults.{PastLimit, Repeated, NamesFault, NotMade, text_of};
 ghost use Rattle.problem_data.specs.Seen.{met};
 
-use problem_data::fault::{Fault, earlier, fault_if};
 use crate::named::Named;
-use problem_data::seen::SeenNames;
 use geo_tokens::fault::FaultWord;
+use problem_data::fault::{Fault, earlier, fault_if};
+use problem_data::seen::SeenNames;
 use rule_syntax::tree::PlacedName;
 use std::alloc::{AllocError, Global};
 

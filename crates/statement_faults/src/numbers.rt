@@ -6,9 +6,9 @@ ghost use Rattle.problem_data.specs.Least.{fault, IsLeast};
 ghost use Rattle.geo_tokens.specs.declared.fault.FaultWord.TheVariants.{Limit};
 ghost use Rattle.problem_data.specs.Faults.{first_place, int_place, range_place, Among, OffsetFault, SizeFault, OffsetsFault, SizesFault, UpsideDown, RangeFault, RangesFault};
 
+use geo_tokens::fault::FaultWord;
 use problem_data::fault::{Fault, earlier, fault_if};
 use problem_data::tree::{Int, RangeText};
-use geo_tokens::fault::FaultWord;
 
 /// A list of this length has not exactly k members; its first token is at the place.
 pub fn miscount(k: usize, len: usize, place: u64) -> Option<Fault>

@@ -6,12 +6,12 @@ ghost use Rattle.problem_data.specs.View.{object_view};
 ghost use Rattle.problem_data.specs.Least.{IsLeast};
 ghost use Rattle.problem_data.specs.Faults.{Among, FieldFault, AttributesFault, ObjectFault, ObjectsFault, Repeated};
 
-use problem_data::fault::{Fault, earlier, fault_if};
 use crate::names::{limited, names_fault, not_made};
 use crate::numbers::ranges_fault;
+use geo_tokens::fault::FaultWord;
+use problem_data::fault::{Fault, earlier, fault_if};
 use problem_data::seen::SeenNames;
 use problem_data::tree::{AttributeText, ObjectText};
-use geo_tokens::fault::FaultWord;
 use std::alloc::{AllocError, Global};
 
 /// How many objects a problem may have.

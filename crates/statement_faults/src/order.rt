@@ -6,12 +6,12 @@ ghost use Rattle.problem_data.specs.View.{order_view, sides_view};
 ghost use Rattle.problem_data.specs.Least.{IsLeast};
 ghost use Rattle.problem_data.specs.Faults.{Among, OrderFault, SidesFault, first_place, side_place};
 
-use problem_data::fault::{Fault, earlier, fault_if};
 use crate::names::{met_names, not_made};
 use crate::numbers::miscount;
+use geo_tokens::fault::FaultWord;
+use problem_data::fault::{Fault, earlier, fault_if};
 use problem_data::seen::SeenNames;
 use problem_data::tree::{OrderText, SideText, SidesText};
-use geo_tokens::fault::FaultWord;
 use std::alloc::{AllocError, Global};
 
 /// The first fault of an order that has so many orders before it, where these are the names of the objects.

@@ -6,9 +6,9 @@ ghost use Rattle.problem_data.specs.Least.{IsLeast};
 ghost use Rattle.problem_data.specs.Faults.{Among, MacroFault, MacrosFault, DemandFault, RuleFault, RulesFault};
 
 use crate::divisors::{body_zero, divisor_fault, formula_zero};
-use problem_data::fault::{Fault, earlier};
 use crate::names::names_fault;
 use crate::numbers::ranges_fault;
+use problem_data::fault::{Fault, earlier};
 use problem_data::tree::{MacroText, RuleBody, RuleText};
 use std::alloc::{AllocError, Global};
 

@@ -6,11 +6,11 @@ ghost use Rattle.problem_data.specs.View.{box_view, shape_view};
 ghost use Rattle.problem_data.specs.Least.{IsLeast};
 ghost use Rattle.problem_data.specs.Faults.{Among, BoxFault, ShapeFault, ShapesFault, Repeated, shape_name};
 
-use problem_data::fault::{Fault, earlier, fault_if};
 use crate::names::limited;
 use crate::numbers::{offsets_fault, sizes_fault};
-use problem_data::tree::{BoxText, ShapeText};
 use geo_tokens::fault::FaultWord;
+use problem_data::fault::{Fault, earlier, fault_if};
+use problem_data::tree::{BoxText, ShapeText};
 
 /// How many shapes a problem may have.
 const MOST_SHAPES: usize = 256;

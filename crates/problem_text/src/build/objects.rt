@@ -5,8 +5,8 @@ ghost use Rattle.problem_data.specs.View.{object_view};
 ghost use Rattle.problem_data.specs.ProblemView.{range_data, attribute_data};
 ghost use Rattle.problem_data.specs.Meaning.{position_of, range_of, attribute_of, object_of};
 
-use problem_data::seen::SeenNames;
 use problem_data::problem::{AttributeDef, ObjectDef, RangeDef};
+use problem_data::seen::SeenNames;
 use problem_data::tree::{AttributeText, ObjectText, RangeText};
 use rule_syntax::tree::PlacedName;
 use std::alloc::{AllocError, Global};

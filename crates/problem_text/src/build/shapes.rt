@@ -4,9 +4,9 @@ ghost use Rattle.std.specs.Prelude.{◌≡◌, map, IfOk};
 ghost use Rattle.problem_data.specs.View.{box_view, shape_view};
 ghost use Rattle.problem_data.specs.Meaning.{box_of, shape_of};
 
-use problem_syntax::numbers::values;
 use problem_data::problem::{BoxDef, ShapeDef};
 use problem_data::tree::{BoxText, ShapeText};
+use problem_syntax::numbers::values;
 use rule_syntax::tree::PlacedName;
 use std::alloc::{AllocError, Global};
 

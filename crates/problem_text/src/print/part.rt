@@ -7,9 +7,9 @@ ghost use Rattle.problem_data.specs.ProblemView.{range_data, attribute_data, par
 ghost use Rattle.problem_text.specs.Canonical.{listed, int_spelling, ints_spelling, range_spelling, ranges_spelling, box_spelling, attribute_spelling, attributes_spelling, kind_word, param_spelling, body_spelling, demand_spelling, side_spelling};
 
 use crate::print::line::push_name;
+use geo_tokens::token::{Keyword, Sym};
 use problem_data::problem::{AttributeDef, BoxDef, Demand, ParamDef, RangeDef};
 use problem_data::tree::{MacroBody, ParamKind, Side};
-use geo_tokens::token::{Keyword, Sym};
 use rule_print::expression::spell_expression;
 use rule_print::formula::spell_formula;
 use rule_print::lexeme::{Lexeme, push, push_if, push_symbol, push_word};

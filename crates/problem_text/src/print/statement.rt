@@ -10,9 +10,9 @@ use crate::print::part::{
     spell_attributes, spell_body, spell_boxes, spell_demand, spell_params, spell_ranges,
     spell_sides,
 };
+use geo_tokens::token::{Keyword, Sym};
 use problem_data::problem::{MacroDef, ObjectDef, RuleDef, ShapeDef};
 use problem_data::tree::Side;
-use geo_tokens::token::{Keyword, Sym};
 use rule_print::lexeme::{Lexeme, push, push_if, push_symbol, push_word};
 use std::alloc::{AllocError, Global};
 

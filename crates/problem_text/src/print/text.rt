@@ -10,9 +10,9 @@ use crate::print::line::push_line;
 use crate::print::statement::{
     push_macro, push_object, push_order, push_rule, push_shape, push_sides,
 };
+use geo_tokens::token::Keyword;
 use problem_data::problem::{MacroDef, ObjectDef, Problem, RuleDef, ShapeDef};
 use problem_data::tree::Side;
-use geo_tokens::token::Keyword;
 use rule_print::lexeme::{Lexeme, push, push_word};
 use std::alloc::{AllocError, Global};
 
