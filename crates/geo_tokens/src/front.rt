@@ -13,7 +13,7 @@ use crate::lookup::{long_symbol, reserved_word, short_symbol};
 use crate::token::{Kind, Sym, symbol_text};
 
 /// What stands at the front, with its number of bytes.
-#[derive(Clone, Copy, Debug)]
+#[derive(Clone, Copy)]
 pub enum Front {
     /// White space or a comment.
     Gap(usize),

@@ -2,164 +2,97 @@
 
 ghost use Rattle.std.specs.Prelude.{◌≡◌, ◌∷◌, [], length, MatchOption};
 ghost use Rattle.geo_tokens.specs.Class.{word_bytes, symbol_bytes};
-ghost use Rattle.geo_tokens.specs.Spelled.{spelled_as, words_of, long_symbols, short_symbols};
+ghost use Rattle.geo_tokens.specs.Spelled.{spelled_as, long_symbols, short_symbols};
 ghost use Rattle.geo_tokens.specs.declared.token.Keyword.{Keyword};
 
-use crate::token::{Keyword, Sym};
+use crate::token::{Keyword, Sym, word_text};
 
-/// The reserved word of two bytes that is spelled so.
-fn word_of_two(bytes: &[u8]) -> Option<Keyword>
-    ensures { result ≡ spelled_as word_bytes (words_of 2) bytes.now }
+/// The one of these reserved words that is spelled so.
+fn word_among(words: &[Keyword], bytes: &[u8]) -> Option<Keyword>
+    ensures { result ≡ spelled_as word_bytes words.now bytes.now }
 {
-    if bytes == b"as".as_slice() {
-        Some(Keyword::As)
-    } else if bytes == b"at".as_slice() {
-        Some(Keyword::At)
-    } else if bytes == b"is".as_slice() {
-        Some(Keyword::Is)
-    } else if bytes == b"or".as_slice() {
-        Some(Keyword::Or)
-    } else if bytes == b"in".as_slice() {
-        Some(Keyword::In)
-    } else if bytes == b"of".as_slice() {
-        Some(Keyword::Of)
-    } else {
-        None
+    match words {
+        [first, rest @ ..] => {
+            if bytes == word_text(*first) {
+                Some(*first)
+            } else {
+                word_among(rest, bytes)
+            }
+        }
+        [] => None,
     }
 }
 
-/// The reserved word of three bytes that is spelled so.
-fn word_of_three(bytes: &[u8]) -> Option<Keyword>
-    ensures { result ≡ spelled_as word_bytes (words_of 3) bytes.now }
-{
-    if bytes == b"box".as_slice() {
-        Some(Keyword::Box)
-    } else if bytes == b"low".as_slice() {
-        Some(Keyword::Low)
-    } else if bytes == b"end".as_slice() {
-        Some(Keyword::End)
-    } else if bytes == b"not".as_slice() {
-        Some(Keyword::Not)
-    } else if bytes == b"and".as_slice() {
-        Some(Keyword::And)
-    } else if bytes == b"iff".as_slice() {
-        Some(Keyword::Iff)
-    } else if bytes == b"div".as_slice() {
-        Some(Keyword::Div)
-    } else if bytes == b"mod".as_slice() {
-        Some(Keyword::Mod)
-    } else if bytes == b"min".as_slice() {
-        Some(Keyword::Min)
-    } else if bytes == b"max".as_slice() {
-        Some(Keyword::Max)
-    } else if bytes == b"int".as_slice() {
-        Some(Keyword::Int)
-    } else if bytes == b"qed".as_slice() {
-        Some(Keyword::Qed)
-    } else {
-        None
-    }
-}
+/// The reserved words of two bytes, and those of three to seven.
+const OF_TWO: [Keyword; 6] = [
+    Keyword::As,
+    Keyword::At,
+    Keyword::Is,
+    Keyword::Or,
+    Keyword::In,
+    Keyword::Of,
+];
 
-/// The reserved word of four bytes that is spelled so.
-fn word_of_four(bytes: &[u8]) -> Option<Keyword>
-    ensures { result ≡ spelled_as word_bytes (words_of 4) bytes.now }
-{
-    if bytes == b"dims".as_slice() {
-        Some(Keyword::Dims)
-    } else if bytes == b"size".as_slice() {
-        Some(Keyword::Size)
-    } else if bytes == b"with".as_slice() {
-        Some(Keyword::With)
-    } else if bytes == b"high".as_slice() {
-        Some(Keyword::High)
-    } else if bytes == b"rule".as_slice() {
-        Some(Keyword::Rule)
-    } else if bytes == b"true".as_slice() {
-        Some(Keyword::True)
-    } else {
-        None
-    }
-}
+const OF_THREE: [Keyword; 12] = [
+    Keyword::Box,
+    Keyword::Low,
+    Keyword::End,
+    Keyword::Not,
+    Keyword::And,
+    Keyword::Iff,
+    Keyword::Div,
+    Keyword::Mod,
+    Keyword::Min,
+    Keyword::Max,
+    Keyword::Int,
+    Keyword::Qed,
+];
 
-/// The reserved word of five bytes that is spelled so.
-fn word_of_five(bytes: &[u8]) -> Option<Keyword>
-    ensures { result ≡ spelled_as word_bytes (words_of 5) bytes.now }
-{
-    if bytes == b"geost".as_slice() {
-        Some(Keyword::Geost)
-    } else if bytes == b"shape".as_slice() {
-        Some(Keyword::Shape)
-    } else if bytes == b"order".as_slice() {
-        Some(Keyword::Order)
-    } else if bytes == b"sides".as_slice() {
-        Some(Keyword::Sides)
-    } else if bytes == b"macro".as_slice() {
-        Some(Keyword::Macro)
-    } else if bytes == b"means".as_slice() {
-        Some(Keyword::Means)
-    } else if bytes == b"apart".as_slice() {
-        Some(Keyword::Apart)
-    } else if bytes == b"false".as_slice() {
-        Some(Keyword::False)
-    } else if bytes == b"boxes".as_slice() {
-        Some(Keyword::Boxes)
-    } else if bytes == b"token".as_slice() {
-        Some(Keyword::Token)
-    } else {
-        None
-    }
-}
+const OF_FOUR: [Keyword; 6] = [
+    Keyword::Dims,
+    Keyword::Size,
+    Keyword::With,
+    Keyword::High,
+    Keyword::Rule,
+    Keyword::True,
+];
 
-/// The reserved word of six bytes that is spelled so.
-fn word_of_six(bytes: &[u8]) -> Option<Keyword>
-    ensures { result ≡ spelled_as word_bytes (words_of 6) bytes.now }
-{
-    if bytes == b"object".as_slice() {
-        Some(Keyword::Object)
-    } else if bytes == b"within".as_slice() {
-        Some(Keyword::Within)
-    } else if bytes == b"forall".as_slice() {
-        Some(Keyword::ForAll)
-    } else if bytes == b"exists".as_slice() {
-        Some(Keyword::Exists)
-    } else if bytes == b"atmost".as_slice() {
-        Some(Keyword::AtMost)
-    } else if bytes == b"layout".as_slice() {
-        Some(Keyword::Layout)
-    } else if bytes == b"absent".as_slice() {
-        Some(Keyword::Absent)
-    } else {
-        None
-    }
-}
+const OF_FIVE: [Keyword; 10] = [
+    Keyword::Geost,
+    Keyword::Shape,
+    Keyword::Order,
+    Keyword::Sides,
+    Keyword::Macro,
+    Keyword::Means,
+    Keyword::Apart,
+    Keyword::False,
+    Keyword::Boxes,
+    Keyword::Token,
+];
 
-/// The reserved word of seven bytes that is spelled so.
-fn word_of_seven(bytes: &[u8]) -> Option<Keyword>
-    ensures { result ≡ spelled_as word_bytes (words_of 7) bytes.now }
-{
-    if bytes == b"implies".as_slice() {
-        Some(Keyword::Implies)
-    } else if bytes == b"atleast".as_slice() {
-        Some(Keyword::AtLeast)
-    } else if bytes == b"objects".as_slice() {
-        Some(Keyword::Objects)
-    } else {
-        None
-    }
-}
+const OF_SIX: [Keyword; 7] = [
+    Keyword::Object,
+    Keyword::Within,
+    Keyword::ForAll,
+    Keyword::Exists,
+    Keyword::AtMost,
+    Keyword::Layout,
+    Keyword::Absent,
+];
+
+const OF_SEVEN: [Keyword; 3] = [Keyword::Implies, Keyword::AtLeast, Keyword::Objects];
 
 /// The reserved word that is spelled so.
 pub fn reserved_word(bytes: &[u8]) -> Option<Keyword>
     ensures { MatchOption result ((w : Keyword) → bytes.now ≡ word_bytes w → ⊥) (λ w. bytes.now ≡ word_bytes w) }
 {
     match bytes.len() {
-        2 => word_of_two(bytes),
-        3 => word_of_three(bytes),
-        4 => word_of_four(bytes),
-        5 => word_of_five(bytes),
-        6 => word_of_six(bytes),
-        7 => word_of_seven(bytes),
+        2 => word_among(&OF_TWO, bytes),
+        3 => word_among(&OF_THREE, bytes),
+        4 => word_among(&OF_FOUR, bytes),
+        5 => word_among(&OF_FIVE, bytes),
+        6 => word_among(&OF_SIX, bytes),
+        7 => word_among(&OF_SEVEN, bytes),
         _ => None,
     }
 }

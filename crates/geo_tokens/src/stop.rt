@@ -2,7 +2,7 @@
 
 ghost use Rattle.std.specs.Prelude.{◌≡◌, ◌∷◌, []};
 ghost use Rattle.geo_tokens.specs.Words.{start_of, has, kinds_of};
-ghost use Rattle.geo_tokens.specs.Reading.{next_is, token_at, cut_at};
+ghost use Rattle.geo_tokens.specs.Reading.{next_is, token_at};
 ghost use Rattle.geo_tokens.specs.Gives.{Gives};
 ghost use Rattle.geo_tokens.specs.declared.stop.Stop.TheVariants.{Memory};
 ghost use Rattle.geo_tokens.specs.Class.{class_of};
@@ -11,7 +11,7 @@ use crate::token::{Kind, Token, class_of};
 use std::alloc::{AllocError, AllocFailed};
 
 /// Why reading stopped, with the tokens that were left.
-#[derive(Debug, Drop)]
+#[derive(Drop)]
 pub enum Stop<'a> {
     /// Memory ran out.
     Memory,
@@ -101,22 +101,6 @@ pub fn one_of<'a>(tokens: &'a [Token], kinds: &[Kind]) -> Result<(Token, &'a [To
         [first, rest @ ..] => {
             if has_kind(kinds, first.kind) {
                 Ok((*first, rest))
-            } else {
-                Err(Stop::Wrong(tokens))
-            }
-        }
-        [] => Err(Stop::Wrong(tokens)),
-    }
-}
-
-/// Refuses a token of this kind, since it would open a level too many.
-pub fn refused<'a, X>(tokens: &'a [Token], kind: Kind) -> Result<(X, &'a [Token]), Stop<'a>>
-    ensures { Gives (λ x. x) result (cut_at (class_of kind ∷ []) tokens.now) }
-{
-    match tokens {
-        [first, rest @ ..] => {
-            if class_of(first.kind) == class_of(kind) {
-                Err(Stop::Deep(rest))
             } else {
                 Err(Stop::Wrong(tokens))
             }
