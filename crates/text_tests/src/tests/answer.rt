@@ -179,12 +179,7 @@ pub fn says(
 }
 
 /// Each row has a text and what it says, or its fault.
-pub fn say(
-    rt: &impl Abort,
-    alloc: Global,
-    part: Part,
-    rows: &[(&[u8], &str)],
-) -> Result<(), Fail> {
+pub fn say(rt: &impl Abort, alloc: Global, part: Part, rows: &[(&[u8], &str)]) -> Result<(), Fail> {
     for (text, wanted) in rows {
         says(rt, alloc, part, text, wanted)?;
     }

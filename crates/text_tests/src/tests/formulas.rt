@@ -5,7 +5,10 @@ use std::test::Fail;
 
 /// Texts with their formula and the number of the token behind it, or the first wrong token.
 const FORMULAS: &[(&[u8], &str)] = &[
-    (b"true or false and true ;", "Or(0, [True(0), And(8, [False(8), True(18)])]) 5"),
+    (
+        b"true or false and true ;",
+        "Or(0, [True(0), And(8, [False(8), True(18)])]) 5",
+    ),
     (
         b"[true or false] and not true implies false iff true )",
         "Iff(0, Implies(0, And(0, [Or(1, [True(1), False(9)]), Not(20, True(24))]), False(37)), True(47)) 12",
@@ -66,7 +69,10 @@ const LEVELS: &[((&[u8], usize, &[u8], &[u8]), &str)] = &[
     ((b"", 64, b"[", b"@f["), "At(66, Syntax)"),
     ((b"", 64, b"[", b"min("), "At(67, Deep)"),
     ((b"", 65, b"-", b"1 = 1"), "At(64, Deep)"),
-    ((b"", 63, b"[", b"forall p in objects (a) : ;"), "At(89, Syntax)"),
+    (
+        (b"", 63, b"[", b"forall p in objects (a) : ;"),
+        "At(89, Syntax)",
+    ),
 ];
 
 #[test]

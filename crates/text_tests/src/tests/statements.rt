@@ -38,10 +38,22 @@ const STATEMENTS: &[(&[u8], &str)] = &[
         "[Rule(RuleText { name: PlacedName { place: 20, name: Name { bytes: [114] } }, body: Within([RangeText { low: Int { place: 31, value: 0 }, high: Int { place: 34, value: 1 } }, RangeText { low: Int { place: 36, value: 2 }, high: Int { place: 39, value: 3 } }]) })]",
     ),
     (b"", "At(0, Syntax)"),
-    (b"geost 1 dims 1 shape s size 1 box 0 size 2 ; end", "At(23, Syntax)"),
-    (b"geost 1 dims 1 object a as s, at 0..3 ; end", "At(30, Syntax)"),
-    (b"geost 1 dims 1 macro f(p) means true ; end", "At(24, Syntax)"),
-    (b"geost 1 dims 1 rule r : apart and true ; end", "At(30, Syntax)"),
+    (
+        b"geost 1 dims 1 shape s size 1 box 0 size 2 ; end",
+        "At(23, Syntax)",
+    ),
+    (
+        b"geost 1 dims 1 object a as s, at 0..3 ; end",
+        "At(30, Syntax)",
+    ),
+    (
+        b"geost 1 dims 1 macro f(p) means true ; end",
+        "At(24, Syntax)",
+    ),
+    (
+        b"geost 1 dims 1 rule r : apart and true ; end",
+        "At(30, Syntax)",
+    ),
     (b"geost 1 dims 1 # no end\n", "At(24, Syntax)"),
     (b"geost 1 dims 1 end end", "At(19, Syntax)"),
 ];

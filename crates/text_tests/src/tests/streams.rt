@@ -128,7 +128,10 @@ fn writes_past_a_fault(room: &mut [u8]) -> bool {
         inner: room,
         calls: 0,
     });
-    writes(&mut sink, &[(b"abc", true), (b"def", false), (b"def", true)])
+    writes(
+        &mut sink,
+        &[(b"abc", true), (b"def", false), (b"def", true)],
+    )
 }
 
 #[test]
@@ -170,7 +173,12 @@ fn takes<W: Sink>(sink: &mut W, rows: &[(&[u8], Option<usize>)]) -> bool {
 #[test]
 fn a_sink_takes_at_most_a_piece_and_fails_at_the_chosen_calls(rt: HostRuntime) -> Result<(), Fail> {
     let mut sink = MemSink::new(rt.alloc(), 2, vec![in rt.alloc(); 2]?);
-    assert!(rt; takes(&mut sink, &[(b"abc", Some(2)), (b"c", None), (b"c", Some(1))]));
+    assert!(rt;
+        takes(
+            &mut sink,
+            &[(b"abc", Some(2)), (b"c", None), (b"c", Some(1))]
+        )
+    );
     assert!(rt; sink.bytes() == b"abc".as_slice());
     Ok(())
 }
