@@ -3,13 +3,13 @@
 ghost use Rattle.std.specs.Prelude.{◌≡◌, ◌∷◌, [], IfOk, ◌<◌, ◌-◌};
 ghost use Rattle.geo_tokens.specs.Class.{class_of};
 ghost use Rattle.geo_tokens.specs.Words.{symbol, word};
-ghost use Rattle.geo_tokens.specs.Reading.{many_at, cut_at};
+ghost use Rattle.geo_tokens.specs.Reading.{many_at, cut_at, token_at};
 ghost use Rattle.geo_tokens.specs.Gives.{Gives};
 ghost use Rattle.geo_tokens.specs.declared.token.Keyword.TheVariants as keywords;
 ghost use Rattle.geo_tokens.specs.declared.token.Sym.TheVariants as syms;
-ghost use Rattle.rule_syntax.specs.Marks.{quantifiers};
-ghost use Rattle.rule_syntax.specs.Grammar.{and_of, or_of, implication_of, equivalence_of};
-ghost use Rattle.rule_syntax.specs.Reading.{relation_at, true_at, false_at, not_at, brackets_at, args_at, formula_call_at, quantified_at, comparison_at, unary_over_at, unary_at, and_unary_at, conjunction_at, or_conjunction_at, disjunction_at, behind_at, implication_at, formula_at, expr_at};
+ghost use Rattle.rule_syntax.specs.Marks.{quantifiers, rels};
+ghost use Rattle.rule_syntax.specs.Grammar.{rel_in, and_of, or_of, implication_of, equivalence_of};
+ghost use Rattle.rule_syntax.specs.Reading.{true_at, false_at, not_at, brackets_at, args_at, formula_call_at, quantified_at, comparison_at, unary_over_at, unary_at, and_unary_at, conjunction_at, or_conjunction_at, disjunction_at, behind_at, implication_at, formula_at, expr_at};
 ghost use Rattle.rule_syntax.specs.View.{argument_views, formula_view, formula_views, behind_view};
 
 use crate::quantifier::{begins_quantifier, collection, quantifier};
@@ -69,10 +69,10 @@ fn falsehood(tokens: &[Token]) -> Result<(Formula, &[Token]), Stop<'_>>
 }
 
 /// The mark of a comparison.
-fn relation(tokens: &[Token]) -> Result<(Rel, &[Token]), Stop<'_>>
-    ensures { Gives (λ r. r) result (relation_at tokens.now) }
+fn relation_mark(tokens: &[Token]) -> Result<(Token, &[Token]), Stop<'_>>
+    ensures { Gives (λ t. t) result (token_at rels tokens.now) }
 {
-    let (mark, rest) = one_of(
+    one_of(
         tokens,
         &[
             Kind::Symbol(Sym::Less),
@@ -82,16 +82,21 @@ fn relation(tokens: &[Token]) -> Result<(Rel, &[Token]), Stop<'_>>
             Kind::Symbol(Sym::GreaterEqual),
             Kind::Symbol(Sym::Greater),
         ],
-    )?;
-    let relation = match mark.kind {
+    )
+}
+
+/// How the mark compares.
+fn relation_of(mark: Kind) -> Rel
+    ensures { result ≡ rel_in mark }
+{
+    match mark {
         Kind::Symbol(Sym::Less) => Rel::Lt,
         Kind::Symbol(Sym::LessEqual) => Rel::Le,
         Kind::Symbol(Sym::Equal) => Rel::Eq,
         Kind::Symbol(Sym::NotEqual) => Rel::Ne,
         Kind::Symbol(Sym::GreaterEqual) => Rel::Ge,
         _ => Rel::Gt,
-    };
-    Ok((relation, rest))
+    }
 }
 
 /// Two expressions with a mark between them.
@@ -104,10 +109,10 @@ fn comparison<'a>(
     ensures { Gives formula_view result (comparison_at (expr_at text.now levels) tokens.now) }
 {
     let (left, rest) = expression(alloc, text, levels, tokens)?;
-    let (relation, rest) = relation(rest)?;
+    let (mark, rest) = relation_mark(rest)?;
     let (right, rest) = expression(alloc, text, levels, rest)?;
     Ok((
-        Formula::Compare(start_of(tokens), left, relation, right),
+        Formula::Compare(start_of(tokens), left, relation_of(mark.kind), right),
         rest,
     ))
 }
@@ -409,17 +414,6 @@ fn implied<'a>(
     Ok((Some(second), rest))
 }
 
-/// Two formulas, each in a box.
-fn in_boxes(
-    alloc: Global,
-    first: Formula,
-    second: Formula,
-) -> Result<(Box<Formula>, Box<Formula>), AllocError>
-    ensures { IfOk result (λ p. (p.0.value ≡ first) × (p.1.value ≡ second)) }
-{
-    Ok((Box::new(alloc, first)?, Box::new(alloc, second)?))
-}
-
 /// An implication, if there is a second part.
 fn implication_of(
     alloc: Global,
@@ -432,7 +426,8 @@ fn implication_of(
     match second {
         None => Ok(first),
         Some(second) => {
-            let (first, second) = in_boxes(alloc, first, second)?;
+            let first = Box::new(alloc, first)?;
+            let second = Box::new(alloc, second)?;
             Ok(Formula::Implies(place, first, second))
         }
     }
@@ -487,7 +482,8 @@ fn equivalence_of(
     match second {
         None => Ok(first),
         Some(second) => {
-            let (first, second) = in_boxes(alloc, first, second)?;
+            let first = Box::new(alloc, first)?;
+            let second = Box::new(alloc, second)?;
             Ok(Formula::Iff(place, first, second))
         }
     }

@@ -148,9 +148,6 @@ collection_at text = either_at (word keywords.Objects) (objects_at text) (boxes_
 abbrev pub quantified_at : List ℕ → Reader FormulaTree → Reader FormulaTree
 quantified_at text inner w = quantifier_at w >>= λ q v. named_at text v >>= λ a x. token_at (word keywords.In) x >>= λ t y. collection_at text y >>= λ c z. token_at (symbol syms.Colon) z >>= λ u r. inner r >>= λ f last. Got (Some (quantified q.0 q.1 a c f)) last
 
-abbrev pub relation_at : Reader Rel
-relation_at w = token_at rels w >>= λ t rest. Got (Some (rel_in t.kind)) rest
-
 abbrev pub comparison_at : Reader ExprTree → Reader FormulaTree
 comparison_at expr = placed_at {A = ExprTree × Rel × ExprTree} (λ w. expr w >>= λ a rest. token_at rels rest >>= λ t after. expr after >>= λ b last. Got (Some (a, rel_in t.kind, b)) last) (λ p x. comparison p x.0 x.1 x.2)
 

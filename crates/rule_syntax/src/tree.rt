@@ -103,7 +103,7 @@ pub enum QuantKind {
 }
 
 /// What a quantifier's variable ranges over.
-#[derive(Debug, Drop)]
+#[derive(Debug)]
 pub enum Coll {
     /// All objects.
     Objects,
@@ -113,8 +113,19 @@ pub enum Coll {
     BoxesOf(PlacedName),
 }
 
+/// Written out, as the drop of an expression is.
+impl Drop for Coll {
+    fn drop(self) {
+        match self {
+            Coll::Objects => {}
+            Coll::Listed(_names) => {}
+            Coll::BoxesOf(_name) => {}
+        }
+    }
+}
+
 /// A formula.
-#[derive(Debug, Drop)]
+#[derive(Debug)]
 pub enum Formula {
     True(u64),
     False(u64),
@@ -127,4 +138,23 @@ pub enum Formula {
     Quant(u64, QuantKind, PlacedName, Coll, Box<Formula>),
     /// A call of a macro that gives a formula.
     Call(u64, PlacedName, Vec<Argument>),
+}
+
+/// Written out, as the drop of an expression is.
+impl Drop for Formula {
+    #[cycle(formula_drop)]
+    fn drop(self) {
+        match self {
+            Formula::True(_) => {}
+            Formula::False(_) => {}
+            Formula::Not(_, _of) => {}
+            Formula::And(_, _operands) => {}
+            Formula::Or(_, _operands) => {}
+            Formula::Implies(_, _left, _right) => {}
+            Formula::Iff(_, _left, _right) => {}
+            Formula::Compare(_, _left, _, _right) => {}
+            Formula::Quant(_, _, _variable, _elements, _body) => {}
+            Formula::Call(_, _name, _arguments) => {}
+        }
+    }
 }
