@@ -9,7 +9,7 @@ use rule_syntax::tree::PlacedName;
 use std::alloc::AllocError;
 
 /// A token as it is written.
-#[derive(Clone, Copy, Debug)]
+#[derive(Clone, Copy)]
 pub enum Lexeme<'a> {
     /// A name, by its bytes.
     Name(&'a [u8]),

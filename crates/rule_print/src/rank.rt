@@ -4,7 +4,7 @@ ghost use Rattle.std.specs.Prelude.{◌≡◌, nat_lt};
 ghost use Rattle.rule_print.specs.Spelled.{expr_level, formula_level};
 
 /// What an expression is, or may be without brackets at some place: a sum, a product or a factor.
-#[derive(Clone, Copy, Debug)]
+#[derive(Clone, Copy)]
 pub enum ExprRank {
     Sum,
     Product,
@@ -12,7 +12,7 @@ pub enum ExprRank {
 }
 
 /// What a formula is, or may be without brackets at some place.
-#[derive(Clone, Copy, Debug)]
+#[derive(Clone, Copy)]
 pub enum FormulaRank {
     Equivalence,
     Implication,
