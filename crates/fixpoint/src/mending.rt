@@ -3,7 +3,7 @@ ghost use Rattle.std.specs.List.{All};
 ghost use Rattle.geo_conditions.specs.Conditions.{FitsIn};
 ghost use Rattle.geo_conditions.specs.Reach.{Inside};
 ghost use Rattle.geo_conditions.specs.Supported.{NoneInside};
-ghost use Rattle.derivation.specs.Events.{Continues};
+ghost use Rattle.derivation.specs.Events.{Grows};
 ghost use Rattle.fixpoint.specs.Defects.{IsDefect, LacksPoint, LacksLow, LacksHigh};
 ghost use Rattle.fixpoint.specs.Passes.{IsNarrower, Repairs, Passes};
 ghost use Rattle.derivation.specs.Chains.{IsLed, IsClosed};
@@ -47,11 +47,7 @@ fn mend<const K: usize, R: Recorder>(
     ensures record { IfOk result (λ m. R.keeps ≡ true → MatchBool m
         (IsLed cs.now t.old.state t.new.state (R.list rec.old) (R.list rec.new))
         (IsClosed cs.now t.old.state (R.list rec.old) (R.list rec.new))) }
-    ensures events { R.keeps ≡ true → Continues (R.list rec.old) (R.list rec.new) }
-    ensures refused { OnErr result
-        (min (R.refusals rec.old + 1) (2 ^ 64 - 1) ≤ R.refusals rec.new) }
-    ensures refusals { R.refusals rec.old ≤ R.refusals rec.new }
-    ensures no_record { R.keeps ≡ false → IsOk result }
+    ensures grows { Grows R.keeps R.list R.refusals rec.old rec.new result }
 {
     match defect {
         Defect::Gone(o) => match record_gone(cs, t.state(), o, rec) {
@@ -90,11 +86,7 @@ fn take<const K: usize, R: Recorder>(
     ensures levels { (t.new.levels ≡ t.old.levels) × (t.new.restores ≡ t.old.restores) }
     ensures led { OnOk result (R.keeps ≡ true
         → IsLed cs.now t.old.state t.new.state (R.list rec.old) (R.list rec.new)) }
-    ensures events { R.keeps ≡ true → Continues (R.list rec.old) (R.list rec.new) }
-    ensures refused { OnErr result
-        (min (R.refusals rec.old + 1) (2 ^ 64 - 1) ≤ R.refusals rec.new) }
-    ensures refusals { R.refusals rec.old ≤ R.refusals rec.new }
-    ensures no_record { R.keeps ≡ false → IsOk result }
+    ensures grows { Grows R.keeps R.list R.refusals rec.old rec.new result }
 {
     match record_drop(cs, t.state(), o, place, rec) {
         Err(e) => Err(e),
@@ -122,11 +114,7 @@ fn raise<const K: usize, R: Recorder>(
     ensures levels { (t.new.levels ≡ t.old.levels) × (t.new.restores ≡ t.old.restores) }
     ensures led { OnOk result (R.keeps ≡ true
         → IsLed cs.now t.old.state t.new.state (R.list rec.old) (R.list rec.new)) }
-    ensures events { R.keeps ≡ true → Continues (R.list rec.old) (R.list rec.new) }
-    ensures refused { OnErr result
-        (min (R.refusals rec.old + 1) (2 ^ 64 - 1) ≤ R.refusals rec.new) }
-    ensures refusals { R.refusals rec.old ≤ R.refusals rec.new }
-    ensures no_record { R.keeps ≡ false → IsOk result }
+    ensures grows { Grows R.keeps R.list R.refusals rec.old rec.new result }
 {
     let state = t.state();
     let _objects = state.objects();
@@ -159,11 +147,7 @@ fn lower<const K: usize, R: Recorder>(
     ensures levels { (t.new.levels ≡ t.old.levels) × (t.new.restores ≡ t.old.restores) }
     ensures led { OnOk result (R.keeps ≡ true
         → IsLed cs.now t.old.state t.new.state (R.list rec.old) (R.list rec.new)) }
-    ensures events { R.keeps ≡ true → Continues (R.list rec.old) (R.list rec.new) }
-    ensures refused { OnErr result
-        (min (R.refusals rec.old + 1) (2 ^ 64 - 1) ≤ R.refusals rec.new) }
-    ensures refusals { R.refusals rec.old ≤ R.refusals rec.new }
-    ensures no_record { R.keeps ≡ false → IsOk result }
+    ensures grows { Grows R.keeps R.list R.refusals rec.old rec.new result }
 {
     let state = t.state();
     let _objects = state.objects();
@@ -195,11 +179,7 @@ fn repair<const K: usize, R: Recorder>(
     ensures levels { (t.new.levels ≡ t.old.levels) × (t.new.restores ≡ t.old.restores) }
     ensures record { IfOk result (λ a. R.keeps ≡ true → RecordsOutcome cs.now t.old.state a
         t.new.state (R.list rec.old) (R.list rec.new)) }
-    ensures events { R.keeps ≡ true → Continues (R.list rec.old) (R.list rec.new) }
-    ensures refused { OnErr result
-        (min (R.refusals rec.old + 1) (2 ^ 64 - 1) ≤ R.refusals rec.new) }
-    ensures refusals { R.refusals rec.old ≤ R.refusals rec.new }
-    ensures no_record { R.keeps ≡ false → IsOk result }
+    ensures grows { Grows R.keeps R.list R.refusals rec.old rec.new result }
 {
     let mut changed = false;
     while let Some(defect) = object_defect(cs, t.state(), o) {
@@ -230,11 +210,7 @@ pub fn pass<const K: usize, R: Recorder>(
     ensures levels { (t.new.levels ≡ t.old.levels) × (t.new.restores ≡ t.old.restores) }
     ensures record { IfOk result (λ a. R.keeps ≡ true → RecordsOutcome cs.now t.old.state a
         t.new.state (R.list rec.old) (R.list rec.new)) }
-    ensures events { R.keeps ≡ true → Continues (R.list rec.old) (R.list rec.new) }
-    ensures refused { OnErr result
-        (min (R.refusals rec.old + 1) (2 ^ 64 - 1) ≤ R.refusals rec.new) }
-    ensures refusals { R.refusals rec.old ≤ R.refusals rec.new }
-    ensures no_record { R.keeps ≡ false → IsOk result }
+    ensures grows { Grows R.keeps R.list R.refusals rec.old rec.new result }
 {
     if let Some(i) = first_refuted(cs, t.state()) {
         return match record_dead(cs, t.state(), i, rec) {

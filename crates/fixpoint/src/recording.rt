@@ -9,7 +9,7 @@ ghost use Rattle.geo_conditions.specs.Regions.{region_of};
 ghost use Rattle.geo_conditions.specs.Supported.{NoneRefuted, HasNoPoint};
 ghost use Rattle.derivation.specs.declared.event.Event.{Event};
 ghost use Rattle.derivation.specs.Covers.{refutes};
-ghost use Rattle.derivation.specs.Events.{Continues};
+ghost use Rattle.derivation.specs.Events.{Grows};
 ghost use Rattle.derivation.specs.PlaceCovers.{RecordedBelow, RecordedCovers};
 ghost use Rattle.geo_state.specs.Trail.{IsSmall};
 ghost use Rattle.fixpoint.specs.Points.{IsSmallRegion};
@@ -26,11 +26,7 @@ use std::alloc::AllocError;
 /// Takes down an event.
 fn record_event<R: Recorder>(rec: &mut R, e: Event) -> Result<(), AllocError>
     ensures added { OnOk result (R.keeps ≡ true → R.list rec.new ≡ R.list rec.old ++ e ∷ []) }
-    ensures events { R.keeps ≡ true → Continues (R.list rec.old) (R.list rec.new) }
-    ensures refused { OnErr result
-        (min (R.refusals rec.old + 1) (2 ^ 64 - 1) ≤ R.refusals rec.new) }
-    ensures refusals { R.refusals rec.old ≤ R.refusals rec.new }
-    ensures no_record { R.keeps ≡ false → IsOk result }
+    ensures grows { Grows R.keeps R.list R.refusals rec.old rec.new result }
 {
     match rec.add(e) {
         Err(error) => Err(error),
@@ -54,11 +50,7 @@ fn record_refuted<const K: usize, R: Recorder>(
     requires refuted { NoneRefuted cs.now (with_at s.now o.0 place (region_of b.now)) → ⊥ }
     ensures cover { OnOk result (R.keeps ≡ true → RecordedCover cs.now s.now o.0 place
         (region_of b.now) (R.list rec.old) (R.list rec.new)) }
-    ensures events { R.keeps ≡ true → Continues (R.list rec.old) (R.list rec.new) }
-    ensures refused { OnErr result
-        (min (R.refusals rec.old + 1) (2 ^ 64 - 1) ≤ R.refusals rec.new) }
-    ensures refusals { R.refusals rec.old ≤ R.refusals rec.new }
-    ensures no_record { R.keeps ≡ false → IsOk result }
+    ensures grows { Grows R.keeps R.list R.refusals rec.old rec.new result }
 {
     match first_refuted_at(cs, s, o, place, b) {
         None => Ok(()),
@@ -93,11 +85,7 @@ fn record_points<const K: usize, R: Recorder>(
     requires none { HasNoPoint cs.now s.now o.0 place (region_of b.now) }
     ensures cover { OnOk result (R.keeps ≡ true → RecordedCover cs.now s.now o.0 place
         (region_of b.now) (R.list rec.old) (R.list rec.new)) }
-    ensures events { R.keeps ≡ true → Continues (R.list rec.old) (R.list rec.new) }
-    ensures refused { OnErr result
-        (min (R.refusals rec.old + 1) (2 ^ 64 - 1) ≤ R.refusals rec.new) }
-    ensures refusals { R.refusals rec.old ≤ R.refusals rec.new }
-    ensures no_record { R.keeps ≡ false → IsOk result }
+    ensures grows { Grows R.keeps R.list R.refusals rec.old rec.new result }
 {
     if b.is_empty() {
         return match record_event(rec, Event::By(1)) {
@@ -151,11 +139,7 @@ fn record_place<const K: usize, R: Recorder>(
     ensures cover { OnOk result (R.keeps ≡ true → (base : List Event)
         → RecordedBelow cs.now s.now o.0 (region_of b.now) place base (R.list rec.old)
         → RecordedBelow cs.now s.now o.0 (region_of b.now) (place + 1) base (R.list rec.new)) }
-    ensures events { R.keeps ≡ true → Continues (R.list rec.old) (R.list rec.new) }
-    ensures refused { OnErr result
-        (min (R.refusals rec.old + 1) (2 ^ 64 - 1) ≤ R.refusals rec.new) }
-    ensures refusals { R.refusals rec.old ≤ R.refusals rec.new }
-    ensures no_record { R.keeps ≡ false → IsOk result }
+    ensures grows { Grows R.keeps R.list R.refusals rec.old rec.new result }
 {
     if !s.has_shape(o, place) {
         return Ok(());
@@ -188,11 +172,7 @@ fn record_places<const K: usize, R: Recorder>(
         → HasNoPoint cs.now s.now o.0 n (region_of b.now) }
     ensures covers { OnOk result (R.keeps ≡ true → RecordedCovers cs.now s.now o.0
         (region_of b.now) (R.list rec.old) (R.list rec.new)) }
-    ensures events { R.keeps ≡ true → Continues (R.list rec.old) (R.list rec.new) }
-    ensures refused { OnErr result
-        (min (R.refusals rec.old + 1) (2 ^ 64 - 1) ≤ R.refusals rec.new) }
-    ensures refusals { R.refusals rec.old ≤ R.refusals rec.new }
-    ensures no_record { R.keeps ≡ false → IsOk result }
+    ensures grows { Grows R.keeps R.list R.refusals rec.old rec.new result }
 {
     let _region = s.region(o);
     for place in 1..17u8 {
@@ -219,11 +199,7 @@ pub fn record_dead<const K: usize, R: Recorder>(
     requires refuted { refutes cs.now i s.now ≡ true }
     ensures closed { OnOk result (R.keeps ≡ true
         → IsClosed cs.now s.now (R.list rec.old) (R.list rec.new)) }
-    ensures events { R.keeps ≡ true → Continues (R.list rec.old) (R.list rec.new) }
-    ensures refused { OnErr result
-        (min (R.refusals rec.old + 1) (2 ^ 64 - 1) ≤ R.refusals rec.new) }
-    ensures refusals { R.refusals rec.old ≤ R.refusals rec.new }
-    ensures no_record { R.keeps ≡ false → IsOk result }
+    ensures grows { Grows R.keeps R.list R.refusals rec.old rec.new result }
 {
     match record_event(rec, Event::Dead(i as u32)) {
         Err(e) => Err(e),
@@ -245,11 +221,7 @@ pub fn record_gone<const K: usize, R: Recorder>(
     requires lacks { LacksAll cs.now s.now o.0 }
     ensures closed { OnOk result (R.keeps ≡ true
         → IsClosed cs.now s.now (R.list rec.old) (R.list rec.new)) }
-    ensures events { R.keeps ≡ true → Continues (R.list rec.old) (R.list rec.new) }
-    ensures refused { OnErr result
-        (min (R.refusals rec.old + 1) (2 ^ 64 - 1) ≤ R.refusals rec.new) }
-    ensures refusals { R.refusals rec.old ≤ R.refusals rec.new }
-    ensures no_record { R.keeps ≡ false → IsOk result }
+    ensures grows { Grows R.keeps R.list R.refusals rec.old rec.new result }
 {
     let region = s.region(o);
     match record_event(rec, Event::Gone(o)) {
@@ -276,11 +248,7 @@ pub fn record_drop<const K: usize, R: Recorder>(
     requires lacks { LacksPoint cs.now s.now o.0 place }
     ensures led { OnOk result (R.keeps ≡ true → IsLed cs.now s.now
         (slice_set s.now o.0 (without (reach s.now o.0) place)) (R.list rec.old) (R.list rec.new)) }
-    ensures events { R.keeps ≡ true → Continues (R.list rec.old) (R.list rec.new) }
-    ensures refused { OnErr result
-        (min (R.refusals rec.old + 1) (2 ^ 64 - 1) ≤ R.refusals rec.new) }
-    ensures refusals { R.refusals rec.old ≤ R.refusals rec.new }
-    ensures no_record { R.keeps ≡ false → IsOk result }
+    ensures grows { Grows R.keeps R.list R.refusals rec.old rec.new result }
 {
     let region = s.region(o);
     match record_event(rec, Event::Drop(o, place)) {
@@ -310,11 +278,7 @@ pub fn record_raise<const K: usize, R: Recorder>(
     ensures led { OnOk result (R.keeps ≡ true → IsLed cs.now s.now
         (slice_set s.now o.0 (with_low (reach s.now o.0) d (low s.now o.0 d +ℤ pos 1)))
         (R.list rec.old) (R.list rec.new)) }
-    ensures events { R.keeps ≡ true → Continues (R.list rec.old) (R.list rec.new) }
-    ensures refused { OnErr result
-        (min (R.refusals rec.old + 1) (2 ^ 64 - 1) ≤ R.refusals rec.new) }
-    ensures refusals { R.refusals rec.old ≤ R.refusals rec.new }
-    ensures no_record { R.keeps ≡ false → IsOk result }
+    ensures grows { Grows R.keeps R.list R.refusals rec.old rec.new result }
 {
     let region = s.region(o);
     let low = region.lo.get(d);
@@ -347,11 +311,7 @@ pub fn record_lower<const K: usize, R: Recorder>(
     ensures led { OnOk result (R.keeps ≡ true → IsLed cs.now s.now
         (slice_set s.now o.0 (with_high (reach s.now o.0) d (high s.now o.0 d +ℤ negsuc 0)))
         (R.list rec.old) (R.list rec.new)) }
-    ensures events { R.keeps ≡ true → Continues (R.list rec.old) (R.list rec.new) }
-    ensures refused { OnErr result
-        (min (R.refusals rec.old + 1) (2 ^ 64 - 1) ≤ R.refusals rec.new) }
-    ensures refusals { R.refusals rec.old ≤ R.refusals rec.new }
-    ensures no_record { R.keeps ≡ false → IsOk result }
+    ensures grows { Grows R.keeps R.list R.refusals rec.old rec.new result }
 {
     let region = s.region(o);
     let _low = region.lo.get(d);

@@ -1,8 +1,8 @@
-ghost use Rattle.std.specs.Prelude.{◌≡◌, ℕ, ◌+◌, ◌-◌, ◌^◌, min, ◌≤◌, true, false, List, length, IfOk, IsOk, OnErr};
+ghost use Rattle.std.specs.Prelude.{◌≡◌, ℕ, ◌≤◌, true, List, length, IfOk};
 ghost use Rattle.std.specs.List.{All};
 ghost use Rattle.geo_conditions.specs.declared.cond.Cond.{Cond};
 ghost use Rattle.geo_conditions.specs.Conditions.{FitsIn};
-ghost use Rattle.derivation.specs.Events.{Continues};
+ghost use Rattle.derivation.specs.Events.{Grows};
 ghost use Rattle.geo_state.specs.Settle.{Records, SettlesOr};
 
 use super::trailed::Trailed;
@@ -46,9 +46,5 @@ pub trait Propagate<const K: usize> {
         ensures count { objects self.new ≡ objects self.old }
         ensures record { IfOk result (λ a. R.keeps ≡ true
             → Records (conditions self.old) t.old.state a t.new.state (R.list rec.old) (R.list rec.new)) }
-        ensures events { R.keeps ≡ true → Continues (R.list rec.old) (R.list rec.new) }
-        ensures refused { OnErr result
-            (min (R.refusals rec.old + 1) (2 ^ 64 - 1) ≤ R.refusals rec.new) }
-        ensures refusals { R.refusals rec.old ≤ R.refusals rec.new }
-        ensures no_record { R.keeps ≡ false → IsOk result };
+        ensures grows { Grows R.keeps R.list R.refusals rec.old rec.new result };
 }

@@ -16,9 +16,10 @@ use Rattle.derivation.specs.declared.event.Event.{Event}
 use Rattle.derivation.specs.declared.event.Event.TheVariants.{Drop, Gone, Cover, EndCovers}
 use Rattle.derivation.specs.Covers.{IsCut, HasNumbersIn}
 use Rattle.derivation.specs.Cuts.{far}
-use Rattle.derivation.specs.Events.{Continues}
+use Rattle.derivation.specs.Events.{Continues, Growth}
 use Rattle.derivation.specs.PlaceCovers.{covers_events, RecordedBelow, RecordedCovers, SmallerBox}
 use Rattle.derivation.specs.Chains.{Narrows, bound_event}
+use Rattle.derivation.proofs.Continuing.{continues_same, growth_done}
 use Rattle.derivation.proofs.SmallerCovers.{box_same, box_within, upto_smaller, from_smaller, covers_smaller}
 use Rattle.derivation.proofs.Listings.{recorded_start, recorded_skip, recorded_more, recorded_end, drop_led, bound_led, gone_closed}
 use Rattle.geo_state.specs.Trail.{IsSmall, IsSmallNumber}
@@ -43,6 +44,10 @@ mark_in old new m e k = omega (arith, e, ap length k.1, length-append old k.0)
 -- cut back to the mark, it is as before
 pub cut_to_mark : (old new : List Event) (m : ℕ) → m ≡ length old → Continues old new → take m new ≡ old
 cut_to_mark old new m e k = ap (λ (n : ℕ). take n new) e ∙ ap (λ (xs : List Event). take (length old) xs) k.1 ∙ take-append_seam old k.0
+
+-- a record that is cut back to where it was
+pub growth_cut : {k : Bool} {a b c : List Event} {m n o mark : ℕ} → Growth k a b m n true → (k ≡ true → mark ≡ length a) → (k ≡ true → c ≡ take mark b) → o ≡ n → Growth k a c m o true
+growth_cut {a = a} {b = b} {c = c} {mark = mark} g h f e = growth_done (λ q. continues_same a c (f q ∙ cut_to_mark a b mark (h q) (g.events q))) (omega (arith, g.refusals, e))
 
 -- a mark lies before one event more
 pub mark_before : (old mid new : List Event) (m : ℕ) (e : Event) → m ≡ length old → Continues old mid → new ≡ mid ++ (e ∷ []) → m < length new

@@ -5,7 +5,7 @@ ghost use Rattle.geo_conditions.specs.Conditions.{AllFit};
 ghost use Rattle.geo_conditions.specs.Reach.{reach};
 ghost use Rattle.geo_conditions.specs.Supported.{HasNoPoint, IsFirstPoint};
 ghost use Rattle.geo_state.specs.Trail.{IsSmall};
-ghost use Rattle.derivation.specs.Events.{Continues};
+ghost use Rattle.derivation.specs.Events.{Grows};
 ghost use Rattle.sweep.specs.Picks.{ArePicks, picked};
 ghost use Rattle.sweep.specs.Sweep.{IsCovered, part_before};
 
@@ -43,11 +43,7 @@ pub fn first_point<const K: usize, I: Indexical<K>, R: Recorder>(
         (IsCovered K cs picks.now s.now o.0 place b (R.list rec.old) (R.list rec.new))
         (λ p. IsCovered K cs picks.now s.now o.0 place
         (part_before way.now.lead way.now.up p.coordinates b) (R.list rec.old) (R.list rec.new))) }
-    ensures err { OnErr result (R.keeps ≡ true → Continues (R.list rec.old) (R.list rec.new)) }
-    ensures refused { OnErr result
-        (min (R.refusals rec.old + 1) (2 ^ 64 - 1) ≤ R.refusals rec.new) }
-    ensures refusals { R.refusals rec.old ≤ R.refusals rec.new }
-    ensures no_record { R.keeps ≡ false → IsOk result }
+    ensures grows { Grows R.keeps R.list R.refusals rec.old rec.new result }
 {
     let region = s.region(o);
     first_point_in(s, o, place, &region, list, picks, way, rec)

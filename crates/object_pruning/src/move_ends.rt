@@ -4,7 +4,7 @@ ghost use Rattle.std.specs.Prelude.{◌≡◌, ◌+◌, ◌-◌, ◌^◌, ◌<�
 ghost use Rattle.geo_conditions.specs.Conditions.{AllFit};
 ghost use Rattle.geo_conditions.specs.Reach.{Inside, low, high};
 ghost use Rattle.geo_state.specs.Trail.{IsSmallNumber};
-ghost use Rattle.derivation.specs.Events.{Continues};
+ghost use Rattle.derivation.specs.Events.{Grows};
 ghost use Rattle.sweep.specs.Picks.{ArePicks, picked};
 ghost use Rattle.object_pruning.specs.Ends.{HasSome, MovesEnd, MovesEnds};
 ghost use Rattle.object_pruning.specs.Kept.{AllSupport};
@@ -66,11 +66,7 @@ fn move_end<const K: usize, I: Indexical<K>, R: Recorder>(
     ensures unmoved { OnErr result (t.new.state ≡ t.old.state) }
     ensures kept { AllSupport (picked (map I.cond list.now) picks.now) t.new.state o.0 kept.new }
     ensures levels { (t.new.levels ≡ t.old.levels) × (t.new.restores ≡ t.old.restores) }
-    ensures events { R.keeps ≡ true → Continues (R.list rec.old) (R.list rec.new) }
-    ensures refused { OnErr result
-        (min (R.refusals rec.old + 1) (2 ^ 64 - 1) ≤ R.refusals rec.new) }
-    ensures refusals { R.refusals rec.old ≤ R.refusals rec.new }
-    ensures no_record { R.keeps ≡ false → IsOk result }
+    ensures grows { Grows R.keeps R.list R.refusals rec.old rec.new result }
 {
     let state = t.state();
     let _objects = state.objects();
@@ -110,11 +106,7 @@ pub fn move_ends<const K: usize, I: Indexical<K>, R: Recorder>(
     ensures alone { SameBut o.0 t.old.state t.new.state × Inside t.new.state t.old.state }
     ensures kept { AllSupport (picked (map I.cond list.now) picks.now) t.new.state o.0 kept.new }
     ensures levels { (t.new.levels ≡ t.old.levels) × (t.new.restores ≡ t.old.restores) }
-    ensures events { R.keeps ≡ true → Continues (R.list rec.old) (R.list rec.new) }
-    ensures refused { OnErr result
-        (min (R.refusals rec.old + 1) (2 ^ 64 - 1) ≤ R.refusals rec.new) }
-    ensures refusals { R.refusals rec.old ≤ R.refusals rec.new }
-    ensures no_record { R.keeps ≡ false → IsOk result }
+    ensures grows { Grows R.keeps R.list R.refusals rec.old rec.new result }
 {
     let _objects = t.state().objects();
     let mut moved = false;

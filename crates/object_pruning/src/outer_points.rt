@@ -6,7 +6,7 @@ ghost use Rattle.geo_base.specs.Ways.{toward};
 ghost use Rattle.geo_conditions.specs.Conditions.{AllFit};
 ghost use Rattle.geo_state.specs.Trail.{IsSmall};
 ghost use Rattle.derivation.specs.Chains.{bound_event};
-ghost use Rattle.derivation.specs.Events.{Continues};
+ghost use Rattle.derivation.specs.Events.{Grows};
 ghost use Rattle.sweep.specs.Picks.{ArePicks, picked};
 ghost use Rattle.object_pruning.specs.Ends.{HasSome, IsFirstAt, IsOutermostPoint, IsSooner, end};
 ghost use Rattle.object_pruning.specs.Pruning.{CanBe};
@@ -67,11 +67,7 @@ fn point_at<const K: usize, I: Indexical<K>, R: Recorder>(
         (λ q. IsFirstAt cs s.now o.0 place way.now.lead way.now.up q)) }
     ensures listed { IfOk result (λ r. R.keeps ≡ true → (v : ℤ) → IsNotBeyond way.now.lead way.now.up v r
         → ListsPlace (map I.cond list.now) s.now o.0 way.now.lead way.now.up v place (R.list rec.old) (R.list rec.new)) }
-    ensures events { R.keeps ≡ true → Continues (R.list rec.old) (R.list rec.new) }
-    ensures refused { OnErr result
-        (min (R.refusals rec.old + 1) (2 ^ 64 - 1) ≤ R.refusals rec.new) }
-    ensures refusals { R.refusals rec.old ≤ R.refusals rec.new }
-    ensures no_record { R.keeps ≡ false → IsOk result }
+    ensures grows { Grows R.keeps R.list R.refusals rec.old rec.new result }
 {
     if !s.has_shape(o, place) {
         return Ok(None);
@@ -105,11 +101,7 @@ fn outermost<const K: usize, I: Indexical<K>, R: Recorder>(
     ensures point { IfOk result (λ q. IsOutermostPoint (picked (map I.cond list.now) picks.now) s.now o.0 d up q) }
     ensures listed { IfOk result (λ q. R.keeps ≡ true → coordinate q.point.coordinates d ≢ end up s.now o.0 d
         → AreListed (map I.cond list.now) s.now o.0 d up (coordinate q.point.coordinates d) (R.list rec.old) (R.list rec.new)) }
-    ensures events { R.keeps ≡ true → Continues (R.list rec.old) (R.list rec.new) }
-    ensures refused { OnErr result
-        (min (R.refusals rec.old + 1) (2 ^ 64 - 1) ≤ R.refusals rec.new) }
-    ensures refusals { R.refusals rec.old ≤ R.refusals rec.new }
-    ensures no_record { R.keeps ≡ false → IsOk result }
+    ensures grows { Grows R.keeps R.list R.refusals rec.old rec.new result }
 {
     let way = Way::new(d, up);
     let _objects = s.objects();
@@ -163,11 +155,7 @@ pub fn sought_end<const K: usize, I: Indexical<K>, R: Recorder>(
         → R.list rec.new ≡ R.list rec.old) }
     ensures led { IfOk result (λ q. R.keeps ≡ true → coordinate q.point.coordinates d ≢ end up s.now o.0 d
         → IsLed (map I.cond list.now) s.now (with_end s.now o.0 d up (coordinate q.point.coordinates d)) (R.list rec.old) (R.list rec.new)) }
-    ensures events { R.keeps ≡ true → Continues (R.list rec.old) (R.list rec.new) }
-    ensures refused { OnErr result
-        (min (R.refusals rec.old + 1) (2 ^ 64 - 1) ≤ R.refusals rec.new) }
-    ensures refusals { R.refusals rec.old ≤ R.refusals rec.new }
-    ensures no_record { R.keeps ≡ false → IsOk result }
+    ensures grows { Grows R.keeps R.list R.refusals rec.old rec.new result }
 {
     let _objects = s.objects();
     let there = end_of(s, o, d, up);

@@ -5,7 +5,7 @@ ghost use Rattle.geo_conditions.specs.Conditions.{AllFit};
 ghost use Rattle.geo_conditions.specs.Reach.{Inside, has, reach, without};
 ghost use Rattle.geo_conditions.specs.Supported.{HasNoPoint};
 ghost use Rattle.geo_state.specs.Trail.{IsSmall};
-ghost use Rattle.derivation.specs.Events.{Continues};
+ghost use Rattle.derivation.specs.Events.{Grows};
 ghost use Rattle.sweep.specs.Picks.{ArePicks, picked};
 ghost use Rattle.object_pruning.specs.Ends.{DropsPlaces};
 ghost use Rattle.object_pruning.specs.Kept.{AllSupport};
@@ -46,11 +46,7 @@ fn sought_point<const K: usize, I: Indexical<K>, R: Recorder>(
         IfOk result (λ r. R.keeps ≡ true → MatchOption r
         (IsLed cs s.now (slice_set s.now o.0 (without (reach s.now o.0) place)) (R.list rec.old) (R.list rec.new))
         (λ p. R.list rec.new ≡ R.list rec.old)) }
-    ensures err { OnErr result (R.keeps ≡ true → Continues (R.list rec.old) (R.list rec.new)) }
-    ensures refused { OnErr result
-        (min (R.refusals rec.old + 1) (2 ^ 64 - 1) ≤ R.refusals rec.new) }
-    ensures refusals { R.refusals rec.old ≤ R.refusals rec.new }
-    ensures no_record { R.keeps ≡ false → IsOk result }
+    ensures grows { Grows R.keeps R.list R.refusals rec.old rec.new result }
 {
     let _objects = s.objects();
     let way = Way::new(0, false);
@@ -91,11 +87,7 @@ fn has_point<const K: usize, I: Indexical<K>, R: Recorder>(
         IfOk result (λ b. R.keeps ≡ true → MatchBool b (R.list rec.new ≡ R.list rec.old)
         (IsLed cs s.now (slice_set s.now o.0 (without (reach s.now o.0) place)) (R.list rec.old) (R.list rec.new))) }
     ensures kept { AllSupport (picked (map I.cond list.now) picks.now) s.now o.0 kept.new }
-    ensures err { OnErr result (R.keeps ≡ true → Continues (R.list rec.old) (R.list rec.new)) }
-    ensures refused { OnErr result
-        (min (R.refusals rec.old + 1) (2 ^ 64 - 1) ≤ R.refusals rec.new) }
-    ensures refusals { R.refusals rec.old ≤ R.refusals rec.new }
-    ensures no_record { R.keeps ≡ false → IsOk result }
+    ensures grows { Grows R.keeps R.list R.refusals rec.old rec.new result }
 {
     if knows_place(s, o, place, list, picks, kept, hints) {
         return Ok(true);
@@ -137,11 +129,7 @@ pub fn drop_places<const K: usize, I: Indexical<K>, R: Recorder>(
     ensures alone { SameBut o.0 t.old.state t.new.state × Inside t.new.state t.old.state }
     ensures kept { AllSupport (picked (map I.cond list.now) picks.now) t.new.state o.0 kept.new }
     ensures levels { (t.new.levels ≡ t.old.levels) × (t.new.restores ≡ t.old.restores) }
-    ensures events { R.keeps ≡ true → Continues (R.list rec.old) (R.list rec.new) }
-    ensures refused { OnErr result
-        (min (R.refusals rec.old + 1) (2 ^ 64 - 1) ≤ R.refusals rec.new) }
-    ensures refusals { R.refusals rec.old ≤ R.refusals rec.new }
-    ensures no_record { R.keeps ≡ false → IsOk result }
+    ensures grows { Grows R.keeps R.list R.refusals rec.old rec.new result }
 {
     let _objects = t.state().objects();
     let mut some = false;

@@ -5,7 +5,7 @@ ghost use Rattle.geo_conditions.specs.Conditions.{AllFit};
 ghost use Rattle.geo_conditions.specs.declared.cond.Cond.{Cond};
 ghost use Rattle.geo_conditions.specs.Reach.{State, Inside, has};
 ghost use Rattle.derivation.specs.declared.event.Event.{Event};
-ghost use Rattle.derivation.specs.Events.{Continues};
+ghost use Rattle.derivation.specs.Events.{Grows};
 ghost use Rattle.sweep.specs.Picks.{ArePicks, picked};
 ghost use Rattle.object_pruning.specs.Kept.{AllSupport};
 ghost use Rattle.object_pruning.specs.Pruning.{PrunesTo};
@@ -38,11 +38,7 @@ pub enum Pruned {
 fn record_gone<R: Recorder>(o: ObjId, rec: &mut R) -> Result<(), AllocError>
     ensures closed { OnOk result (R.keeps ≡ true → (cs : List Cond) → (S : State) → o.0 < length S
         → ((s : ℕ) → has S o.0 s ≡ true → ⊥) → IsClosed cs S (R.list rec.old) (R.list rec.new)) }
-    ensures err { OnErr result (R.keeps ≡ true → Continues (R.list rec.old) (R.list rec.new)) }
-    ensures refused { OnErr result
-        (min (R.refusals rec.old + 1) (2 ^ 64 - 1) ≤ R.refusals rec.new) }
-    ensures refusals { R.refusals rec.old ≤ R.refusals rec.new }
-    ensures no_record { R.keeps ≡ false → IsOk result }
+    ensures grows { Grows R.keeps R.list R.refusals rec.old rec.new result }
 {
     rec.add(Event::Gone(o))?;
     match rec.add(Event::EndCovers) {
@@ -80,10 +76,7 @@ pub fn prune_kept<const K: usize, I: Indexical<K>, R: Recorder>(
     ensures levels { (t.new.levels ≡ t.old.levels) × (t.new.restores ≡ t.old.restores) }
     ensures record { IfOk result (λ a. R.keeps ≡ true → (es : List Event) × (R.list rec.new ≡ R.list rec.old ++ es)
         × AreEventsOfPruning (map I.cond list.now) t.old.state a t.new.state es) }
-    ensures events { R.keeps ≡ true → Continues (R.list rec.old) (R.list rec.new) }
-    ensures refused { OnErr result (min (R.refusals rec.old + 1) (2 ^ 64 - 1) ≤ R.refusals rec.new) }
-    ensures refusals { R.refusals rec.old ≤ R.refusals rec.new }
-    ensures no_record { R.keeps ≡ false → IsOk result }
+    ensures grows { Grows R.keeps R.list R.refusals rec.old rec.new result }
 {
     let places = drop_places(t, o, list, picks, kept, hints, rec)?;
     if !places.some {
@@ -115,10 +108,7 @@ pub fn prune_object<const K: usize, I: Indexical<K>, R: Recorder>(
     ensures levels { (t.new.levels ≡ t.old.levels) × (t.new.restores ≡ t.old.restores) }
     ensures record { IfOk result (λ a. R.keeps ≡ true → (es : List Event) × (R.list rec.new ≡ R.list rec.old ++ es)
         × AreEventsOfPruning (map I.cond list.now) t.old.state a t.new.state es) }
-    ensures events { R.keeps ≡ true → Continues (R.list rec.old) (R.list rec.new) }
-    ensures refused { OnErr result (min (R.refusals rec.old + 1) (2 ^ 64 - 1) ≤ R.refusals rec.new) }
-    ensures refusals { R.refusals rec.old ≤ R.refusals rec.new }
-    ensures no_record { R.keeps ≡ false → IsOk result }
+    ensures grows { Grows R.keeps R.list R.refusals rec.old rec.new result }
 {
     let mut kept: [Option<Placed<K>>; 0] = [];
     let mut hints: [Option<Placed<K>>; 0] = [];

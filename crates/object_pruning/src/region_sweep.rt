@@ -4,7 +4,7 @@ ghost use Rattle.std.specs.Prelude.{◌≡◌, ◌+◌, ◌-◌, ◌^◌, ◌<�
 ghost use Rattle.geo_conditions.specs.Conditions.{AllFit};
 ghost use Rattle.geo_conditions.specs.Regions.{region_of};
 ghost use Rattle.geo_conditions.specs.Supported.{HasNoPoint, IsFirstPoint};
-ghost use Rattle.derivation.specs.Events.{Continues};
+ghost use Rattle.derivation.specs.Events.{Grows};
 ghost use Rattle.sweep.specs.Picks.{ArePicks, picked};
 ghost use Rattle.sweep.specs.Sweep.{IsCovered, part_before};
 ghost use Rattle.object_pruning.specs.Pruning.{IsSmallBox};
@@ -47,10 +47,7 @@ impl<'a, const K: usize, I: Indexical<K> + 'a, R: Recorder> Counted<
         (IsCovered K (map I.cond x.list.now) x.picks.now x.s.now x.o.0 x.place (region_of x.region.now) (R.list old) (R.list new))
         (λ p. IsCovered K (map I.cond x.list.now) x.picks.now x.s.now x.o.0 x.place
         (part_before x.way.now.lead x.way.now.up p.coordinates (region_of x.region.now)) (R.list old) (R.list new)))
-        × OnErr result (R.keeps ≡ true → Continues (R.list old) (R.list new))
-        × OnErr result (min (R.refusals old + 1) (2 ^ 64 - 1) ≤ R.refusals new)
-        × (R.refusals old ≤ R.refusals new)
-        × (R.keeps ≡ false → IsOk result) };
+        × Grows R.keeps R.list R.refusals old new result };
 
     fn answer<L: Ledger>(
         &self,
@@ -99,11 +96,7 @@ pub fn first_point_in<const K: usize, I: Indexical<K>, R: Recorder>(
         (IsCovered K cs picks.now s.now o.0 place b (R.list rec.old) (R.list rec.new))
         (λ p. IsCovered K cs picks.now s.now o.0 place
         (part_before way.now.lead way.now.up p.coordinates b) (R.list rec.old) (R.list rec.new))) }
-    ensures err { OnErr result (R.keeps ≡ true → Continues (R.list rec.old) (R.list rec.new)) }
-    ensures refused { OnErr result
-        (min (R.refusals rec.old + 1) (2 ^ 64 - 1) ≤ R.refusals rec.new) }
-    ensures refusals { R.refusals rec.old ≤ R.refusals rec.new }
-    ensures no_record { R.keeps ≡ false → IsOk result }
+    ensures grows { Grows R.keeps R.list R.refusals rec.old rec.new result }
 {
     answer(
         &RegionSweep {

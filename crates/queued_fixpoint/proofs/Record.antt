@@ -29,10 +29,6 @@ records_on cs S R T old mid new p q = led_on cs S R T old mid new p q
 pub records_dead : (cs : List Cond) (S R T : State) (old mid new : List Event) → Records cs S Kept R old mid → RecordsPruning cs R Empty T mid new → Records cs S Dead T old new
 records_dead cs S R T old mid new p q = led_closed cs S R old mid new p q
 
--- whatever comes behind a chain continues the events before it
-pub continues_on : (cs : List Cond) (S R : State) (old mid new : List Event) → Records cs S Kept R old mid → Continues mid new → Continues old new
-continues_on cs S R old mid new p q = (p.0 ++ q.0, q.1 ∙ ap (λ (es : List Event). es ++ q.0) p.1 ∙ append_assoc old p.0 q.0)
-
 -- a picked condition that is not possible is refuted, by its number
 pub refutes_picked : (cs : List Cond) (picks : List ℕ) (k : ℕ) (x : Cond) (S : State) → ArePicks (length cs) picks → PicksAt cs picks k x → possible x S ≡ false → refutes cs (slice_index picks k) S ≡ true
 refutes_picked cs picks k x S a p f =

@@ -7,7 +7,7 @@ ghost use Rattle.geo_conditions.specs.Conditions.{AllFit};
 ghost use Rattle.geo_conditions.specs.Reach.{Inside};
 ghost use Rattle.geo_conditions.specs.Supported.{NoneRefuted};
 ghost use Rattle.derivation.specs.Covers.{refutes};
-ghost use Rattle.derivation.specs.Events.{Continues};
+ghost use Rattle.derivation.specs.Events.{Grows};
 ghost use Rattle.geo_state.specs.Settle.{Records, SettlesOr};
 ghost use Rattle.sweep.specs.Picks.{ArePicks, picked};
 ghost use Rattle.object_pruning.specs.Same.{SameBut};
@@ -70,10 +70,7 @@ fn prune_linked<const K: usize, R: Recorder>(
     ensures stand { StandsAlone (map (λ x. x.cond) list.now) t.new.state o kept.old kept.new }
     ensures record { IfOk result (λ a. R.keeps ≡ true → RecordsPruning (map (λ x. x.cond) list.now) t.old.state a t.new.state
         (R.list rec.old) (R.list rec.new)) }
-    ensures events { R.keeps ≡ true → Continues (R.list rec.old) (R.list rec.new) }
-    ensures refused { OnErr result (min (R.refusals rec.old + 1) (2 ^ 64 - 1) ≤ R.refusals rec.new) }
-    ensures refusals { R.refusals rec.old ≤ R.refusals rec.new }
-    ensures no_record { R.keeps ≡ false → IsOk result }
+    ensures grows { Grows R.keeps R.list R.refusals rec.old rec.new result }
 {
     let _objects = t.state().objects();
     let picks = &links.picks[o];
@@ -102,10 +99,7 @@ fn prune_and_retry<const K: usize, R: Recorder>(
     ensures stand { AllStand (map (λ x. x.cond) list.now) t.new.state kept.new }
     ensures record { IfOk result (λ a. R.keeps ≡ true → RecordsPruning (map (λ x. x.cond) list.now) t.old.state a t.new.state
         (R.list rec.old) (R.list rec.new)) }
-    ensures events { R.keeps ≡ true → Continues (R.list rec.old) (R.list rec.new) }
-    ensures refused { OnErr result (min (R.refusals rec.old + 1) (2 ^ 64 - 1) ≤ R.refusals rec.new) }
-    ensures refusals { R.refusals rec.old ≤ R.refusals rec.new }
-    ensures no_record { R.keeps ≡ false → IsOk result }
+    ensures grows { Grows R.keeps R.list R.refusals rec.old rec.new result }
 {
     let pruned = prune_linked(list, links, o, t, kept, hints, rec);
     match pruned {
@@ -150,10 +144,7 @@ fn prune_queued<const K: usize, R: Recorder>(
     ensures stand { AllStand (map (λ x. x.cond) list.now) t.new.state kept.new }
     ensures record { IfOk result (λ a. R.keeps ≡ true → Records (map (λ x. x.cond) list.now) t.old.state a t.new.state
         (R.list rec.old) (R.list rec.new)) }
-    ensures events { R.keeps ≡ true → Continues (R.list rec.old) (R.list rec.new) }
-    ensures refused { OnErr result (min (R.refusals rec.old + 1) (2 ^ 64 - 1) ≤ R.refusals rec.new) }
-    ensures refusals { R.refusals rec.old ≤ R.refusals rec.new }
-    ensures no_record { R.keeps ≡ false → IsOk result }
+    ensures grows { Grows R.keeps R.list R.refusals rec.old rec.new result }
 {
     let mut next = 0;
     while let Some(o) = pop(queued, next) {
@@ -199,10 +190,7 @@ fn settle<const K: usize, R: Recorder>(
     ensures stand { AllStand (map (λ x. x.cond) list.now) last.new kept.new }
     ensures record { IfOk result (λ a. R.keeps ≡ true → Records (map (λ x. x.cond) list.now) t.old.state a t.new.state
         (R.list rec.old) (R.list rec.new)) }
-    ensures events { R.keeps ≡ true → Continues (R.list rec.old) (R.list rec.new) }
-    ensures refused { OnErr result (min (R.refusals rec.old + 1) (2 ^ 64 - 1) ≤ R.refusals rec.new) }
-    ensures refusals { R.refusals rec.old ≤ R.refusals rec.new }
-    ensures no_record { R.keeps ≡ false → IsOk result }
+    ensures grows { Grows R.keeps R.list R.refusals rec.old rec.new result }
 {
     if let Some(i) = first_refuted(list, &links.bare, t.state()) {
         return match rec.add(Event::Dead(i)) {

@@ -54,3 +54,9 @@ set_high-requires g c =
     let within_kept : IsSmallNumber (to_z w64 (of_z w64 v)) = subst IsSmallNumber (sym (small_kept v within)) within in
     let narrower : to_z w64 (of_z w64 v) ≤ℤ high S o d = subst (λ (z : ℤ). z ≤ℤ high S o d) (sym (small_kept v within)) (omega (arith, ints, at)) in
     search rules
+
+pub returns-in-Err-clause-grows : goal.returns-in-Err-clause-grows
+returns-in-Err-clause-grows g c = c.in-Err.ensures.grows
+
+pub returns-in-Ok-clause-grows : goal.returns-in-Ok-clause-grows
+returns-in-Ok-clause-grows g c = c.in-Ok.ensures.grows

@@ -10,6 +10,7 @@ use Rattle.derivation.specs.Chains.{IsLed}
 use Rattle.fixpoint.specs.Recorded.{RecordsOutcome}
 use Rattle.derivation.proofs.Refuting.{some_refuted}
 use Rattle.derivation.proofs.Chains.{led_on, led_closed}
+use Rattle.derivation.proofs.Continuing.{growth_on, growth_failed}
 use Rattle.fixpoint.proofs.Finding.{refuted_hopeless, all_supported}
 use Rattle.fixpoint.proofs.Narrowed.{Unless, FineBelow}
 use Rattle.fixpoint.proofs.Passing.{Along, along_changed, along_fine}
@@ -58,7 +59,7 @@ loop-o-preserved g c =
       fine = b.0.2;
       levels = (c.repair.ensures.levels.0 ∙ i.levels.0, c.repair.ensures.levels.1 ∙ i.levels.1);
       recorded = λ kept. led_on cs S R Q old mid end (i.recorded kept) (b.1 kept);
-      refusals = omega (arith, i.refusals, c.repair.ensures.refusals);
+      grows = growth_on i.grows c.in_ok-outcome.ensures.grows;
     }
 
 pub returns-else-changed-clause-passes : goal.returns-else-changed-clause-passes
@@ -74,3 +75,21 @@ returns-else-changed-clause-passes g c =
       all_supported cs S (subst (NoneRefuted cs) c.state.ensures.value none)
           (λ o h. all o (omega (arith, h, c.objects-objects.ensures.number, ap length c.state-2.ensures.value, c.loop-o-test.false))),
     )
+
+pub returns-in-Err-clause-grows : goal.returns-in-Err-clause-grows
+returns-in-Err-clause-grows g c = c.in-Err.ensures.grows
+
+pub returns-in-Ok-clause-grows : goal.returns-in-Ok-clause-grows
+returns-in-Ok-clause-grows g c = c.in-Ok.ensures.grows
+
+pub returns-in_err-outcome-clause-grows : goal.returns-in_err-outcome-clause-grows
+returns-in_err-outcome-clause-grows g c = growth_failed (growth_on c.loop-o.invariant.grows c.in_err-outcome.ensures.grows) _ c.from_residual.ensures.0
+
+pub returns-in-Dead-clause-grows : goal.returns-in-Dead-clause-grows
+returns-in-Dead-clause-grows g c = growth_on c.loop-o.invariant.grows c.in_ok-outcome.ensures.grows
+
+pub returns-then-changed-clause-grows : goal.returns-then-changed-clause-grows
+returns-then-changed-clause-grows g c = c.loop-o.invariant.grows
+
+pub returns-else-changed-clause-grows : goal.returns-else-changed-clause-grows
+returns-else-changed-clause-grows g c = c.loop-o.invariant.grows

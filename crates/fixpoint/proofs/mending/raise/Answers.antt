@@ -54,3 +54,9 @@ set_low-requires g c =
     let within_kept : IsSmallNumber (to_z w64 (of_z w64 v)) = subst IsSmallNumber (sym (small_kept v within)) within in
     let narrower : low S o d ≤ℤ to_z w64 (of_z w64 v) = subst (λ (z : ℤ). low S o d ≤ℤ z) (sym (small_kept v within)) (omega (arith, ints, at)) in
     search rules
+
+pub returns-in-Err-clause-grows : goal.returns-in-Err-clause-grows
+returns-in-Err-clause-grows g c = c.in-Err.ensures.grows
+
+pub returns-in-Ok-clause-grows : goal.returns-in-Ok-clause-grows
+returns-in-Ok-clause-grows g c = c.in-Ok.ensures.grows

@@ -8,6 +8,7 @@ use Rattle.fixpoint.specs.Passes.{IsNarrower}
 use Rattle.derivation.specs.Chains.{IsLed, IsClosed}
 use Rattle.fixpoint.proofs.Narrowed.{Mended, Unless, going_on, unless_on}
 use Rattle.derivation.proofs.Chains.{led_on, led_closed}
+use Rattle.derivation.proofs.Continuing.{growth_on}
 use Rattle.fixpoint.proofs.mending.repair.Goals as goal
 
 pub loop-defect-preserved : goal.loop-defect-preserved
@@ -27,7 +28,7 @@ loop-defect-preserved g c =
           let mid = g.R.Recorder.list c.loop-defect.rec in
           let end = g.R.Recorder.list c.mend.new.rec in
           led_on cs S R Q old mid end (i.recorded kept) (subst (λ (b : Bool). MatchBool b (IsLed cs R Q mid end) (IsClosed cs R mid end)) c.in-Ok-true.field-0-test (c.in-Ok-true.ensures.record kept));
-      refusals = omega (arith, i.refusals, c.mend.ensures.refusals);
+      grows = growth_on i.grows c.in-Ok-true.ensures.grows;
     }
 
 pub returns-in-Ok-false-clause-record : goal.returns-in-Ok-false-clause-record
@@ -45,3 +46,15 @@ returns-else-changed-clause-repairs g c =
     let same : c.loop-defect.t.state ≡ c.args.t.now.state = subst (λ (b : Bool). Unless b cs c.args.t.now.state c.loop-defect.t.state) c.if-changed.false c.loop-defect.invariant.unless in
     let fine : ObjectFine cs c.state.result.now c.args.o.0 = subst (λ (a : Option Defect). MatchOption a (ObjectFine cs c.state.result.now c.args.o.0) (IsDefect cs c.state.result.now)) c.in_default.is c.object_defect.ensures in
     (same, subst (λ (S : State). ObjectFine cs S c.args.o.0) (c.state.ensures.value ∙ same) fine)
+
+pub returns-in-Err-clause-grows : goal.returns-in-Err-clause-grows
+returns-in-Err-clause-grows g c = growth_on c.loop-defect.invariant.grows c.in-Err.ensures.grows
+
+pub returns-in-Ok-false-clause-grows : goal.returns-in-Ok-false-clause-grows
+returns-in-Ok-false-clause-grows g c = growth_on c.loop-defect.invariant.grows c.in-Ok-false.ensures.grows
+
+pub returns-then-changed-clause-grows : goal.returns-then-changed-clause-grows
+returns-then-changed-clause-grows g c = c.loop-defect.invariant.grows
+
+pub returns-else-changed-clause-grows : goal.returns-else-changed-clause-grows
+returns-else-changed-clause-grows g c = c.loop-defect.invariant.grows

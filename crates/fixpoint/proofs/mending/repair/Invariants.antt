@@ -1,6 +1,7 @@
 use Rattle.std.proofs.Common.{◌≡◌, ◌≤◌, true}
 use Rattle.geo_conditions.specs.Keeps.{size}
 use Rattle.derivation.specs.Chains.{IsLed}
+use Rattle.derivation.specs.Events.{HasGrown}
 use Rattle.fixpoint.proofs.Narrowed.{Going, Unless}
 use Rattle.fixpoint.proofs.mending.repair.Given as goal
 
@@ -10,7 +11,7 @@ invariant-loop-defect g l = record {
   unless : Unless l.changed l.cs l.fn.t.state l.t.state;
   levels : (l.t.levels ≡ l.fn.t.levels) × (l.t.restores ≡ l.fn.t.restores);
   recorded : g.R.Recorder.keeps ≡ true → IsLed l.cs l.fn.t.state l.t.state (g.R.Recorder.list l.fn.rec) (g.R.Recorder.list l.rec);
-  refusals : g.R.Recorder.refusals l.fn.rec ≤ g.R.Recorder.refusals l.rec;
+  grows : HasGrown g.R.Recorder.keeps g.R.Recorder.list g.R.Recorder.refusals l.fn.rec l.rec;
 }
 
 abbrev pub decreases-loop-defect : goal.decreases-loop-defect

@@ -10,3 +10,9 @@ returns-in-Ok-clause-narrower g c = place_mended c.args.cs.now c.args.t.now.stat
 pub returns-in-Ok-clause-led : goal.returns-in-Ok-clause-led
 returns-in-Ok-clause-led g c = λ kept.
     led_from c.args.cs.now c.args.t.now.state c.state.result.now c.drop_shape.new.self.state (λ (X : State). set X c.args.o.0 (without (reach X c.args.o.0) c.args.place)) _ _ c.state.ensures.value c.drop_shape.ensures.state (c.in-Ok.ensures.led kept)
+
+pub returns-in-Err-clause-grows : goal.returns-in-Err-clause-grows
+returns-in-Err-clause-grows g c = c.in-Err.ensures.grows
+
+pub returns-in-Ok-clause-grows : goal.returns-in-Ok-clause-grows
+returns-in-Ok-clause-grows g c = c.in-Ok.ensures.grows

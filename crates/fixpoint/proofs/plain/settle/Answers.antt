@@ -4,6 +4,7 @@ use Rattle.fixpoint.specs.Passes.{Passes}
 use Rattle.fixpoint.specs.Recorded.{RecordsOutcome}
 use Rattle.fixpoint.proofs.Narrowed.{going_on}
 use Rattle.derivation.proofs.Chains.{led_on, led_closed}
+use Rattle.derivation.proofs.Continuing.{growth_on}
 use Rattle.fixpoint.proofs.plain.settle.Goals as goal
 
 pub returns-in-Ok-Dead-clause-record : goal.returns-in-Ok-Dead-clause-record
@@ -36,5 +37,14 @@ passes-preserved g c =
       going = going_on cs S R Q i.going m.0;
       levels = (c.pass.ensures.levels.0 ∙ i.levels.0, c.pass.ensures.levels.1 ∙ i.levels.1);
       recorded = λ kept. led_on cs S R Q (g.R.Recorder.list c.args.rec.now) mid end (i.recorded kept) (subst (λ (a : Outcome). RecordsOutcome cs R a Q mid end) c.in-Ok-Changed.field-0-is (c.in-Ok-Changed.ensures.record kept));
-      refusals = omega (arith, i.refusals, c.pass.ensures.refusals);
+      grows = growth_on i.grows c.in-Ok-Changed.ensures.grows;
     }
+
+pub returns-in-Err-clause-grows : goal.returns-in-Err-clause-grows
+returns-in-Err-clause-grows g c = growth_on c.passes.invariant.grows c.in-Err.ensures.grows
+
+pub returns-in-Ok-Dead-clause-grows : goal.returns-in-Ok-Dead-clause-grows
+returns-in-Ok-Dead-clause-grows g c = growth_on c.passes.invariant.grows c.in-Ok-Dead.ensures.grows
+
+pub returns-in-Ok-Fine-clause-grows : goal.returns-in-Ok-Fine-clause-grows
+returns-in-Ok-Fine-clause-grows g c = growth_on c.passes.invariant.grows c.in-Ok-Fine.ensures.grows

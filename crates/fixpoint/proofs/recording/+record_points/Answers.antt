@@ -9,9 +9,9 @@ use Rattle.geo_conditions.specs.Supported.{NoneRefuted, HasNoPoint}
 use Rattle.geo_state.specs.Trail.{IsSmallNumber}
 use Rattle.geo_state.proofs.Numbers.{kept64}
 use Rattle.geo_state.proofs.Shapes.{lo_long}
-use Rattle.derivation.proofs.Continuing.{continues_same, continues_on}
 use Rattle.fixpoint.specs.Points.{IsSmallRegion}
 use Rattle.fixpoint.proofs.Recorded.{RecordedUpTo, crossed_empty, cover_empty, point_refuted, cut_none, cut_single, upto_start, upto_more, upto_end, small_cut}
+use Rattle.derivation.proofs.Continuing.{growth_none, growth_on}
 use Rattle.fixpoint.proofs.recording.+record_points.Goals as goal
 
 pub returns-in-Ok-clause-cover : goal.returns-in-Ok-clause-cover
@@ -31,12 +31,8 @@ loop-v-init g t c =
       from = omega (arith, ints, c.get-v.ensures);
       to = omega (arith, ints, c.get-v.ensures, c.get-last.ensures, c.if-is_empty.ensures.ends c.args.d d);
       recorded = λ kept. upto_start c.args.cs.now c.args.s.now c.args.o.0 c.args.place (region_of c.args.b.now) c.args.d _ (g.R.Recorder.list c.args.rec.now) (kept64 c.get-v.result c.get-v.type_inv ∙ c.get-v.ensures);
-      events = λ kept. continues_same _ _ refl;
-      refusals = omega arith;
+      grows = growth_none _ _ _;
     }
-
-pub returns-in-Err-record_event-clause-events : goal.returns-in-Err-record_event-clause-events
-returns-in-Err-record_event-clause-events g t c = λ kept. continues_on _ _ _ (c.loop-v.invariant.events kept) (c.record_event-in-loop-v.ensures.events kept)
 
 pub record_points-requires : goal.record_points-requires
 record_points-requires g t c κs within =
@@ -47,10 +43,6 @@ record_points-requires g t c κs within =
     let small : IsSmallRegion (region_of c.cut_to.result) = small_cut b (region_of c.cut_to.result) c.args.d _ (omega (arith, ints, c.loop-v.invariant.from, (c.requires.small c.args.d).0.0), omega (arith, ints, c.loop-v.invariant.to, c.get-last.ensures, (c.requires.small c.args.d).1.1)) c.cut_to.ensures c.requires.small in
     let none : HasNoPoint c.args.cs.now c.args.s.now c.args.o.0 c.args.place (region_of c.cut_to.result) = cut_none c.args.cs.now c.args.s.now c.args.o.0 c.args.place b (region_of c.cut_to.result) c.args.d _ k l (omega (arith, ints, c.loop-v.invariant.from)) (omega (arith, ints, c.loop-v.invariant.to, c.get-last.ensures)) c.cut_to.ensures c.requires.none in
     search rules
-
-pub returns-in-Err-record_points-clause-events : goal.returns-in-Err-record_points-clause-events
-returns-in-Err-record_points-clause-events g t c = λ kept.
-    continues_on _ _ _ (continues_on _ _ _ (c.loop-v.invariant.events kept) (c.record_event-in-loop-v.ensures.events kept)) (c.record_points.ensures.events kept)
 
 pub loop-v-preserved : goal.loop-v-preserved
 loop-v-preserved g t c =
@@ -63,8 +55,7 @@ loop-v-preserved g t c =
       to = omega (arith, ints, c.loop-v.invariant.to);
       recorded = λ kept. upto_more c.args.cs.now c.args.s.now c.args.o.0 c.args.place b (region_of c.cut_to.result) c.args.d _ _ _ _ _ _
           (omega (arith, dimension, c.requires.dimension, c.if-d.false), omega (arith, ints, near.0, near.1), omega (arith, ints, near.0, near.1)) k (omega (arith, ints, c.loop-v.invariant.to, c.get-last.ensures)) c.cut_to.ensures (omega (arith, ints)) (c.in-Ok-record_event.ensures.added kept) (c.in-Ok-record_points.ensures.cover kept) (c.loop-v.invariant.recorded kept);
-      events = λ kept. continues_on _ _ _ (continues_on _ _ _ (c.loop-v.invariant.events kept) (c.record_event-in-loop-v.ensures.events kept)) (c.record_points.ensures.events kept);
-      refusals = omega (arith, c.loop-v.invariant.refusals, c.record_event-in-loop-v.ensures.refusals, c.record_points.ensures.refusals);
+      grows = growth_on (growth_on c.loop-v.invariant.grows c.in-Ok-record_event.ensures.grows) c.in-Ok-record_points.ensures.grows;
     }
 
 pub record_points-requires-2 : goal.record_points-requires-2
@@ -78,9 +69,6 @@ record_points-requires-2 g t c κs within =
     let none : HasNoPoint c.args.cs.now c.args.s.now c.args.o.0 c.args.place (region_of c.cut_to-2.result) = cut_none c.args.cs.now c.args.s.now c.args.o.0 c.args.place b (region_of c.cut_to-2.result) c.args.d _ k l (omega (arith, ints, c.get-last.ensures, c.if-is_empty.ensures.ends c.args.d d)) (omega (arith, ints, c.get-last.ensures)) c.cut_to-2.ensures c.requires.none in
     search rules
 
-pub returns-in-Err-record_points-2-clause-events : goal.returns-in-Err-record_points-2-clause-events
-returns-in-Err-record_points-2-clause-events g t c = λ kept. continues_on _ _ _ (c.loop-v.invariant.events kept) (c.record_points-2.ensures.events kept)
-
 pub returns-in-Ok-record_points-2-clause-cover : goal.returns-in-Ok-record_points-2-clause-cover
 returns-in-Ok-record_points-2-clause-cover g t c = λ kept.
     let b = region_of c.args.b.now in
@@ -89,5 +77,20 @@ returns-in-Ok-record_points-2-clause-cover g t c = λ kept.
     upto_end c.args.cs.now c.args.s.now c.args.o.0 c.args.place b (region_of c.cut_to-2.result) c.args.d last _ _ _ (kept64 c.get-last.result c.get-last.type_inv ∙ c.get-last.ensures) c.cut_to-2.ensures (c.in-Ok-record_points-2.ensures.cover kept)
     (subst (λ (v : ℤ). RecordedUpTo c.args.cs.now c.args.s.now c.args.o.0 c.args.place b c.args.d v (g.R.Recorder.list c.args.rec.now) (g.R.Recorder.list c.loop-v.rec)) at_end (c.loop-v.invariant.recorded kept))
 
-pub returns-in-Ok-record_points-2-clause-events : goal.returns-in-Ok-record_points-2-clause-events
-returns-in-Ok-record_points-2-clause-events g t c = λ kept. continues_on _ _ _ (c.loop-v.invariant.events kept) (c.record_points-2.ensures.events kept)
+pub returns-in-Err-clause-grows : goal.returns-in-Err-clause-grows
+returns-in-Err-clause-grows g t c = c.in-Err.ensures.grows
+
+pub returns-in-Ok-clause-grows : goal.returns-in-Ok-clause-grows
+returns-in-Ok-clause-grows g t c = c.in-Ok.ensures.grows
+
+pub returns-in-Err-record_event-clause-grows : goal.returns-in-Err-record_event-clause-grows
+returns-in-Err-record_event-clause-grows g t c = growth_on c.loop-v.invariant.grows c.in-Err-record_event.ensures.grows
+
+pub returns-in-Err-record_points-clause-grows : goal.returns-in-Err-record_points-clause-grows
+returns-in-Err-record_points-clause-grows g t c = growth_on (growth_on c.loop-v.invariant.grows c.in-Ok-record_event.ensures.grows) c.in-Err-record_points.ensures.grows
+
+pub returns-in-Err-record_points-2-clause-grows : goal.returns-in-Err-record_points-2-clause-grows
+returns-in-Err-record_points-2-clause-grows g t c = growth_on c.loop-v.invariant.grows c.in-Err-record_points-2.ensures.grows
+
+pub returns-in-Ok-record_points-2-clause-grows : goal.returns-in-Ok-record_points-2-clause-grows
+returns-in-Ok-record_points-2-clause-grows g t c = growth_on c.loop-v.invariant.grows c.in-Ok-record_points-2.ensures.grows

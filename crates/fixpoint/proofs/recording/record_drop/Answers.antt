@@ -6,6 +6,7 @@ use Rattle.derivation.specs.Covers.{covers}
 use Rattle.derivation.proofs.Listings.{drop_led}
 use Rattle.fixpoint.specs.Points.{IsSmallRegion}
 use Rattle.fixpoint.proofs.Recorded.{small_region, place_none}
+use Rattle.derivation.proofs.Continuing.{growth_on}
 use Rattle.fixpoint.proofs.recording.record_drop.Goals as goal
 
 pub record_points-requires : goal.record_points-requires
@@ -23,3 +24,12 @@ returns-in-Ok-record_points-clause-led g c = λ kept.
     let t = c.in-Ok-record_points.ensures.cover kept in
     drop_led cs S (set S o (without (reach S o) s)) o s t.tree (g.R.Recorder.list c.args.rec.now) (g.R.Recorder.list c.record_event.new.rec) (g.R.Recorder.list c.record_points.new.rec) c.requires.lacks.there
     (subst (λ (b : Region). covers cs S o s b t.tree ≡ true) c.region-region.ensures.value t.covered) t.numbers (c.in-Ok.ensures.added kept) t.events refl
+
+pub returns-in-Err-clause-grows : goal.returns-in-Err-clause-grows
+returns-in-Err-clause-grows g c = c.in-Err.ensures.grows
+
+pub returns-in-Err-record_points-clause-grows : goal.returns-in-Err-record_points-clause-grows
+returns-in-Err-record_points-clause-grows g c = growth_on c.in-Ok.ensures.grows c.in-Err-record_points.ensures.grows
+
+pub returns-in-Ok-record_points-clause-grows : goal.returns-in-Ok-record_points-clause-grows
+returns-in-Ok-record_points-clause-grows g c = growth_on c.in-Ok.ensures.grows c.in-Ok-record_points.ensures.grows

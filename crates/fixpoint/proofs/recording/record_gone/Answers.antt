@@ -6,6 +6,7 @@ use Rattle.derivation.specs.PlaceCovers.{RecordedCovers}
 use Rattle.derivation.proofs.Listings.{gone_closed}
 use Rattle.fixpoint.specs.Points.{IsSmallRegion}
 use Rattle.fixpoint.proofs.Recorded.{gone_none, small_region}
+use Rattle.derivation.proofs.Continuing.{growth_on}
 use Rattle.fixpoint.proofs.recording.record_gone.Goals as goal
 
 pub record_places-requires : goal.record_places-requires
@@ -18,3 +19,12 @@ pub returns-in-Ok-record_places-clause-closed : goal.returns-in-Ok-record_places
 returns-in-Ok-record_places-clause-closed g c = λ kept.
     gone_closed c.args.cs.now c.args.s.now c.args.o.0 (g.R.Recorder.list c.args.rec.now) (g.R.Recorder.list c.record_event.new.rec) (g.R.Recorder.list c.record_places.new.rec) c.requires.lacks.object (c.in-Ok.ensures.added kept)
     (subst (λ (b : Region). RecordedCovers c.args.cs.now c.args.s.now c.args.o.0 b (g.R.Recorder.list c.record_event.new.rec) (g.R.Recorder.list c.record_places.new.rec)) c.region-region.ensures.value (c.in-Ok-record_places.ensures.covers kept))
+
+pub returns-in-Err-clause-grows : goal.returns-in-Err-clause-grows
+returns-in-Err-clause-grows g c = c.in-Err.ensures.grows
+
+pub returns-in-Err-record_places-clause-grows : goal.returns-in-Err-record_places-clause-grows
+returns-in-Err-record_places-clause-grows g c = growth_on c.in-Ok.ensures.grows c.in-Err-record_places.ensures.grows
+
+pub returns-in-Ok-record_places-clause-grows : goal.returns-in-Ok-record_places-clause-grows
+returns-in-Ok-record_places-clause-grows g c = growth_on c.in-Ok.ensures.grows c.in-Ok-record_places.ensures.grows

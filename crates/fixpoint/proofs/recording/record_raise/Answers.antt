@@ -11,6 +11,7 @@ use Rattle.geo_state.proofs.Numbers.{kept64}
 use Rattle.geo_state.specs.Trail.{IsSmallNumber}
 use Rattle.fixpoint.specs.Points.{IsSmallRegion}
 use Rattle.fixpoint.proofs.Recorded.{part_to, part_to_same, low_none, raise_led, small_region, small_hi}
+use Rattle.derivation.proofs.Continuing.{growth_on}
 use Rattle.fixpoint.proofs.recording.record_raise.Goals as goal
 
 pub record_places-requires : goal.record_places-requires
@@ -38,3 +39,12 @@ returns-in-Ok-record_places-clause-led g c = λ kept.
     (ap (λ (p : Point g.row.K). p.coordinates) c.new-taken.ensures.lo) (ap (λ (p : Point g.row.K). p.coordinates) c.new-taken.ensures.hi ∙ c.with.ensures.whole) in
     raise_led c.args.cs.now S c.args.o.0 c.args.d (region_of c.new-taken.result) v _ (g.R.Recorder.list c.args.rec.now) (g.R.Recorder.list c.record_event.new.rec) (g.R.Recorder.list c.record_places.new.rec)
     at (omega (arith, ints, at, top, c.requires.lacks.wide)) part c.requires.small c.requires.lacks (c.in-Ok.ensures.added kept) (c.in-Ok-record_places.ensures.covers kept)
+
+pub returns-in-Err-clause-grows : goal.returns-in-Err-clause-grows
+returns-in-Err-clause-grows g c = c.in-Err.ensures.grows
+
+pub returns-in-Err-record_places-clause-grows : goal.returns-in-Err-record_places-clause-grows
+returns-in-Err-record_places-clause-grows g c = growth_on c.in-Ok.ensures.grows c.in-Err-record_places.ensures.grows
+
+pub returns-in-Ok-record_places-clause-grows : goal.returns-in-Ok-record_places-clause-grows
+returns-in-Ok-record_places-clause-grows g c = growth_on c.in-Ok.ensures.grows c.in-Ok-record_places.ensures.grows

@@ -14,6 +14,7 @@ use Rattle.object_pruning.specs.Record.{end_side, with_end}
 use Rattle.object_pruning.proofs.Ends.{moves_none, moves_not, moves_set, outermost_in, outermost_small}
 use Rattle.derivation.proofs.Chains.{led_same}
 use Rattle.object_pruning.proofs.Supports.{supports_found, supports_set}
+use Rattle.derivation.proofs.Continuing.{growth_none, growth_failed}
 use Rattle.object_pruning.proofs.move_ends.move_end.Goals as goal
 use Rattle.object_pruning.proofs.move_ends.move_end.Goals.{Then-v-end_of, After-set_end}
 
@@ -117,3 +118,15 @@ returns-clause-kept g c =
     let kept : AllSupport cs S o c.keep_found.new.kept =
     supports_found cs c.state-state.result.now S o c.knows_end.new.kept c.keep_found.new.kept c.end_slot.result c.lasting_point-lasting.result c.state-state.ensures.value c.lasting_point-lasting.ensures c.knows_end.ensures.kept c.keep_found.ensures in
     supports_set cs S c.set_end.new.t.state o (moved (end_side c.args.up c.args.d v) (reach S o)) c.keep_found.new.kept c.requires.object (moved_there g c) kept
+
+pub returns-then-knows_end-clause-grows : goal.returns-then-knows_end-clause-grows
+returns-then-knows_end-clause-grows g c = growth_none _ _ _
+
+pub returns-in_err-q-clause-grows : goal.returns-in_err-q-clause-grows
+returns-in_err-q-clause-grows g c = growth_failed (c.in_err-q.ensures.grows) _ c.from_residual.ensures.0
+
+pub returns-then-v-end_of-clause-grows : goal.returns-then-v-end_of-clause-grows
+returns-then-v-end_of-clause-grows g c = c.in_ok-q.ensures.grows
+
+pub returns-clause-grows : goal.returns-clause-grows
+returns-clause-grows g c = c.in_ok-q.ensures.grows

@@ -3,13 +3,13 @@ use Rattle.geo_conditions.specs.Conditions.{AllFit}
 use Rattle.geo_conditions.specs.Reach.{State, IsState, Inside}
 use Rattle.geo_conditions.proofs.Points.{inside_trans}
 use Rattle.geo_state.proofs.Fits.{all_fit}
-use Rattle.derivation.proofs.Continuing.{continues_on}
+use Rattle.derivation.proofs.Continuing.{growth_on, growth_failed}
 use Rattle.sweep.specs.Picks.{picked}
 use Rattle.object_pruning.specs.Ends.{HasSome}
 use Rattle.object_pruning.specs.Same.{SameBut}
 use Rattle.object_pruning.proofs.Ends.{some_kept, moves_on, moves_end}
 use Rattle.object_pruning.proofs.Narrowing.{same_trans}
-use Rattle.derivation.proofs.Chains.{led_on, led_continues}
+use Rattle.derivation.proofs.Chains.{led_on}
 use Rattle.object_pruning.proofs.move_ends.move_ends.Goals as goal
 
 pub move_end-requires : goal.move_end-requires
@@ -20,12 +20,6 @@ move_end-requires g c =
     let object : c.args.o.0 < length T = omega (arith, i.inside.objects, c.requires.object) in
     let some : HasSome (picked (map g.I.Indexical.cond c.args.list.now) c.args.picks.now) T c.args.o.0 = some_kept _ c.args.o.0 c.args.t.now.state T i.points c.requires.some in
     search rules
-
-pub returns-in_err-moved-clause-events : goal.returns-in_err-moved-clause-events
-returns-in_err-moved-clause-events g c = λ kept.
-    let list = g.R.Recorder.list in
-    let all = map g.I.Indexical.cond c.args.list.now in
-    continues_on (list c.args.rec.now) (list c.loop-d.rec) (list c.move_end.new.rec) (led_continues all c.args.t.now.state c.loop-d.t.state (list c.args.rec.now) (list c.loop-d.rec) (c.loop-d.invariant.led kept)) (c.move_end.ensures.events kept)
 
 pub move_end-requires-in-loop-d : goal.move_end-requires-in-loop-d
 move_end-requires-in-loop-d g c =
@@ -48,15 +42,6 @@ returns-in_err-moved-2-clause-alone g c =
     let i = c.loop-d.invariant.moves in
     subst (λ (X : State). SameBut c.args.o.0 S X × Inside X S) (sym c.in_err-moved-2.ensures.unmoved) ((same_trans _ c.args.o.0 S T U i.points m.points).alone, inside_trans U T S m.inside i.inside)
 
-pub returns-in_err-moved-2-clause-events : goal.returns-in_err-moved-2-clause-events
-returns-in_err-moved-2-clause-events g c = λ kept.
-    let list = g.R.Recorder.list in
-    let all = map g.I.Indexical.cond c.args.list.now in
-    let old = list c.args.rec.now in
-    let mid = list c.move_end.new.rec in
-    let led = led_on all c.args.t.now.state c.loop-d.t.state c.move_end.new.t.state old (list c.loop-d.rec) mid (c.loop-d.invariant.led kept) (c.in_ok-moved.ensures.led kept) in
-    continues_on old mid (list c.move_end-in-loop-d.new.rec) (led_continues all c.args.t.now.state c.move_end.new.t.state old mid led) (c.move_end-in-loop-d.ensures.events kept)
-
 pub loop-d-preserved : goal.loop-d-preserved
 loop-d-preserved g c =
     let S = c.args.t.now.state in
@@ -78,7 +63,7 @@ loop-d-preserved g c =
       kept = c.move_end-in-loop-d.ensures.kept;
       levels = c.move_end-in-loop-d.ensures.levels.0 ∙ c.move_end.ensures.levels.0 ∙ i.levels;
       restores = c.move_end-in-loop-d.ensures.levels.1 ∙ c.move_end.ensures.levels.1 ∙ i.restores;
-      refusals = omega (arith, i.refusals, c.move_end.ensures.refusals, c.move_end-in-loop-d.ensures.refusals);
+      grows = growth_on (growth_on i.grows x.grows) y.grows;
     }
 
 pub returns-clause-moves : goal.returns-clause-moves
@@ -86,3 +71,12 @@ returns-clause-moves g c =
     let S = c.args.t.now.state in
     let shape : IsState g.row.K S = subst (IsState g.row.K) c.state.ensures.value c.objects-objects.ensures.shape in
     moves_end g.row.K _ c.args.o.0 c.loop-d.d S c.loop-d.moved c.loop-d.t.state shape c.requires.object (omega (arith, c.loop-d-test.false)) c.loop-d.invariant.moves
+
+pub returns-in_err-moved-clause-grows : goal.returns-in_err-moved-clause-grows
+returns-in_err-moved-clause-grows g c = growth_failed (growth_on c.loop-d.invariant.grows c.in_err-moved.ensures.grows) _ c.from_residual.ensures.0
+
+pub returns-in_err-moved-2-clause-grows : goal.returns-in_err-moved-2-clause-grows
+returns-in_err-moved-2-clause-grows g c = growth_failed (growth_on (growth_on c.loop-d.invariant.grows c.in_ok-moved.ensures.grows) c.in_err-moved-2.ensures.grows) _ c.from_residual-in_err-moved-2.ensures.0
+
+pub returns-clause-grows : goal.returns-clause-grows
+returns-clause-grows g c = c.loop-d.invariant.grows

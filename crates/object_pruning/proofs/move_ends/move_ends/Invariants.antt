@@ -1,4 +1,5 @@
 use Rattle.std.specs.Prelude.{true, map, ◌≡◌, ◌≤◌}
+use Rattle.derivation.specs.Events.{HasGrown}
 use Rattle.sweep.specs.Picks.{picked}
 use Rattle.object_pruning.specs.Kept.{AllSupport}
 use Rattle.derivation.specs.Chains.{IsLed}
@@ -12,5 +13,5 @@ invariant-loop-d g l = record {
   kept : AllSupport (picked (map g.I.Indexical.cond l.list) l.picks) l.t.state l.o.0 l.kept;
   levels : l.t.levels ≡ l.fn.t.levels;
   restores : l.t.restores ≡ l.fn.t.restores;
-  refusals : g.R.Recorder.refusals l.fn.rec ≤ g.R.Recorder.refusals l.rec;
+  grows : HasGrown g.R.Recorder.keeps g.R.Recorder.list g.R.Recorder.refusals l.fn.rec l.rec;
 }

@@ -7,7 +7,7 @@ use Rattle.geo_base.specs.Ways.{toward}
 use Rattle.geo_conditions.specs.Reach.{reach}
 use Rattle.geo_state.proofs.Numbers.{kept64}
 use Rattle.geo_state.proofs.Shapes.{places_long}
-use Rattle.derivation.proofs.Continuing.{continues_on}
+use Rattle.derivation.proofs.Continuing.{growth_on, growth_failed}
 use Rattle.sweep.specs.Picks.{picked}
 use Rattle.object_pruning.specs.Ends.{IsFirstAt, end}
 use Rattle.object_pruning.specs.Record.{IsNotBeyond, ListsPlace}
@@ -31,11 +31,6 @@ returns-then-get-there-clause-point g c =
 
 pub returns-then-get-there-clause-listed : goal.returns-then-get-there-clause-listed
 returns-then-get-there-clause-listed g c = λ kept ne. absurd (ne (tight g c))
-
-pub returns-then-get-there-clause-events : goal.returns-then-get-there-clause-events
-returns-then-get-there-clause-events g c = λ kept.
-    let list = g.R.Recorder.list in
-    continues_on (list c.args.rec.now) (list c.loop-before.rec) (list c.point_at.new.rec) (c.loop-before.invariant.events kept) (c.point_at.ensures.events kept)
 
 pub loop-before-preserved : goal.loop-before-preserved
 loop-before-preserved g c =
@@ -64,14 +59,12 @@ loop-before-preserved g c =
             listed = λ kept v h.
                 let k = not_beyond d up v b q w.sooner_of.result w.sooner_of.ensures (subst (IsNotBeyond d up v) w.best-is h) in
                 step kept v (subst (IsNotBeyond d up v) (sym w.in-Some.is) k.1) (list c.args.rec.now) (i.listed kept v k.0);
-            events = λ kept. continues_on (list c.args.rec.now) (list c.loop-before.rec) (list c.point_at.new.rec) (i.events kept) (c.point_at.ensures.events kept);
-            refusals = omega (arith, i.refusals, c.point_at.ensures.refusals);
+            grows = growth_on i.grows c.in_ok-q.ensures.grows;
           }
       | in_default w ↦ record {
         best = subst (IsBest cs S o d up (n + 1)) (sym w.best-is) (best_skip cs S o d up n b i.best (from_none _ _ r w.in_default.is c.in_ok-q.ensures.point));
         listed = λ kept v h. step kept v (subst (IsNotBeyond d up v) (sym w.in_default.is) tt) (list c.args.rec.now) (i.listed kept v (subst (IsNotBeyond d up v) w.best-is h));
-        events = λ kept. continues_on (list c.args.rec.now) (list c.loop-before.rec) (list c.point_at.new.rec) (i.events kept) (c.point_at.ensures.events kept);
-        refusals = omega (arith, i.refusals, c.point_at.ensures.refusals);
+        grows = growth_on i.grows c.in_ok-q.ensures.grows;
       }
     ]
 
@@ -101,3 +94,12 @@ returns-clause-listed g c = λ kept ne.
     let here : toward up v ≤ℤ toward up v = omega (arith, ints) in
     let few : length (reach S o).places < c.loop-before.before + 1 = omega (arith, c.loop-before-test.false, places_long g.row.K S o c.objects-objects.ensures.shape c.requires.object) in
     (c.loop-before.before + 1, few, c.loop-before.invariant.listed kept v (subst (IsNotBeyond d up v) (sym c.in-Some-best.is) here))
+
+pub returns-in_err-q-clause-grows : goal.returns-in_err-q-clause-grows
+returns-in_err-q-clause-grows g c = growth_failed (growth_on c.loop-before.invariant.grows c.in_err-q.ensures.grows) _ c.from_residual.ensures.0
+
+pub returns-then-get-there-clause-grows : goal.returns-then-get-there-clause-grows
+returns-then-get-there-clause-grows g c = growth_on c.loop-before.invariant.grows c.in_ok-q.ensures.grows
+
+pub returns-clause-grows : goal.returns-clause-grows
+returns-clause-grows g c = c.loop-before.invariant.grows

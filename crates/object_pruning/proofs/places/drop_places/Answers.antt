@@ -12,6 +12,7 @@ use Rattle.object_pruning.proofs.Cases.{from_true, from_false}
 use Rattle.object_pruning.proofs.Ends.{drops_there, drops_gone, drops_absent, drops_as, drops_end}
 use Rattle.derivation.proofs.Chains.{led_same, led_on}
 use Rattle.object_pruning.proofs.Supports.{supports_as, supports_set}
+use Rattle.derivation.proofs.Continuing.{growth_as, growth_on, growth_failed}
 use Rattle.object_pruning.proofs.places.drop_places.Goals as goal
 use Rattle.object_pruning.proofs.places.drop_places.Goals.{then-has_shape+in_ok-has_point+then-branch, then-has_shape+in_ok-has_point+else-branch, else-has_shape}
 
@@ -62,7 +63,7 @@ loop-before-preserved g c =
             kept = supports_as cs R U o w.has_point.new.kept c.if-has_shape.kept (q ∙ sym e) w.kept-is w.has_point.ensures.kept;
             levels = ap (λ (x : Trail). x.levels) w.t-is ∙ i.levels;
             restores = ap (λ (x : Trail). x.restores) w.t-is ∙ i.restores;
-            refusals = omega (arith, i.refusals, w.has_point.ensures.refusals, ap g.R.Recorder.refusals w.rec-is);
+            grows = growth_as (growth_on i.grows w.in_ok-has_point.ensures.grows) (ap list w.rec-is) (ap g.R.Recorder.refusals w.rec-is);
           }
       | then-has_shape+in_ok-has_point+else-branch w ↦
           let V = w.drop_shape.new.self.state in
@@ -84,7 +85,7 @@ loop-before-preserved g c =
             kept = supports_as cs V U o w.has_point.new.kept c.if-has_shape.kept q w.kept-is (supports_set cs T V o (without (reach T o) n) w.has_point.new.kept object w.drop_shape.ensures.state kept);
             levels = ap (λ (x : Trail). x.levels) w.t-is ∙ w.drop_shape.ensures.levels ∙ i.levels;
             restores = ap (λ (x : Trail). x.restores) w.t-is ∙ w.drop_shape.ensures.restores ∙ i.restores;
-            refusals = omega (arith, i.refusals, w.has_point.ensures.refusals, ap g.R.Recorder.refusals w.rec-is);
+            grows = growth_as (growth_on i.grows w.in_ok-has_point.ensures.grows) (ap list w.rec-is) (ap g.R.Recorder.refusals w.rec-is);
           }
       | else-has_shape w ↦
           let q : U ≡ T = ap (λ (x : Trail). x.state) w.t-is in
@@ -96,7 +97,7 @@ loop-before-preserved g c =
             kept = supports_as cs T U o c.loop-before.kept c.if-has_shape.kept q w.kept-is i.kept;
             levels = ap (λ (x : Trail). x.levels) w.t-is ∙ i.levels;
             restores = ap (λ (x : Trail). x.restores) w.t-is ∙ i.restores;
-            refusals = omega (arith, i.refusals, ap g.R.Recorder.refusals w.rec-is);
+            grows = growth_as i.grows (ap list w.rec-is) (ap g.R.Recorder.refusals w.rec-is);
           }
     ]
 
@@ -106,3 +107,9 @@ returns-clause-drops g c =
     let S = c.args.t.now.state in
     drops_end g.row.K cs c.args.o.0 (c.loop-before.before + 1) S c.loop-before.some c.loop-before.dropped c.loop-before.t.state (subst (IsState g.row.K) c.state.ensures.value c.objects-objects.ensures.shape)
     c.requires.object (omega (arith, c.loop-before-test.false)) c.loop-before.invariant.drops
+
+pub returns-in_err-has_point-clause-grows : goal.returns-in_err-has_point-clause-grows
+returns-in_err-has_point-clause-grows g c = growth_failed (growth_on c.loop-before.invariant.grows c.in_err-has_point.ensures.grows) _ c.from_residual.ensures.0
+
+pub returns-clause-grows : goal.returns-clause-grows
+returns-clause-grows g c = c.loop-before.invariant.grows

@@ -7,6 +7,7 @@ use Rattle.object_pruning.specs.Ends.{HasSome, DropsPlaces}
 use Rattle.object_pruning.proofs.Ends.{prunes_empty, prunes_changed, prunes_same, none_left}
 use Rattle.object_pruning.proofs.Narrowing.{alone_on}
 use Rattle.derivation.proofs.Chains.{led_on, led_closed}
+use Rattle.derivation.proofs.Continuing.{growth_on, growth_failed}
 use Rattle.object_pruning.proofs.prune.prune_kept.Goals as goal
 
 pub returns-then-not-places-clause-pruned : goal.returns-then-not-places-clause-pruned
@@ -30,21 +31,6 @@ returns-then-not-places-clause-record g c = λ kept.
     let object : o < length T = omega (arith, k.inside.objects, c.requires.object) in
     let none = none_left cs o S T a.some a.dropped k (not-true a.some c.if-not-places.true) in
     led_closed all S T (list c.args.rec.now) (list c.drop_places.new.rec) (list c.record_gone.new.rec) (c.in_ok-places.ensures.led kept) (c.in_ok-record_gone.ensures.closed kept all T object none)
-
-pub returns-then-not-places-clause-events : goal.returns-then-not-places-clause-events
-returns-then-not-places-clause-events g c = λ kept.
-    let all = map g.I.Indexical.cond c.args.list.now in
-    let cs = picked all c.args.picks.now in
-    let list = g.R.Recorder.list in
-    let S = c.args.t.now.state in
-    let T = c.drop_places.new.t.state in
-    let o = c.args.o.0 in
-    let a = c.in_ok-places.places in
-    let k = c.in_ok-places.ensures.drops in
-    let object : o < length T = omega (arith, k.inside.objects, c.requires.object) in
-    let none = none_left cs o S T a.some a.dropped k (not-true a.some c.if-not-places.true) in
-    let w = led_closed all S T (list c.args.rec.now) (list c.drop_places.new.rec) (list c.record_gone.new.rec) (c.in_ok-places.ensures.led kept) (c.in_ok-record_gone.ensures.closed kept all T object none) in
-    (w.0, w.1)
 
 pub move_ends-requires : goal.move_ends-requires
 move_ends-requires g c =
@@ -87,3 +73,21 @@ pub returns-else-moved-clause-record : goal.returns-else-moved-clause-record
 returns-else-moved-clause-record g c = λ kept.
     let list = g.R.Recorder.list in
     led_on (map g.I.Indexical.cond c.args.list.now) c.args.t.now.state c.drop_places.new.t.state c.move_ends.new.t.state (list c.args.rec.now) (list c.drop_places.new.rec) (list c.move_ends.new.rec) (c.in_ok-places.ensures.led kept) (c.in_ok-moved.ensures.led kept)
+
+pub returns-in_err-places-clause-grows : goal.returns-in_err-places-clause-grows
+returns-in_err-places-clause-grows g c = growth_failed (c.in_err-places.ensures.grows) _ c.from_residual.ensures.0
+
+pub returns-in_err-record_gone-clause-grows : goal.returns-in_err-record_gone-clause-grows
+returns-in_err-record_gone-clause-grows g c = growth_failed (growth_on c.in_ok-places.ensures.grows c.in_err-record_gone.ensures.grows) _ c.from_residual-in_err-record_gone.ensures.0
+
+pub returns-then-not-places-clause-grows : goal.returns-then-not-places-clause-grows
+returns-then-not-places-clause-grows g c = growth_on c.in_ok-places.ensures.grows c.in_ok-record_gone.ensures.grows
+
+pub returns-in_err-moved-clause-grows : goal.returns-in_err-moved-clause-grows
+returns-in_err-moved-clause-grows g c = growth_failed (growth_on c.in_ok-places.ensures.grows c.in_err-moved.ensures.grows) _ c.from_residual-in_err-moved.ensures.0
+
+pub returns-then-moved-clause-grows : goal.returns-then-moved-clause-grows
+returns-then-moved-clause-grows g c = growth_on c.in_ok-places.ensures.grows c.in_ok-moved.ensures.grows
+
+pub returns-else-moved-clause-grows : goal.returns-else-moved-clause-grows
+returns-else-moved-clause-grows g c = growth_on c.in_ok-places.ensures.grows c.in_ok-moved.ensures.grows

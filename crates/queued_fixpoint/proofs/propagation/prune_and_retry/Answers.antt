@@ -31,3 +31,9 @@ returns-in_default-clause-stand g c =
     let mid = c.prune_linked-pruned.new.kept in
     let near : RetriesNear cs T c.args.o mid c.retry_near.new.kept = subst (λ (Y : State). RetriesNear cs Y c.args.o mid c.retry_near.new.kept) c.state.ensures.value c.retry_near.ensures in
     stand_changed cs S T c.args.o c.args.kept.now mid c.retry_near.new.kept c.prune_linked-pruned.ensures.alone.0 c.requires.stand c.prune_linked-pruned.ensures.stand near
+
+pub returns-in-Ok-Same-clause-grows : goal.returns-in-Ok-Same-clause-grows
+returns-in-Ok-Same-clause-grows g c = c.prune_linked-pruned.ensures.grows
+
+pub returns-in_default-clause-grows : goal.returns-in_default-clause-grows
+returns-in_default-clause-grows g c = c.prune_linked-pruned.ensures.grows

@@ -74,3 +74,6 @@ returns-clause-stand g c =
 
 pub returns-clause-record : goal.returns-clause-record
 returns-clause-record g c = c.prune_kept.ensures.record
+
+pub returns-clause-grows : goal.returns-clause-grows
+returns-clause-grows g c = c.prune_kept.ensures.grows

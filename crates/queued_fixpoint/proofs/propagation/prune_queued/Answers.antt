@@ -10,7 +10,8 @@ use Rattle.queued_fixpoint.specs.Queue.{Prunes, RestFine, Touches}
 use Rattle.queued_fixpoint.specs.Record.{RecordsPruning}
 use Rattle.object_pruning.proofs.Cases.{from_none}
 use Rattle.queued_fixpoint.proofs.Turns.{going_start, going_same, going_changed, gone_kept, gone_dead, rest_dead, smaller_same, smaller_changed}
-use Rattle.queued_fixpoint.proofs.Record.{records_start, records_on, records_dead, continues_on}
+use Rattle.queued_fixpoint.proofs.Record.{records_start, records_on, records_dead}
+use Rattle.derivation.proofs.Continuing.{growth_none, growth_on}
 use Rattle.queued_fixpoint.proofs.propagation.prune_queued.Goals as goal
 
 pub loop-o-init : goal.loop-o-init
@@ -23,7 +24,7 @@ loop-o-init g c =
       levels = (refl, refl);
       stand = c.requires.stand;
       recorded = λ kept. records_start cs S (g.R.Recorder.list c.args.rec.now);
-      refusals = omega arith;
+      grows = growth_none _ _ _;
     }
 
 pub prune_and_retry-requires : goal.prune_and_retry-requires
@@ -65,7 +66,7 @@ loop-o-preserved-in-Ok-Same g c =
       levels = (c.prune_and_retry.ensures.levels.0 ∙ i.levels.0, c.prune_and_retry.ensures.levels.1 ∙ i.levels.1);
       stand = c.prune_and_retry.ensures.stand;
       recorded = λ kept. records_on cs S R T (g.R.Recorder.list c.args.rec.now) mid new (i.recorded kept) (subst (λ (a : Pruned). RecordsPruning cs R a T mid new) c.in-Ok-Same.field-0-is (c.in-Ok-Same.ensures.record kept));
-      refusals = omega (arith, i.refusals, c.prune_and_retry.ensures.refusals);
+      grows = growth_on i.grows c.in-Ok-Same.ensures.grows;
     }
 
 pub returns-clause-settles : goal.returns-clause-settles
@@ -92,16 +93,6 @@ returns-in-Ok-Empty-clause-record g c = λ kept.
     let mid = g.R.Recorder.list c.loop-o.rec in
     let new = g.R.Recorder.list c.prune_and_retry.new.rec in
     records_dead cs c.args.t.now.state R T (g.R.Recorder.list c.args.rec.now) mid new (c.loop-o.invariant.recorded kept) (subst (λ (a : Pruned). RecordsPruning cs R a T mid new) c.in-Ok-Empty.field-0-is (c.in-Ok-Empty.ensures.record kept))
-
-pub returns-in-Ok-Empty-clause-events : goal.returns-in-Ok-Empty-clause-events
-returns-in-Ok-Empty-clause-events g c = λ kept.
-    let cs = map (λ (x : AnyIndexical g.row.K). x.cond) c.args.list.now in
-    continues_on cs c.args.t.now.state c.loop-o.t.state (g.R.Recorder.list c.args.rec.now) (g.R.Recorder.list c.loop-o.rec) (g.R.Recorder.list c.prune_and_retry.new.rec) (c.loop-o.invariant.recorded kept) (c.prune_and_retry.ensures.events kept)
-
-pub returns-in-Err-clause-events : goal.returns-in-Err-clause-events
-returns-in-Err-clause-events g c = λ kept.
-    let cs = map (λ (x : AnyIndexical g.row.K). x.cond) c.args.list.now in
-    continues_on cs c.args.t.now.state c.loop-o.t.state (g.R.Recorder.list c.args.rec.now) (g.R.Recorder.list c.loop-o.rec) (g.R.Recorder.list c.prune_and_retry.new.rec) (c.loop-o.invariant.recorded kept) (c.prune_and_retry.ensures.events kept)
 
 pub returns-in-Err-clause-settles : goal.returns-in-Err-clause-settles
 returns-in-Err-clause-settles g c = inside_trans c.prune_and_retry.new.t.state c.loop-o.t.state c.args.t.now.state c.prune_and_retry.ensures.alone.1 c.loop-o.invariant.going.keeps.inside
@@ -158,5 +149,14 @@ loop-o-preserved g c =
       levels = (c.prune_and_retry.ensures.levels.0 ∙ i.levels.0, c.prune_and_retry.ensures.levels.1 ∙ i.levels.1);
       stand = c.prune_and_retry.ensures.stand;
       recorded = λ kept. records_on cs S R T (g.R.Recorder.list c.args.rec.now) mid new (i.recorded kept) (subst (λ (a : Pruned). RecordsPruning cs R a T mid new) c.in-Ok-Changed.field-0-is (c.in-Ok-Changed.ensures.record kept));
-      refusals = omega (arith, i.refusals, c.prune_and_retry.ensures.refusals);
+      grows = growth_on i.grows c.in-Ok-Changed.ensures.grows;
     }
+
+pub returns-in-Ok-Empty-clause-grows : goal.returns-in-Ok-Empty-clause-grows
+returns-in-Ok-Empty-clause-grows g c = growth_on c.loop-o.invariant.grows c.in-Ok-Empty.ensures.grows
+
+pub returns-in-Err-clause-grows : goal.returns-in-Err-clause-grows
+returns-in-Err-clause-grows g c = growth_on c.loop-o.invariant.grows c.in-Err.ensures.grows
+
+pub returns-clause-grows : goal.returns-clause-grows
+returns-clause-grows g c = c.loop-o.invariant.grows

@@ -1,4 +1,5 @@
 use Rattle.std.proofs.Common.{◌≡◌, ◌≤◌, true, map, length}
+use Rattle.derivation.specs.Events.{HasGrown}
 use Rattle.geo_state.specs.declared.propagate.Settled.TheVariants.{Kept}
 use Rattle.geo_state.specs.Settle.{Records}
 use Rattle.queued_fixpoint.specs.Kept.{AllStand}
@@ -12,7 +13,7 @@ invariant-loop-o g l = record {
   levels : (l.t.levels ≡ l.fn.t.levels) × (l.t.restores ≡ l.fn.t.restores);
   stand : AllStand (map (λ x. x.cond) l.list) l.t.state l.kept;
   recorded : g.R.Recorder.keeps ≡ true → Records (map (λ x. x.cond) l.list) l.fn.t.state Kept l.t.state (g.R.Recorder.list l.fn.rec) (g.R.Recorder.list l.rec);
-  refusals : g.R.Recorder.refusals l.fn.rec ≤ g.R.Recorder.refusals l.rec;
+  grows : HasGrown g.R.Recorder.keeps g.R.Recorder.list g.R.Recorder.refusals l.fn.rec l.rec;
 }
 
 abbrev pub decreases-loop-o : goal.decreases-loop-o

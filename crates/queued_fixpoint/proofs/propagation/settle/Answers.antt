@@ -16,6 +16,7 @@ use Rattle.queued_fixpoint.specs.Near.{BarePossible}
 use Rattle.queued_fixpoint.specs.Queue.{RestFine, CatchesUp}
 use Rattle.queued_fixpoint.proofs.Effect.{hopeless, bare_possible}
 use Rattle.queued_fixpoint.proofs.Turns.{caught_up}
+use Rattle.derivation.proofs.Continuing.{growth_added, growth_refused}
 use Rattle.queued_fixpoint.proofs.propagation.settle.Goals as goal
 
 pub returns-in-Ok-clause-settles : goal.returns-in-Ok-clause-settles
@@ -62,3 +63,12 @@ queue_changed-requires g c =
     let fits : AllFit cs X = subst (AllFit cs) value c.requires.fits in
     let objects : (length c.args.last.now ≡ length X) × (length c.args.queued.now ≡ length X) × (length c.args.kept.now ≡ length X) = (o.1 ∙ same, o.0 ∙ same, o.2 ∙ same) in
     search rules
+
+pub returns-in-Ok-clause-grows : goal.returns-in-Ok-clause-grows
+returns-in-Ok-clause-grows g c = growth_added _ c.in-Ok.ensures.ok c.add.ensures.refusals
+
+pub returns-in-Err-clause-grows : goal.returns-in-Err-clause-grows
+returns-in-Err-clause-grows g c = growth_refused c.in-Err.ensures.err c.add.ensures.refusals c.in-Err.ensures.refused c.in-Err.ensures.no_record
+
+pub returns-clause-grows : goal.returns-clause-grows
+returns-clause-grows g c = c.prune_queued-settled.ensures.grows
