@@ -15,7 +15,6 @@ pub enum Subject {
 
 /// An expression without macro calls.
 #[cycle(plain)]
-#[derive(Drop)]
 pub enum PlainExpr {
     Num(u32),
     /// A field of an object or a box.
@@ -27,6 +26,23 @@ pub enum PlainExpr {
     Prod(Box<PlainExpr>, Vec<PlainProd>),
     Min(Box<PlainExpr>, Box<PlainExpr>),
     Max(Box<PlainExpr>, Box<PlainExpr>),
+}
+
+/// Written out, since a derived one is made and proved anew in each crate that drops an expression.
+impl Drop for PlainExpr {
+    #[cycle(plain_drop)]
+    fn drop(self) {
+        match self {
+            PlainExpr::Num(_n) => {}
+            PlainExpr::Field(_of, _name) => {}
+            PlainExpr::ShapeNum(_shape) => {}
+            PlainExpr::Neg(_of) => {}
+            PlainExpr::Sum(_first, _steps) => {}
+            PlainExpr::Prod(_first, _steps) => {}
+            PlainExpr::Min(_left, _right) => {}
+            PlainExpr::Max(_left, _right) => {}
+        }
+    }
 }
 
 /// What is done with a term of a sum behind the first one.
@@ -56,7 +72,6 @@ pub enum PlainColl {
 }
 
 /// A formula without macro calls. Each quantifier of a rule has a number of its own for its variable.
-#[derive(Drop)]
 pub enum PlainFormula {
     True,
     False,
@@ -67,6 +82,24 @@ pub enum PlainFormula {
     Iff(Box<PlainFormula>, Box<PlainFormula>),
     Compare(PlainExpr, Rel, PlainExpr),
     Quant(QuantKind, u32, PlainColl, Box<PlainFormula>),
+}
+
+/// Written out, as that of an expression.
+impl Drop for PlainFormula {
+    #[cycle(plain_formula_drop)]
+    fn drop(self) {
+        match self {
+            PlainFormula::True => {}
+            PlainFormula::False => {}
+            PlainFormula::Not(_of) => {}
+            PlainFormula::And(_parts) => {}
+            PlainFormula::Or(_parts) => {}
+            PlainFormula::Implies(_left, _right) => {}
+            PlainFormula::Iff(_left, _right) => {}
+            PlainFormula::Compare(_left, _rel, _right) => {}
+            PlainFormula::Quant(_kind, _variable, _coll, _of) => {}
+        }
+    }
 }
 
 /// What a rule without macros asks for.
