@@ -18,7 +18,7 @@ ghost use Rattle.rule_values.specs.View.{env_view};
 use crate::counter::Counter;
 use crate::fault::GroundFault;
 use crate::fixings::Fixings;
-use crate::forms::{add_to, checked, negated, sum_of};
+use crate::forms::{added, checked, negated, sum_of};
 use crate::leaves::{fold_leaves, leaves_of};
 use crate::wide::WideSum;
 use geo_conditions::Cond;
@@ -37,9 +37,7 @@ fn subtracted(alloc: Global, left: WideSum, right: &WideSum) -> Result<WideSum, 
         Gives result f (fits_sum f) }
 {
     let other = negated(alloc, right)?;
-    let mut total = left;
-    add_to(&mut total, &other)?;
-    checked(total)
+    checked(added(left, other)?)
 }
 
 /// The difference of the two sides of a comparison.

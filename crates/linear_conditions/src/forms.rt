@@ -54,14 +54,15 @@ fn multiplied(alloc: Global, f: &WideSum, g: &WideSum) -> Result<WideSum, AllocE
     }
 }
 
-/// Adds a form to a partial sum.
-pub(crate) fn add_to(total: &mut WideSum, part: &WideSum) -> Result<(), GroundFault>
-    requires { CanAdd (wide_view total.old) (wide_view part.now) }
-    ensures { MatchResult result (λ _. wide_view total.new
-        ≡ add_sums (wide_view total.old) (wide_view part.now)) (λ e. e ≡ Memory) }
+/// A partial sum with a form added.
+pub(crate) fn added(total: WideSum, part: WideSum) -> Result<WideSum, GroundFault>
+    requires { CanAdd (wide_view total) (wide_view part) }
+    ensures { MatchResult result (λ s. wide_view s
+        ≡ add_sums (wide_view total) (wide_view part)) (λ e. e ≡ Memory) }
 {
-    total.add(part)?;
-    Ok(())
+    let mut sum = total;
+    sum.add(&part)?;
+    Ok(sum)
 }
 
 /// The lesser of two numbers.
@@ -170,7 +171,8 @@ fn sum(
     let mut total = first;
     for step in steps {
         let part = sum_step(alloc, problem, step, &*env, &*fixings)?;
-        add_to(&mut total, &part)?;
+        let next = added(total, part)?;
+        total = next;
     }
     checked(total)
 }

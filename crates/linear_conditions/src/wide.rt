@@ -17,7 +17,7 @@ use std::alloc::{AllocError, Global};
 const BOUND: i128 = 1_000_000_000_000_000;
 
 /// A coordinate of an object with a wide factor.
-#[derive(Clone, Copy, Debug, Default)]
+#[derive(Clone, Copy, Default)]
 pub struct WideTerm {
     pub object: ObjId,
     pub dimension: usize,

@@ -33,9 +33,9 @@ impl Drop for PlainExpr {
     #[cycle(plain_drop)]
     fn drop(self) {
         match self {
-            PlainExpr::Num(_) => {}
-            PlainExpr::Field(_, _name) => {}
-            PlainExpr::ShapeNum(_) => {}
+            PlainExpr::Num(_n) => {}
+            PlainExpr::Field(_of, _name) => {}
+            PlainExpr::ShapeNum(_shape) => {}
             PlainExpr::Neg(_of) => {}
             PlainExpr::Sum(_first, _steps) => {}
             PlainExpr::Prod(_first, _steps) => {}
@@ -72,7 +72,6 @@ pub enum PlainColl {
 }
 
 /// A formula without macro calls. Each quantifier of a rule has a number of its own for its variable.
-#[derive(Drop)]
 pub enum PlainFormula {
     True,
     False,
@@ -83,6 +82,24 @@ pub enum PlainFormula {
     Iff(Box<PlainFormula>, Box<PlainFormula>),
     Compare(PlainExpr, Rel, PlainExpr),
     Quant(QuantKind, u32, PlainColl, Box<PlainFormula>),
+}
+
+/// Written out, as that of an expression.
+impl Drop for PlainFormula {
+    #[cycle(plain_formula_drop)]
+    fn drop(self) {
+        match self {
+            PlainFormula::True => {}
+            PlainFormula::False => {}
+            PlainFormula::Not(_of) => {}
+            PlainFormula::And(_parts) => {}
+            PlainFormula::Or(_parts) => {}
+            PlainFormula::Implies(_left, _right) => {}
+            PlainFormula::Iff(_left, _right) => {}
+            PlainFormula::Compare(_left, _rel, _right) => {}
+            PlainFormula::Quant(_kind, _variable, _coll, _of) => {}
+        }
+    }
 }
 
 /// What a rule without macros asks for.

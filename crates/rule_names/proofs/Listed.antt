@@ -13,7 +13,7 @@ use Rattle.rule_names.specs.declared.mistake.Mistake.{Mistake}
 use Rattle.rule_names.specs.declared.mistake.Flaw.TheVariants.{UnknownName, RepeatedName}
 use Rattle.rule_names.specs.Mistakes.{earlier, first_of, mistake_if}
 use Rattle.rule_names.specs.Names.{listed_mistakes}
-use Rattle.rule_names.proofs.Firsts.{earlier_none, earlier_assoc, first_append, two_lists}
+use Rattle.rule_names.proofs.Firsts.{earlier_none, earlier_assoc, first_append}
 
 abbrev pub text_of : PlacedName → List ℕ
 text_of a = a.name
@@ -30,10 +30,10 @@ twice : (b : Bool) → not (not b) ≡ b
 twice true = refl
 twice false = refl
 
-pub listed-step : (p : ProblemData) (names : List PlacedName) (i : ℕ) (a : PlacedName) (seen seen' : List (List ℕ)) (bytes : List ℕ) (known is_new : Bool) (found unknown repeated here o : Option Mistake) → i < length names → a ≡ get_or names i a → ListedSoFar p names i seen found →
-    bytes ≡ a.name → seen' ≡ meet seen bytes → is_new ≡ not (list_any (bytes_eq bytes) seen) → known ≡ is_some (object_position p a.name) →
-    unknown ≡ first_of (mistake_if (not known) a.place UnknownName) → repeated ≡ first_of (mistake_if (not is_new) a.place RepeatedName) → here ≡ earlier unknown repeated → o ≡ earlier found here → ListedSoFar p names (i + 1) seen' o
-listed-step p names i a seen seen' bytes known is_new found unknown repeated here o lt e k b s t n u r h j =
+pub listed-step : (p : ProblemData) (names : List PlacedName) (i : ℕ) (a : PlacedName) (seen seen' : List (List ℕ)) (bytes : List ℕ) (is_new : Bool) (found here o : Option Mistake) → i < length names → a ≡ get_or names i a → ListedSoFar p names i seen found →
+    bytes ≡ a.name → seen' ≡ meet seen bytes → is_new ≡ not (list_any (bytes_eq bytes) seen) →
+    here ≡ first_of (mistake_if (not (is_some (object_position p a.name))) a.place UnknownName ++ mistake_if (not is_new) a.place RepeatedName) → o ≡ earlier found here → ListedSoFar p names (i + 1) seen' o
+listed-step p names i a seen seen' bytes is_new found here o lt e k b s t h j =
     let before : List (List ℕ) = map text_of (take i names) in
     let front : map text_of (take (i + 1) names) ≡ before ++ a.name ∷ [] =
     ap (map text_of) (take_more names i a lt ∙ ap (λ (x : PlacedName). take i names ++ x ∷ []) (sym e)) ∙ map-append text_of (take i names) (a ∷ []) in
@@ -45,8 +45,7 @@ listed-step p names i a seen seen' bytes known is_new found unknown repeated her
     let all : listed_mistakes p before (drop i names) ≡ none ++ again ++ rest =
     ap (listed_mistakes p before) (drop_more names i a lt ∙ ap (λ (x : PlacedName). x ∷ drop (i + 1) names) (sym e))
     ∙ ap (λ (xs : List (List ℕ)). none ++ again ++ listed_mistakes p xs (drop (i + 1) names)) (sym front) in
-    let both : here ≡ first_of (none ++ again) =
-    two_lists none again unknown repeated here h (u ∙ ap (λ (x : Bool). first_of (mistake_if (not x) a.place UnknownName)) n) (r ∙ ap (λ (x : Bool). first_of (mistake_if x a.place RepeatedName)) old) in
+    let both : here ≡ first_of (none ++ again) = h ∙ ap (λ (x : Bool). first_of (none ++ mistake_if x a.place RepeatedName)) old in
     let z : first_of (listed_mistakes p before (drop i names)) ≡ earlier here (first_of rest) =
     ap first_of all ∙ first_append (none ++ again) rest ∙ ap (λ (x : Option Mistake). earlier x (first_of rest)) (sym both) in
     record {

@@ -1,7 +1,6 @@
 -- What a table has after a name came.
-use Rattle.std.proofs.Common.{◌≡◌, ◌≢◌, ℕ, ◌+◌, ◌<◌, ◌≤◌, Bool, true, false, cond, List, [], ◌∷◌, ◌++◌, not, length, take, map, get_or, length-append, sym, ap, ◌∙◌, refl, arith, Bor, ltb, eqb}
+use Rattle.std.proofs.Common.{◌≡◌, ◌≢◌, ℕ, ◌+◌, ◌<◌, ◌≤◌, Bool, true, false, cond, List, [], ◌∷◌, ◌++◌, not, length, take, map, get_or, length-append, sym, ap, ◌∙◌, refl, arith, ltb, eqb}
 use Rattle.std.specs.Prelude.{Option, None, Some, is_some}
-use Rattle.std.specs.Option.{option_copied}
 use Rattle.std.specs.List.{position, position_or_len}
 use Rattle.std.specs.Map.{update}
 use Rattle.std.specs.Str.{bytes_eq}
@@ -15,9 +14,9 @@ use Rattle.rule_names.specs.Table.{later}
 pub bytes-flip : (xs ys : List ℕ) → bytes_eq xs ys ≡ bytes_eq ys xs
 bytes-flip xs ys = same_from_decides (bytes_eq xs ys) (bytes_eq ys xs) (bytes_eq-Decides xs ys) (Decides-like (bytes_eq ys xs) (λ e. sym e) (λ e. sym e) (bytes_eq-Decides ys xs))
 
-pub none-copied : (r : Option (Bor ℕ)) (o : Option ℕ) → option_copied r ≡ o → is_some r ≡ false → o ≡ None
-none-copied None o e h = sym e
-none-copied (Some x) o e h = cc
+pub none-there : (r o : Option ℕ) → r ≡ o → is_some r ≡ false → o ≡ None
+none-there None o e h = sym e
+none-there (Some x) o e h = cc
 
 pub added : (f : List ℕ → Option ℕ) (bs cs : List ℕ) (w : ℕ) (o : Option ℕ) (b : Bool) → f bs ≡ None → f cs ≡ o → bytes_eq bs cs ≡ b → update bytes_eq f bs (Some w) cs ≡ later (f cs) cs bs w
 added f bs cs w o true n h e =
@@ -26,26 +25,25 @@ added f bs cs w o true n h e =
 added f bs cs w (Some i) false n h e = ap (λ x. cond x (Some w) (f cs)) e ∙ h ∙ sym (ap (λ y. later y cs bs w) h)
 added f bs cs w None false n h e = ap (λ x. cond x (Some w) (f cs)) e ∙ h ∙ sym (ap (λ y. later y cs bs w) h ∙ ap (λ x. cond x (Some w) None) (bytes-flip cs bs ∙ e))
 
-choose : (b : Bool) (x y : Option ℕ) → b ≡ true → cond b x y ≡ x
-choose true x y h = refl
-choose false x y h = cc
+under : (l n : ℕ) (x y : Option ℕ) → l < n → cond (ltb l n) x y ≡ x
+under l n x y h = ap (λ b. cond b x y) (let e : ltb l n ≡ true = grind (arith, nat_tests) in e)
 
-reject : (b : Bool) (x y : Option ℕ) → b ≡ false → cond b x y ≡ y
-reject true x y h = cc
-reject false x y h = refl
+past : (l n : ℕ) (x y : Option ℕ) → n ≤ l → cond (ltb l n) x y ≡ y
+past l n x y h = ap (λ b. cond b x y) (let e : ltb l n ≡ false = grind (arith, nat_tests) in e)
+
+same-number : (l n : ℕ) → eqb l n ≡ true → l ≡ n
+same-number l n e = grind (arith, nat_tests)
+
+below-number : (l n : ℕ) → l ≤ n → eqb l n ≡ false → l < n
+below-number l n h e = let apart : l ≢ n = grind (arith, nat_tests) in omega arith
 
 placed : (l n : ℕ) (b c : Bool) → l ≤ n → eqb l n ≡ c →
     cond (ltb (cond c (n + cond b 0 1) l) (n + 1)) (Some (cond c (n + cond b 0 1) l)) None ≡ cond (ltb l n) (Some l) (cond b (Some n) None)
 placed l n true true h e =
-    let same : l ≡ n = grind (arith, nat_tests) in
-    choose (ltb (n + 0) (n + 1)) (Some (n + 0)) None (grind (arith, nat_tests)) ∙ ap (λ k. Some k) (let z : n + 0 ≡ n = omega arith in z) ∙ sym (reject (ltb l n) (Some l) (Some n) (grind (arith, nat_tests)))
-placed l n false true h e = reject (ltb (n + 1) (n + 1)) (Some (n + 1)) None (grind (arith, nat_tests)) ∙ sym (reject (ltb l n) (Some l) None (let same : l ≡ n = grind (arith, nat_tests) in grind (arith, nat_tests)))
-placed l n true false h e =
-    let apart : l ≢ n = grind (arith, nat_tests) in
-    choose (ltb l (n + 1)) (Some l) None (grind (arith, nat_tests)) ∙ sym (choose (ltb l n) (Some l) (Some n) (grind (arith, nat_tests)))
-placed l n false false h e =
-    let apart : l ≢ n = grind (arith, nat_tests) in
-    choose (ltb l (n + 1)) (Some l) None (grind (arith, nat_tests)) ∙ sym (choose (ltb l n) (Some l) None (grind (arith, nat_tests)))
+    under (n + 0) (n + 1) (Some (n + 0)) None (omega arith) ∙ ap (λ k. Some k) (let z : n + 0 ≡ n = omega arith in z)
+    ∙ sym (past l n (Some l) (Some n) (omega (arith, same-number l n e)))
+placed l n false true h e = past (n + 1) (n + 1) (Some (n + 1)) None (omega arith) ∙ sym (past l n (Some l) None (omega (arith, same-number l n e)))
+placed l n b false h e = under l (n + 1) (Some l) None (omega arith) ∙ sym (under l n (Some l) (cond b (Some n) None) (below-number l n h e))
 
 pub position-push : (test : List ℕ → Bool) (xs : List (List ℕ)) (y : List ℕ) → position test (xs ++ y ∷ []) ≡ cond (ltb (position_or_len test xs) (length xs)) (Some (position_or_len test xs)) (cond (test y) (Some (length xs)) None)
 position-push test xs y =

@@ -104,14 +104,26 @@ fn rules_mistake(
     Ok(found)
 }
 
+/// The first mistake of the macros and rules.
+fn mistake_by(
+    alloc: Global,
+    problem: &Problem,
+    tables: &Tables,
+) -> Result<Option<Mistake>, AllocError>
+    requires { AreTables problem.now tables.now }
+    ensures { IfOk result (λ o. o ≡ first_of (mistakes problem.now)) }
+{
+    let macros = macros_mistake(alloc, problem, tables)?;
+    let rules = rules_mistake(alloc, problem, tables)?;
+    Ok(earlier(macros, rules))
+}
+
 /// The first mistake of a problem.
 fn first_mistake(alloc: Global, problem: &Problem) -> Result<Option<Mistake>, AllocError>
     ensures { IfOk result (λ o. o ≡ first_of (mistakes problem.now)) }
 {
     let tables = tables_of(alloc, problem)?;
-    let macros = macros_mistake(alloc, problem, &tables)?;
-    let rules = rules_mistake(alloc, problem, &tables)?;
-    Ok(earlier(macros, rules))
+    mistake_by(alloc, problem, &tables)
 }
 
 /// Whether each name in the macros and rules of a problem is known and of the kind that stands there.

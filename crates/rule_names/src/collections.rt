@@ -1,8 +1,9 @@
 //! What a quantifier ranges over.
 
-ghost use Rattle.std.specs.Prelude.{◌≡◌, [], IfOk};
+ghost use Rattle.std.specs.Prelude.{◌≡◌, ◌++◌, [], IfOk, is_some, not};
 ghost use Rattle.rule_syntax.specs.View.{coll_view};
-ghost use Rattle.rule_names.specs.Mistakes.{first_of};
+ghost use Rattle.problem_data.specs.Value.{object_position};
+ghost use Rattle.rule_names.specs.Mistakes.{first_of, mistake_if};
 ghost use Rattle.rule_names.specs.ScopeView.{scope_view};
 ghost use Rattle.rule_names.specs.Names.{listed_mistakes, boxes_mistakes, coll_mistakes, element_kind};
 ghost use Rattle.rule_names.specs.Table.{AreTables};
@@ -10,11 +11,27 @@ ghost use Rattle.rule_names.specs.Table.{AreTables};
 use crate::mistake::{Flaw, Mistake, earlier, mistake_if};
 use crate::scope::{Scope, kind_of, same_kind};
 use crate::table::{Tables, position_of};
-use problem_data::seen::SeenNames;
 use problem_data::problem::Problem;
+use problem_data::seen::SeenNames;
 use problem_data::tree::ParamKind;
 use rule_syntax::tree::{Coll, PlacedName};
 use std::alloc::{AllocError, Global};
+
+/// The first mistake of a name in `objects ( )`, which is new there or not.
+fn listed_name_mistake(
+    problem: &Problem,
+    tables: &Tables,
+    name: &PlacedName,
+    is_new: bool,
+) -> Option<Mistake>
+    requires { AreTables problem.now tables.now }
+    ensures { result ≡ first_of (mistake_if (not (is_some (object_position problem.now name.now.name))) name.now.place Flaw.UnknownName ++ mistake_if (not is_new) name.now.place Flaw.RepeatedName) }
+{
+    let known = position_of(&tables.objects, name.name.as_bytes()).is_some();
+    let unknown = mistake_if(!known, name.place, Flaw::UnknownName);
+    let repeated = mistake_if(!is_new, name.place, Flaw::RepeatedName);
+    earlier(unknown, repeated)
+}
 
 /// The first mistake of the names in `objects ( )`.
 fn listed_mistake(
@@ -29,12 +46,8 @@ fn listed_mistake(
     let mut seen = SeenNames::new(alloc);
     let mut found = None;
     'names: for name in names {
-        let bytes = name.name.as_bytes();
-        let known = position_of(&tables.objects, bytes).is_some();
-        let is_new = seen.meet(bytes)?;
-        let unknown = mistake_if(!known, name.place, Flaw::UnknownName);
-        let repeated = mistake_if(!is_new, name.place, Flaw::RepeatedName);
-        let here = earlier(unknown, repeated);
+        let is_new = seen.meet(name.name.as_bytes())?;
+        let here = listed_name_mistake(problem, tables, name, is_new);
         found = earlier(found, here);
     }
     Ok(found)

@@ -2,7 +2,7 @@
 
 ghost use Rattle.std.specs.Prelude.{◌≡◌, ◌||◌, is_some};
 ghost use Rattle.rule_names.specs.Mistakes.{first_of};
-ghost use Rattle.rule_names.specs.Sight.{names_dimension, is_attribute, is_object_field, is_box_field};
+ghost use Rattle.rule_names.specs.Sight.{names_dimension, is_attribute, is_object_field, is_box_field, same_kind};
 ghost use Rattle.rule_names.specs.ScopeView.{scope_view};
 ghost use Rattle.rule_names.specs.Names.{field_mistakes, bare_mistakes, shape_mistakes};
 ghost use Rattle.rule_names.specs.Table.{AreTables};
@@ -80,6 +80,13 @@ pub fn field_mistake(
     }
 }
 
+/// Whether a bare name may stand for this kind.
+fn may_stand(any_kind: bool, kind: ParamKind) -> bool
+    ensures { result ≡ (any_kind || same_kind kind ParamKind.Int) }
+{
+    any_kind || same_kind(kind, ParamKind::Int)
+}
+
 /// The mistake of a bare name; where any kind may stand, it only has to be known.
 pub fn bare_mistake(
     problem: &Problem,
@@ -94,7 +101,7 @@ pub fn bare_mistake(
     match kind_of(problem, tables, scope, &name.name) {
         None => mistake_if(true, name.place, Flaw::UnknownName),
         Some(kind) => {
-            let fits = any_kind || same_kind(kind, ParamKind::Int);
+            let fits = may_stand(any_kind, kind);
             mistake_if(!fits, name.place, Flaw::WrongKind)
         }
     }

@@ -7,7 +7,7 @@ ghost use Rattle.rule_names.specs.Mistakes.{phase, rank, word_of, is_after, earl
 use geo_tokens::fault::FaultWord;
 
 /// What is wrong with a name. The first two are mistakes of names, the others of kinds.
-#[derive(Clone, Copy, Debug, PartialEq, Eq)]
+#[derive(Clone, Copy)]
 pub enum Flaw {
     /// It is the name of nothing.
     UnknownName,
@@ -22,7 +22,7 @@ pub enum Flaw {
 }
 
 /// A mistake at a place. The place is how many bytes of the text stand before it.
-#[derive(Clone, Copy, Debug, PartialEq, Eq)]
+#[derive(Clone, Copy)]
 pub struct Mistake {
     pub place: u64,
     pub flaw: Flaw,

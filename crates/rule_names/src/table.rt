@@ -28,7 +28,7 @@ pub struct Tables<'a> {
 fn add<'a>(table: &mut NameTable<'a>, name: &'a [u8], position: usize) -> Result<(), AllocError>
     ensures { IfOk result (λ _. (n : List ℕ) → found table.new n ≡ later (found table.old n) n name.now position) }
 {
-    if table.positions.get(name).is_some() {
+    if position_of(table, name).is_some() {
         return Ok(());
     }
     match table.positions.insert(name, position) {

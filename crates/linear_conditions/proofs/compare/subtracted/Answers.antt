@@ -2,5 +2,5 @@ use Rattle.linear_conditions.specs.Views.{wide_view}
 use Rattle.linear_conditions.proofs.CompareSteps.{can-subtract}
 use Rattle.linear_conditions.proofs.compare.subtracted.Goals as goal
 
-pub add_to-requires : goal.add_to-requires
-add_to-requires c = can-subtract (wide_view c.args.left) (wide_view c.args.right.now) (wide_view c.in_ok-other.other) c.requires.left c.requires.right c.requires.ordered c.in_ok-other.ensures.0
+pub added-requires : goal.added-requires
+added-requires c = can-subtract (wide_view c.args.left) (wide_view c.args.right.now) (wide_view c.in_ok-other.other) c.requires.left c.requires.right c.requires.ordered c.in_ok-other.ensures.0

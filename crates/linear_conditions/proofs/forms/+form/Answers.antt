@@ -10,8 +10,8 @@ sum_of-scaled-requires t c = can-negate (wide_view c.in_ok-f-in-Neg.f) c.in_ok-f
 pub sum-loop-step-init : goal.sum-loop-step-init
 sum-loop-step-init t c = sums-init c.args.problem.now (env_view c.args.env.now) (fixings_view c.args.fixings.now) (wide_view c.args.first) c.args.steps.now c.requires.fits
 
-pub sum-add_to-requires : goal.sum-add_to-requires
-sum-add_to-requires t c =
+pub sum-added-requires : goal.sum-added-requires
+sum-added-requires t c =
     let few : c.loop-step.step-index < 2 ^ 64 = omega arith in
     sums-room c.args.problem.now (env_view c.args.env.now) (fixings_view c.args.fixings.now) (wide_view c.args.first) c.args.steps.now c.loop-step.step-index (wide_view c.loop-step.total) (wide_view c.in_ok-part.part) c.step-item.result
     c.loop-step.invariant c.loop-step-test.true few c.step-item.is c.in_ok-part.ensures.0 c.in_ok-part.ensures.1
@@ -20,4 +20,4 @@ pub sum-loop-step-preserved : goal.sum-loop-step-preserved
 sum-loop-step-preserved t c =
     let few : c.loop-step.step-index < 2 ^ 64 = omega arith in
     sums-step c.args.problem.now (env_view c.args.env.now) (fixings_view c.args.fixings.now) (wide_view c.args.first) c.args.steps.now c.loop-step.step-index (wide_view c.loop-step.total) (wide_view c.in_ok-part.part) c.step-item.result
-    c.loop-step.invariant c.loop-step-test.true few c.step-item.is c.in_ok-part.ensures.0 c.in_ok-part.ensures.1 (wide_view c.add_to.new.total) c.in_ok-add_to.ensures
+    c.loop-step.invariant c.loop-step-test.true few c.step-item.is c.in_ok-part.ensures.0 c.in_ok-part.ensures.1 (wide_view c.in_ok-next.next) c.in_ok-next.ensures
