@@ -4,3 +4,5 @@ pub mod Covers
 pub mod Points
 pub mod PlaceCovers
 pub mod Chains
+pub mod Nodes
+pub mod Valid

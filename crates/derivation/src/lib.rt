@@ -2,11 +2,13 @@
 #![tactic(auto)]
 
 mod event;
+mod half;
 mod log;
 mod recorder;
 mod side;
 
 pub use event::Event;
+pub use half::Half;
 pub use log::Log;
 pub use recorder::{NoRecord, Recorder};
 pub use side::Side;

@@ -134,6 +134,10 @@ with_low r d v = record { places = r.places; region = record { lo = slice_set r.
 abbrev pub with_high : Reach → ℕ → ℤ → Reach
 with_high r d v = record { places = r.places; region = record { lo = r.region.lo; hi = slice_set r.region.hi d v } }
 
+-- with these places
+abbrev pub with_places : Reach → List Bool → Reach
+with_places r places = record { places = places; region = r.region }
+
 -- with the place s put in or taken out
 abbrev pub with_place : Reach → ℕ → Bool → Reach
 with_place r s there = record { places = slice_set r.places (s - 1) there; region = r.region }

@@ -25,4 +25,5 @@ pub use layout::Layout;
 pub use object::{MAX_OBJECTS, MAX_SHAPES, ObjId};
 pub use order::SearchOrder;
 pub use refute::{least_value_at, refuted, refuted_at};
+pub use shapes::ShapeSet;
 pub use state::State;

@@ -1,5 +1,5 @@
 ghost use Rattle.std.specs.Prelude.{◌≡◌, ℕ, ◌+◌, ◌-◌, ◌<◌, ◌≤◌, length, List, [], ◌∷◌, ◌++◌, slice_set, IfOk, OnOk, OnErr, false};
-ghost use Rattle.geo_conditions.specs.Reach.{low, high, has, reach, place_in, is_only, dims, with_interval, with_low, with_high, with_place, without, first_places, IsState};
+ghost use Rattle.geo_conditions.specs.Reach.{low, high, has, reach, place_in, is_only, dims, with_interval, with_low, with_high, with_place, with_places, without, first_places, IsState};
 ghost use Rattle.geo_conditions.specs.Regions.{region_of};
 
 use super::object::{MAX_OBJECTS, MAX_SHAPES, ObjId};
@@ -61,6 +61,12 @@ impl<const K: usize> Held<K> {
     {
         let region = self.region;
         self.region = KBox::new(region.lo, region.hi.with(d, v));
+    }
+
+    fn set_places(&mut self, places: ShapeSet)
+        ensures { self.new ≡ with_places self.old places }
+    {
+        self.places = places;
     }
 
     fn set_shape(&mut self, place: u8, there: bool)
@@ -185,6 +191,26 @@ impl<const K: usize> State<K> {
     {
         let held = &self.objects[o.0 as usize];
         held.region
+    }
+
+    /// The places that are left to an object.
+    pub fn places(&self, o: ObjId) -> ShapeSet
+        requires k { K ≤ MAX_DIMS }
+        requires object { o.0 < length self.now }
+        ensures { result ≡ (reach self.now o.0).places }
+    {
+        let held = &self.objects[o.0 as usize];
+        held.places
+    }
+
+    /// Gives an object other places, and changes nothing else.
+    pub fn set_places(&mut self, o: ObjId, places: ShapeSet)
+        requires k { K ≤ MAX_DIMS }
+        requires object { o.0 < length self.old }
+        ensures { self.new ≡ slice_set self.old o.0 (with_places (reach self.old o.0) places) }
+    {
+        let held = &mut self.objects[o.0 as usize];
+        held.set_places(places);
     }
 
     /// Changes the interval of one coordinate, and nothing else.
