@@ -28,7 +28,7 @@ past : (n : ℕ) (b : Bool) (k : ℕ) (bs : List Bool) → k < n → next_at k n
 past n true k bs l = ap (λ (x : Bool). turn x k n bs) (lt-leb n k l)
 past n false k bs l = refl
 
-skip_at : (k j : ℕ) (bs : List Bool) → get_or bs j false ≡ false → next_at k (k + j) bs ≡ next_at k (k + j + 1) bs
+pub skip_at : (k j : ℕ) (bs : List Bool) → get_or bs j false ≡ false → next_at k (k + j) bs ≡ next_at k (k + j + 1) bs
 skip_at k j [] h = refl
 skip_at k zero (b ∷ bs) h =
     ap (λ (x : Bool). turn (x && nat_le (k + 0) k) k (k + 0) bs) h ∙ low_same (suc k) (k + 0) (k + 0 + 1) bs (omega arith) (omega arith) ∙ sym (ap (λ (x : Bool). turn (x && nat_le (k + 0 + 1) k) k (k + 0 + 1) bs) h)
@@ -36,14 +36,14 @@ skip_at k (suc j) (b ∷ bs) h =
     let e : k + suc j ≡ suc k + j = omega arith in
     past (k + suc j) b k bs (omega arith) ∙ ap (λ (n : ℕ). next_at (suc k) n bs) e ∙ skip_at (suc k) j bs h ∙ ap (λ (n : ℕ). next_at (suc k) n bs) (let f : suc k + j + 1 ≡ k + suc j + 1 = omega arith in f) ∙ sym (past (k + suc j + 1) b k bs (omega arith))
 
-here_at : (k j : ℕ) (bs : List Bool) → get_or bs j false ≡ true → next_at k (k + j) bs ≡ Some (k + j)
+pub here_at : (k j : ℕ) (bs : List Bool) → get_or bs j false ≡ true → next_at k (k + j) bs ≡ Some (k + j)
 here_at k j [] h = absurd (false≢true h)
 here_at k zero (b ∷ bs) h =
     ap (λ (x : Bool). turn (x && nat_le (k + 0) k) k (k + 0) bs) h ∙ ap (λ (x : Bool). turn x k (k + 0) bs) (le-leb (k + 0) k (omega arith)) ∙ ap (λ (n : ℕ). Some n) (let e : k ≡ k + 0 = omega arith in e)
 here_at k (suc j) (b ∷ bs) h =
     past (k + suc j) b k bs (omega arith) ∙ ap (λ (n : ℕ). next_at (suc k) n bs) (let e : k + suc j ≡ suc k + j = omega arith in e) ∙ here_at (suc k) j bs h ∙ ap (λ (n : ℕ). Some n) (let e : suc k + j ≡ k + suc j = omega arith in e)
 
-none_at : (k n : ℕ) (bs : List Bool) → k + length bs ≤ n → next_at k n bs ≡ None
+pub none_at : (k n : ℕ) (bs : List Bool) → k + length bs ≤ n → next_at k n bs ≡ None
 none_at k n [] h = refl
 none_at k n (b ∷ bs) h = past n b k bs (omega arith) ∙ none_at (suc k) n bs (omega arith)
 
