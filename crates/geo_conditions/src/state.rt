@@ -197,7 +197,8 @@ impl<const K: usize> State<K> {
     pub fn places(&self, o: ObjId) -> ShapeSet
         requires k { K ≤ MAX_DIMS }
         requires object { o.0 < length self.now }
-        ensures { result ≡ (reach self.now o.0).places }
+        ensures value { result ≡ (reach self.now o.0).places }
+        ensures whole { length result ≡ MAX_SHAPES }
     {
         let held = &self.objects[o.0 as usize];
         held.places
