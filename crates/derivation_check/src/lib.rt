@@ -1,0 +1,14 @@
+//! The check of a derivation, event by event.
+//!
+//! A derivation shows that a state has no tuple on which every condition is true. Who believes a `Yes` has to believe the definitions
+//! of conditions and states, of nodes and when they are valid, and this crate; nothing of a search stands below it.
+#![tactic(auto)]
+
+mod checker;
+mod cuts;
+mod open_box;
+mod progress;
+mod saved;
+
+pub use checker::check;
+pub use progress::Checked;
