@@ -5,3 +5,6 @@ pub mod Runs
 pub mod Verdict
 pub mod SameShape
 pub mod Steady
+pub mod Parts
+pub mod Sound
+pub mod Certain

@@ -1,5 +1,5 @@
 -- The next place that is there, one place after another; and a place alone.
-use Rattle.std.proofs.Common.{◌≡◌, ℕ, zero, suc, ◌+◌, ◌-◌, ◌<◌, ◌≤◌, Bool, true, false, List, [], ◌∷◌, length, set, get_or, replicate, map, refl, sym, ap, ◌∙◌, subst, arith, Option, Some, None}
+use Rattle.std.proofs.Common.{◌≡◌, ℕ, zero, suc, ◌+◌, ◌-◌, ◌<◌, ◌≤◌, Bool, true, false, List, [], ◌∷◌, length, set, get_or, replicate, map, refl, ap, ◌∙◌, subst, arith, Some, None}
 use Rattle.geo_conditions.specs.Reach.{place_in}
 use Rattle.derivation.specs.PlaceCovers.{next_place}
 use Rattle.derivation.specs.Valid.{alone}

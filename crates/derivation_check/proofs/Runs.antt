@@ -1,5 +1,5 @@
 -- What the machine does with the events of a whole derivation.
-use Rattle.std.proofs.Common.{◌≡◌, ℕ, zero, suc, ◌+◌, ◌<◌, ◌≤◌, Bool, true, false, ◌||◌, ◌&&◌, List, [], ◌∷◌, ◌++◌, length, refl, sym, ap, ◌∙◌, subst, arith, Option, Some, None, length-append, append_assoc}
+use Rattle.std.proofs.Common.{◌≡◌, ℕ, suc, ◌+◌, Bool, true, false, ◌||◌, ◌&&◌, List, [], ◌∷◌, ◌++◌, length, refl, sym, ap, ◌∙◌, arith, Option, Some, None, length-append, append_assoc}
 use Rattle.geo_conditions.specs.declared.cond.Cond.{Cond}
 use Rattle.geo_conditions.specs.declared.object.ObjId.{ObjId}
 use Rattle.geo_conditions.specs.Reach.{State, Region, reach, with_at}
@@ -14,7 +14,7 @@ use Rattle.derivation.specs.Covers.{CoverTree, Leaf, Fork, events_of, cut_event,
 use Rattle.derivation.specs.PlaceCovers.{PlaceCover, open_events, covers_events, next_place, is_that, is_nothing, all_cover}
 use Rattle.derivation.specs.Chains.{bound_event}
 use Rattle.derivation.specs.Nodes.{Node, Split, DropNode, Bound, GoneNode, DeadNode, node_events, split_event, size}
-use Rattle.derivation.specs.Valid.{first_part, second_part, change, row, rows}
+use Rattle.derivation.specs.Valid.{first_part, second_part, change, rows}
 use Rattle.derivation.proofs.Empty.{fork_is}
 use Rattle.derivation_check.specs.declared.saved.Saved.{Saved}
 use Rattle.derivation_check.specs.declared.progress.Task.{Task}
@@ -23,7 +23,7 @@ use Rattle.derivation_check.specs.declared.progress.Owner.{Owner}
 use Rattle.derivation_check.specs.declared.progress.Owner.TheVariants as owners
 use Rattle.derivation_check.specs.declared.progress.Work.{Work}
 use Rattle.derivation_check.specs.declared.progress.Work.TheVariants.{AtNode, OfDrop, OfList}
-use Rattle.derivation_check.specs.Machine.{Machine, undo, saved, note, finish, settle, step, run, leaf, close_by, go_first, go_second}
+use Rattle.derivation_check.specs.Machine.{Machine, undo, saved, note, finish, settle, step, run, leaf, close_by}
 use Rattle.derivation_check.proofs.Undo.{undo_first, undo_second}
 
 abbrev pub machine : State → List Task → Work → List Region → ℕ → Option ℕ → Machine
@@ -144,7 +144,7 @@ run_node cs (Split o half a b) S ts k f =
     ∙ ap (run cs (node_events b)) (run_node cs a S1 (Again (an o) half old ∷ ts) (k + 1) f ∙ ap (λ (U : State). ready (change (second_part half) U o) (Last old ∷ ts) k1 g) (undo_first half S (an o)))
     ∙ run_node cs b S2 (Last old ∷ ts) k1 g
     ∙ last_done S S2 old ts (Last old ∷ ts) (k1 + size b) (k + suc (size a + size b)) (notes g k1 (rows cs S2 b)) (notes f k (rows cs S (Split o half a b))) (undo_second half S (an o)) (omega arith)
-      (ap (λ (m : ℕ). notes g m (rows cs S2 b)) (omega (arith, rows_size cs S1 a)) ∙ sym (notes_append f (k + 1) (rows cs S1 a) (rows cs S2 b)) ∙ ap (λ (x : Option ℕ). notes x (k + 1) (rows cs S1 a ++ rows cs S2 b)) (sym (note_true f (k + 1))))
+    (ap (λ (m : ℕ). notes g m (rows cs S2 b)) (omega (arith, rows_size cs S1 a)) ∙ sym (notes_append f (k + 1) (rows cs S1 a) (rows cs S2 b)) ∙ ap (λ (x : Option ℕ). notes x (k + 1) (rows cs S1 a ++ rows cs S2 b)) (sym (note_true f (k + 1))))
 run_node cs (DropNode o s t n) S ts k f =
     let S2 = change (second_part (OfPlace s)) S o in
     let old = saved (OfPlace s) S (an o) in

@@ -1,10 +1,10 @@
 -- States of one shape: the objects, and the dimensions of each. A condition that fits in one fits in the other.
-use Rattle.std.proofs.Common.{◌≡◌, ℕ, zero, suc, ◌+◌, ◌<◌, ◌≤◌, List, [], ◌∷◌, length, get_or, set, refl, sym, ap, ◌∙◌, subst, inl, inr, arith, ℤ}
+use Rattle.std.proofs.Common.{◌≡◌, ℕ, List, length, get_or, set, refl, sym, ap, ◌∙◌, subst, inl, inr, arith}
 use Rattle.std.proofs.lemmas.Bool.{cases_lt, cases_eq}
 use Rattle.std.proofs.lemmas.List.{get_or-set_same, get_or-set_other, set_past}
 use Rattle.std.proofs.Math.ListN.{length-set}
 use Rattle.geo_conditions.specs.declared.cond.Cond.{Cond, Lin, Shape, NotShape, AtLeast', Row_of-Cond, end_of-Cond, more_of-Cond}
-use Rattle.geo_conditions.specs.Reach.{State, Reach, Region, reach, nowhere, dims}
+use Rattle.geo_conditions.specs.Reach.{State, Reach, reach, nowhere, dims}
 use Rattle.geo_conditions.specs.Conditions.{FitsIn, AllFitIn, AllFit}
 use Rattle.derivation.specs.declared.side.Side.TheVariants.{Upto, From}
 use Rattle.derivation.specs.declared.half.Half.{Half}
@@ -56,4 +56,3 @@ mutual
 
 pub all_fit : (cs : List Cond) (S T : State) → SameShape S T → AllFit cs S → AllFit cs T
 all_fit cs S T i h = λ k d b. fits_same (get_or cs k d) S T i (h k d b)
-

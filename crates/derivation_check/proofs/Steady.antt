@@ -1,31 +1,25 @@
 -- What no event changes: the objects, and the dimensions of each.
-use Rattle.std.proofs.Common.{◌≡◌, ℕ, zero, suc, ◌+◌, ◌<◌, ◌≤◌, List, [], ◌∷◌, ◌++◌, length, get_or, set, take, refl, sym, ap, ◌∙◌, subst, inl, inr, arith, ℤ}
-use Rattle.std.specs.List.{All}
+use Rattle.std.proofs.Common.{◌≡◌, ℕ, ◌+◌, ◌<◌, ◌≤◌, List, [], ◌∷◌, ◌++◌, length, get_or, take, refl, sym, ap, ◌∙◌, subst, arith}
 use Rattle.std.specs.Prelude.{Result, Ok, Err, OnOk, OnErr}
-use Rattle.std.proofs.lemmas.Bool.{cases_lt, cases_eq}
-use Rattle.std.proofs.lemmas.List.{get_or-set_same, get_or-set_other, set_past, take_more}
+use Rattle.std.proofs.lemmas.List.{take_more}
 use Rattle.derivation_check.proofs.Runs.{run_append}
 use Rattle.std.proofs.Math.ListN.{length-set}
-use Rattle.geo_conditions.specs.declared.object.ObjId.{ObjId}
-use Rattle.geo_conditions.specs.declared.cond.Cond.{Cond, Lin, Shape, NotShape, AtLeast', Row_of-Cond, end_of-Cond, more_of-Cond}
-use Rattle.geo_conditions.specs.Reach.{State, Reach, Region, reach, nowhere, dims}
-use Rattle.geo_conditions.specs.Conditions.{FitsIn, AllFitIn}
+use Rattle.geo_conditions.specs.declared.cond.Cond.{Cond}
+use Rattle.geo_conditions.specs.Reach.{State, Region, reach}
 use Rattle.derivation.specs.declared.event.Event.{Event}
 use Rattle.derivation.specs.declared.event.Event.TheVariants.{SplitShape, SplitUpto, SplitFrom, Drop, Raise, Lower, Gone, Dead, Cover, EndCovers, By, Cut, CutFrom}
 use Rattle.derivation.specs.declared.side.Side.TheVariants.{Upto, From}
-use Rattle.derivation.specs.declared.half.Half.{Half}
 use Rattle.derivation.specs.declared.half.Half.TheVariants.{OfPlace, OfSide}
-use Rattle.derivation.specs.Valid.{first_part, second_part, change}
+use Rattle.derivation.specs.Valid.{second_part, change}
 use Rattle.derivation_check.proofs.SameShape.{SameShape, same_self, same_trans, same_set, same_first, same_second}
 use Rattle.derivation_check.specs.declared.saved.Saved.{Saved}
 use Rattle.derivation_check.specs.declared.saved.Saved.TheVariants.{Places, Ends}
 use Rattle.derivation_check.specs.declared.progress.Task.{Task}
 use Rattle.derivation_check.specs.declared.progress.Task.TheVariants.{Again, Last}
-use Rattle.derivation_check.specs.declared.progress.Owner.{Owner}
 use Rattle.derivation_check.specs.declared.progress.Owner.TheVariants as owners
 use Rattle.derivation_check.specs.declared.progress.Work.{Work}
 use Rattle.derivation_check.specs.declared.progress.Work.TheVariants.{AtNode, OfDrop, OfList}
-use Rattle.derivation_check.specs.Machine.{Machine, undo, back, named, closed, by_leaf, step, run, start}
+use Rattle.derivation_check.specs.Machine.{Machine, undo, back, named, closed, by_leaf, step, run, start, HasTaken}
 
 same_undo : (old : Saved) (S : State) → SameShape S (undo old S)
 same_undo (Places o ps) S = same_set S o.0 _ refl
@@ -95,3 +89,8 @@ taken_more cs S es i d m n h t e =
 pub shape_of : {A E : Type 0} (cs : List Cond) (m n : Machine) (e : Event) (r : Result A E) → OnOk r (n ≡ step cs m e) → OnErr r (n ≡ m) → SameShape m.state n.state
 shape_of cs m n e (Ok x) f g = subst (λ (z : Machine). SameShape m.state z.state) (sym f) (step_on cs m e).shape
 shape_of cs m n e (Err x) f g = subst (λ (z : Machine). SameShape m.state z.state) (sym g) (same_self m.state)
+
+-- an event more, where it was taken
+pub taken_on : {A E : Type 0} (cs : List Cond) (m n : Machine) (e : Event) (r : Result A E) → OnOk r (n ≡ step cs m e) → OnOk r ((first : State) (es : List Event) → HasTaken cs first es m → HasTaken cs first (es ++ e ∷ []) n)
+taken_on cs m n e (Ok x) f = λ first es h. f ∙ ap (λ (z : Machine). step cs z e) h ∙ sym (run_append cs es (e ∷ []) (start first))
+taken_on cs m n e (Err x) f = tt

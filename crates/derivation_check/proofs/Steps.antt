@@ -1,5 +1,5 @@
 -- The last elements of lists.
-use Rattle.std.proofs.Common.{◌≡◌, ℕ, zero, suc, ◌+◌, ◌-◌, ◌<◌, ◌≤◌, Bool, true, false, ◌||◌, ◌&&◌, List, [], ◌∷◌, length, get_or, set, drop, refl, sym, ap, ◌∙◌, subst, inl, inr, arith, reverse, take, ◌++◌}
+use Rattle.std.proofs.Common.{◌≡◌, ℕ, ◌+◌, ◌<◌, List, [], ◌∷◌, length, get_or, set, refl, sym, ap, ◌∙◌, subst, arith, reverse, take, ◌++◌}
 use Rattle.std.proofs.lemmas.List.{reverse-append, take_more, take_all, length-take-le}
 use Rattle.geo_conditions.specs.Reach.{Region}
 use Rattle.derivation.specs.declared.side.Side.{Side}
@@ -24,4 +24,4 @@ forked_is side xs k d b h e =
     let q : take k xs ++ b ∷ [] ≡ xs = ap (λ (z : Region). take k xs ++ z ∷ []) e ∙ sym (take_more xs k d (omega arith)) ∙ take_all (k + 1) xs (omega arith) in
     let l : length (take k xs) ≡ k = length-take-le k xs (omega arith) in
     subst (λ (n : ℕ). reverse (set (xs ++ near side b ∷ []) n (far side b)) ≡ forked side (reverse xs)) l
-      (subst (λ (ys : List Region). reverse (set (ys ++ near side b ∷ []) (length (take k xs)) (far side b)) ≡ forked side (reverse ys)) q (forked_snoc side (take k xs) b))
+    (subst (λ (ys : List Region). reverse (set (ys ++ near side b ∷ []) (length (take k xs)) (far side b)) ≡ forked side (reverse ys)) q (forked_snoc side (take k xs) b))

@@ -1,16 +1,15 @@
 -- What an open node replaced, put back.
-use Rattle.std.proofs.Common.{◌≡◌, ℕ, ◌<◌, ◌≤◌, Bool, true, false, List, length, get_or, set, refl, sym, ap, ◌∙◌, subst, inl, inr, arith, ℤ, pos}
+use Rattle.std.proofs.Common.{◌≡◌, ℕ, ◌≤◌, Bool, List, length, set, refl, sym, ap, ◌∙◌, subst, inl, inr, ℤ, pos}
 use Rattle.std.proofs.lemmas.Bool.{cases_lt}
-use Rattle.std.proofs.lemmas.List.{get_or-set_same, get_or_past, set_past, set-set, set-get_or}
+use Rattle.std.proofs.lemmas.List.{get_or-set_same, set_past, set-set, set-get_or}
 use Rattle.std.proofs.Math.ListN.{length-set}
 use Rattle.geo_conditions.specs.declared.object.ObjId.{ObjId}
 use Rattle.geo_base.specs.Boxes.{coordinate}
-use Rattle.geo_conditions.specs.Reach.{State, Reach, Region, reach, nowhere, low, high}
+use Rattle.geo_conditions.specs.Reach.{State, Reach, reach, nowhere, low, high}
 use Rattle.derivation.specs.declared.side.Side.TheVariants.{Upto, From}
 use Rattle.derivation.specs.declared.half.Half.{Half}
 use Rattle.derivation.specs.declared.half.Half.TheVariants.{OfPlace, OfSide}
 use Rattle.derivation.specs.Valid.{first_part, second_part, change}
-use Rattle.derivation_check.specs.declared.saved.Saved.{Saved}
 use Rattle.derivation_check.specs.Machine.{undo, saved}
 
 -- an object that is changed and changed back

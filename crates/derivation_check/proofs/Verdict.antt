@@ -1,5 +1,5 @@
 -- The number that the machine holds behind a whole derivation is that of the first node that fails.
-use Rattle.std.proofs.Common.{◌≡◌, ℕ, zero, suc, ◌+◌, ◌<◌, ◌≤◌, Bool, true, false, List, [], ◌∷◌, length, get_or, refl, sym, ap, ◌∙◌, subst, arith, Option, Some, None, inl, inr}
+use Rattle.std.proofs.Common.{◌≡◌, ℕ, zero, suc, ◌+◌, ◌<◌, Bool, true, false, List, [], ◌∷◌, refl, sym, ap, ◌∙◌, subst, arith, Option, Some, None}
 use Rattle.std.specs.Prelude.{slice_get}
 use Rattle.std.specs.List.{All}
 use Rattle.std.proofs.lemmas.List.Elements.{All-nil, All-cons}
@@ -8,11 +8,9 @@ use Rattle.geo_conditions.specs.declared.cond.Cond.{Cond}
 use Rattle.geo_conditions.specs.Reach.{State}
 use Rattle.derivation.specs.Nodes.{Node, node_events}
 use Rattle.derivation.specs.Valid.{rows, Fails}
-use Rattle.derivation_check.specs.declared.progress.Checked.{Checked}
-use Rattle.derivation_check.specs.declared.progress.Checked.TheVariants.{Yes, No}
-use Rattle.derivation_check.specs.Machine.{Machine, run, start, note, HasTaken}
+use Rattle.derivation_check.specs.Machine.{Machine, HasTaken}
 use Rattle.derivation_check.specs.Judges.{Judges, answer}
-use Rattle.derivation_check.proofs.Runs.{notes, ready, run_node}
+use Rattle.derivation_check.proofs.Runs.{notes, run_node}
 
 abbrev Says : Option ℕ → ℕ → List Bool → Type 0
 Says None k bs = All (λ b. b ≡ true) bs

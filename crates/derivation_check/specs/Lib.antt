@@ -1,3 +1,5 @@
 pub mod Fits
 pub mod Machine
 pub mod Judges
+pub mod Sound
+pub mod Checking

@@ -1,5 +1,5 @@
 -- The check as a machine: what it holds, and what one event does.
-use Rattle.std.specs.Prelude.{◌≡◌, ◌+◌, ◌&&◌, ◌||◌, not, ℕ, zero, suc, Bool, true, false, List, [], ◌∷◌, ◌++◌, slice_set, Option, Some, None, ℤ}
+use Rattle.std.specs.Prelude.{◌≡◌, ◌+◌, ◌||◌, ℕ, Bool, true, false, List, [], ◌∷◌, slice_set, Option, Some, None}
 use Rattle.geo_conditions.specs.declared.cond.Cond.{Cond}
 use Rattle.geo_conditions.specs.declared.object.ObjId.{ObjId}
 use Rattle.geo_conditions.specs.Reach.{State, Region, reach, low, high, with_at}

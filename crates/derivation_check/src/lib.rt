@@ -10,5 +10,5 @@ mod open_box;
 mod progress;
 mod saved;
 
-pub use checker::check;
+pub use checker::{Checker, check};
 pub use progress::Checked;

@@ -213,8 +213,7 @@ impl<const K: usize> Progress<K> {
         ensures ok { OnOk result (self.new ≡ go_first self.old o half) }
         ensures err { OnErr result (self.new ≡ self.old) }
     {
-        self.tasks
-            .push(Task::Last(saved_of(&self.state, o, half)))?;
+        self.tasks.push(Task::Last(saved_of(&self.state, o, half)))?;
         keep_first(&mut self.state, o, half);
         self.work = Work::AtNode;
         Ok(())
@@ -227,8 +226,7 @@ impl<const K: usize> Progress<K> {
         ensures ok { OnOk result (self.new ≡ go_second self.old o half) }
         ensures err { OnErr result (self.new ≡ self.old) }
     {
-        self.tasks
-            .push(Task::Last(saved_of(&self.state, o, half)))?;
+        self.tasks.push(Task::Last(saved_of(&self.state, o, half)))?;
         keep_second(&mut self.state, o, half);
         self.work = Work::AtNode;
         Ok(())

@@ -1,5 +1,4 @@
 use Rattle.std.proofs.Common.{List, Bool, set, ap, ◌∙◌, ◌-◌, false, replicate}
-use Rattle.geo_conditions.specs.Reach.{place_in}
 use Rattle.derivation_check.proofs.NextPlaces.{alone_is}
 use Rattle.derivation_check.proofs.cuts.alone.Goals as goal
 
