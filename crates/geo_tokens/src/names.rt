@@ -9,7 +9,7 @@ use std::alloc::{AllocError, Global};
 use std::marker::Model;
 
 /// An object's name, and the positions of its shapes in the list of shapes. It is seen as this pair.
-#[derive(Drop)]
+#[derive(Debug, Drop)]
 pub struct NamedObject {
     name: Name,
     shapes: Vec<u16>,
