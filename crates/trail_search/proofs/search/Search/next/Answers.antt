@@ -7,8 +7,6 @@ use Rattle.trail_search.specs.Walker.{GoesOnAs, tree_of, is_answer}
 use Rattle.trail_search.proofs.Standing.{tree_same}
 use Rattle.trail_search.proofs.Nexts.{found_answer, ended_answer, budget_answer, as_before, stands_at, no_objects}
 use Rattle.std.proofs.lemmas.Bool.{false≢true}
-use Rattle.derivation.specs.declared.event.Event.{Event}
-use Rattle.derivation.specs.Events.{Continues}
 use Rattle.trail_search.proofs.search.Search.next.Goals as goal
 
 pub go_on-requires : goal.go_on-requires
@@ -68,27 +66,3 @@ returns-in-Memory-clause-steps g c =
 
 pub returns-in-Memory-clause-no_record : goal.returns-in-Memory-clause-no_record
 returns-in-Memory-clause-no_record g c = λ k e. false≢true (sym (ap is_answer c.in-Memory.is) ∙ c.go_on.ensures.grows.no_record k)
-
-pub returns-in-Found-clause-events : goal.returns-in-Found-clause-events
-returns-in-Found-clause-events g c = λ k. subst (λ (l : List Event). Continues l (g.R.Recorder.list c.go_on.new.rec)) (ap (λ (z : Quest). z.events) c.self.view_is) (c.go_on.ensures.grows.events k)
-
-pub returns-in-Found-clause-refusals : goal.returns-in-Found-clause-refusals
-returns-in-Found-clause-refusals g c = subst (λ (n : ℕ). n ≤ g.R.Recorder.refusals c.go_on.new.rec) (ap (λ (z : Quest). z.refusals) c.self.view_is) c.go_on.ensures.grows.refusals
-
-pub returns-in-Ended-clause-events : goal.returns-in-Ended-clause-events
-returns-in-Ended-clause-events g c = λ k. subst (λ (l : List Event). Continues l (g.R.Recorder.list c.go_on.new.rec)) (ap (λ (z : Quest). z.events) c.self.view_is) (c.go_on.ensures.grows.events k)
-
-pub returns-in-Ended-clause-refusals : goal.returns-in-Ended-clause-refusals
-returns-in-Ended-clause-refusals g c = subst (λ (n : ℕ). n ≤ g.R.Recorder.refusals c.go_on.new.rec) (ap (λ (z : Quest). z.refusals) c.self.view_is) c.go_on.ensures.grows.refusals
-
-pub returns-in-Budget-clause-events : goal.returns-in-Budget-clause-events
-returns-in-Budget-clause-events g c = λ k. subst (λ (l : List Event). Continues l (g.R.Recorder.list c.go_on.new.rec)) (ap (λ (z : Quest). z.events) c.self.view_is) (c.go_on.ensures.grows.events k)
-
-pub returns-in-Budget-clause-refusals : goal.returns-in-Budget-clause-refusals
-returns-in-Budget-clause-refusals g c = subst (λ (n : ℕ). n ≤ g.R.Recorder.refusals c.go_on.new.rec) (ap (λ (z : Quest). z.refusals) c.self.view_is) c.go_on.ensures.grows.refusals
-
-pub returns-in-Memory-clause-events : goal.returns-in-Memory-clause-events
-returns-in-Memory-clause-events g c = λ k. subst (λ (l : List Event). Continues l (g.R.Recorder.list c.go_on.new.rec)) (ap (λ (z : Quest). z.events) c.self.view_is) (c.go_on.ensures.grows.events k)
-
-pub returns-in-Memory-clause-refusals : goal.returns-in-Memory-clause-refusals
-returns-in-Memory-clause-refusals g c = subst (λ (n : ℕ). n ≤ g.R.Recorder.refusals c.go_on.new.rec) (ap (λ (z : Quest). z.refusals) c.self.view_is) c.go_on.ensures.grows.refusals
