@@ -1,3 +1,4 @@
+mod ask;
 mod boxes;
 mod forbidden;
 mod literals;

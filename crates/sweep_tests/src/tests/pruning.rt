@@ -1,61 +1,49 @@
 //! The pruning of one object, by hand, with its events.
 
-ghost use Rattle.std.specs.Prelude.{◌≡◌, ◌≢◌, ◌<◌, ◌≤◌, ℕ, List, length, map, pos, IfOk};
+ghost use Rattle.std.specs.Prelude.{◌≡◌, ◌≢◌, ◌<◌, ℕ, List, length, map, pos, IfOk};
 ghost use Rattle.geo_conditions.specs.declared.cond.Cond.{Cond};
 ghost use Rattle.geo_conditions.specs.Conditions.{AllFit};
-ghost use Rattle.geo_conditions.specs.Form.{IsBounded};
 ghost use Rattle.geo_conditions.specs.Reach.{Reach};
 ghost use Rattle.object_pruning.specs.Kept.{AllSupport};
 
+use super::literals::{A, B, ahead, behind, of_one, state};
 use derivation::{Event, Log};
-use geo_base::{Interval, KBox, Point};
-use geo_conditions::{Cond, Conds, Form, ObjId, State, fits};
+use geo_base::Interval;
+use geo_conditions::{Cond, Conds, ObjId, State, fits};
 use geo_state::{Trailed, is_small};
 use indexical::AnyIndexical;
 use object_pruning::{Placed, Pruned, prune_kept, prune_object, slots};
 use std::alloc::{AllocError, Global};
-use std::process::Abort;
 use std::test::Fail;
-
-const A: ObjId = ObjId(0);
-
-const B: ObjId = ObjId(1);
 
 const C: ObjId = ObjId(2);
 
 /// Three objects on a line. The first one lies in the range; it has two shapes, of the cells 0 and 1 and of the cells -4 to 0
 /// from its origin. The second one is fixed, and has three cells. No condition names the third one.
-fn line(alloc: Global, range: (i64, i64), fixed: i64) -> Result<State<1>, AllocError>
-    ensures { IfOk result (λ s. length s ≡ 3) }
-{
-    let mut s = State::new(alloc);
-    s.add_object(2, KBox::new(Point::filled(range.0), Point::filled(range.1)))?;
-    s.add_object(1, KBox::new(Point::filled(fixed), Point::filled(fixed)))?;
-    s.add_object(3, KBox::new(Point::filled(-5), Point::filled(5)))?;
-    Ok(s)
+fn line(alloc: Global, range: (i64, i64), fixed: i64) -> Result<State<1>, AllocError> {
+    state(
+        alloc,
+        &[(2, range.0, range.1), (1, fixed, fixed), (3, -5, 5)],
+    )
 }
 
 /// Where the first object has that shape, `factor * x + constant <= 0` holds of its origin.
-fn bounded(alloc: Global, place: u8, factor: i64, constant: i64) -> Result<Cond, AllocError>
-    requires factor { IsBounded factor × (factor ≢ pos 0) }
-    requires constant { IsBounded constant }
+fn bounded(alloc: Global, place: u8, factor: i8, constant: i8) -> Result<Cond, AllocError>
+    requires factor { factor ≢ pos 0 }
 {
     let mut parts = Conds::new(alloc);
     parts.push(Cond::NotShape(A, place))?;
-    parts.push(Cond::Lin(Form::new(alloc, &[(A, 0, factor)], constant)?))?;
+    parts.push(of_one(alloc, 0, factor, i64::from(constant))?)?;
     Ok(Cond::AtLeast(1, parts))
 }
 
 /// Where the first object has that shape, its origin lies at least `before` before that of the second one, or at least
-/// `behind` behind it.
-fn beside(alloc: Global, place: u8, before: i64, behind: i64) -> Result<Cond, AllocError>
-    requires before { IsBounded before }
-    requires behind { IsBounded behind }
-{
+/// `after` behind it.
+fn beside(alloc: Global, place: u8, before: i8, after: i8) -> Result<Cond, AllocError> {
     let mut parts = Conds::new(alloc);
     parts.push(Cond::NotShape(A, place))?;
-    parts.push(Cond::Lin(Form::new(alloc, &[(A, 0, 1), (B, 0, -1)], before)?))?;
-    parts.push(Cond::Lin(Form::new(alloc, &[(A, 0, -1), (B, 0, 1)], behind)?))?;
+    parts.push(ahead(alloc, 0, before)?)?;
+    parts.push(behind(alloc, 0, after)?)?;
     Ok(Cond::AtLeast(1, parts))
 }
 
@@ -91,38 +79,33 @@ fn word(answer: Pruned) -> &'static str {
     }
 }
 
-/// Prunes the first object of the state by the conditions.
+/// Prunes the first object of the state by the conditions. The answer is what that gives, and what is left; none where it cannot
+/// be pruned.
 fn pruned(
-    rt: &(impl Alloc<A = Global> + Abort),
+    alloc: Global,
     s: State<1>,
     rec: &mut Log,
-) -> Result<(&'static str, State<1>), AllocError>
-    requires objects { length s ≡ 3 }
-    ensures objects { IfOk result (λ r. length r.1 ≡ 3) }
-{
-    let list = conditions(rt.alloc(), &s)?;
-    assert!(rt; list.len() == 4 && is_small(&s));
-    let mut t = Trailed::start(rt.alloc(), s, 0)?;
+) -> Result<Option<(&'static str, State<1>)>, AllocError> {
+    let list = conditions(alloc, &s)?;
+    if list.len() != 4 || s.objects() != 3 || !is_small(&s) {
+        return Ok(None);
+    }
+    let mut t = Trailed::start(alloc, s, 0)?;
     let answer = prune_object(&mut t, A, &list, &[1, 2, 3, 4], rec)?;
-    let left = t.state().copy()?;
-    Ok((word(answer), left))
+    Ok(Some((word(answer), t.state().copy()?)))
 }
 
-/// The range of an object, and whether it has its first three shapes.
-fn open_to(s: &State<1>, o: ObjId) -> (i64, i64, [bool; 3])
-    requires { o.0 < length s.now }
-{
+/// Whether an object has that range, and just those of its first three shapes.
+fn is_open(s: &State<1>, o: ObjId, range: (i64, i64), shapes: [bool; 3]) -> bool {
+    if usize::from(o.0) >= s.objects() {
+        return false;
+    }
     let Interval { lo, hi } = s.interval(o, 0);
-    let shapes = [s.has_shape(o, 1), s.has_shape(o, 2), s.has_shape(o, 3)];
-    (lo, hi, shapes)
-}
-
-/// The two other objects are as in `line`.
-fn assert_others(rt: &impl Abort, s: &State<1>, fixed: i64)
-    requires { length s.now ≡ 3 }
-{
-    assert_eq!(rt; open_to(s, B), (fixed, fixed, [true, false, false]));
-    assert_eq!(rt; open_to(s, C), (-5, 5, [true, true, true]));
+    lo == range.0
+        && hi == range.1
+        && s.has_shape(o, 1) == shapes[0]
+        && s.has_shape(o, 2) == shapes[1]
+        && s.has_shape(o, 3) == shapes[2]
 }
 
 /// Whether both are the same event of a pruning.
@@ -141,17 +124,18 @@ fn is_same(a: &Event, b: &Event) -> bool {
     }
 }
 
-/// The record has those events and no others.
-fn assert_events(rt: &impl Abort, rec: &Log, wanted: &[Event]) {
-    let events = rec.events();
-    assert!(rt; events.len() == wanted.len());
-    for i in 0..wanted.len() {
-        assert!(rt; is_same(&events[i], &wanted[i]), "at event {i}");
+/// Whether the events are those that are wanted, and no others.
+fn are_same(events: &[Event], wanted: &[Event]) -> bool {
+    for (event, other) in events.iter().zip(wanted) {
+        if !is_same(event, other) {
+            return false;
+        }
     }
+    events.len() == wanted.len()
 }
 
 /// The short shape has its origin in 3 to 8 and the long one in 7 to 9.
-const BOTH_SHAPES: [Event; 10] = [
+const BOTH_SHAPES: &[Event] = &[
     Event::Raise(A, 0, 3),
     Event::Cover(1),
     Event::Cut(0, 2),
@@ -165,7 +149,7 @@ const BOTH_SHAPES: [Event; 10] = [
 ];
 
 /// The short shape has its origin in 0 to 1 or 6 to 8, and the long one has no room.
-const ONE_SHAPE: [Event; 12] = [
+const ONE_SHAPE: &[Event] = &[
     Event::Drop(A, 2),
     Event::CutFrom(0, 3),
     Event::By(3),
@@ -181,7 +165,7 @@ const ONE_SHAPE: [Event; 12] = [
 ];
 
 /// The same where the range ends at 8: no bound moves.
-const NO_BOUND: [Event; 6] = [
+const NO_BOUND: &[Event] = &[
     Event::Drop(A, 2),
     Event::CutFrom(0, 3),
     Event::By(3),
@@ -191,7 +175,7 @@ const NO_BOUND: [Event; 6] = [
 ];
 
 /// Neither shape has its origin in 2 to 5.
-const NO_POINT: [Event; 12] = [
+const NO_POINT: &[Event] = &[
     Event::Drop(A, 1),
     Event::CutFrom(0, 2),
     Event::By(2),
@@ -206,32 +190,49 @@ const NO_POINT: [Event; 12] = [
     Event::EndCovers,
 ];
 
-/// Each row has the range of the first object, the first cell of the second one, what the pruning gives, what it leaves open to
-/// the first object, and the events.
+/// The range of the first object, the first cell of the second one, what the pruning gives, what it leaves open to the first object,
+/// and the events.
+type Row = (
+    (i64, i64),
+    i64,
+    &'static str,
+    (i64, i64),
+    [bool; 3],
+    &'static [Event],
+);
+
+const BOTH: [bool; 3] = [true, true, false];
+
+const SHORT: [bool; 3] = [true, false, false];
+
+const ROWS: &[Row] = &[
+    ((0, 9), 0, "changed", (3, 9), BOTH, BOTH_SHAPES),
+    ((0, 9), 3, "changed", (0, 8), SHORT, ONE_SHAPE),
+    ((0, 8), 3, "changed", (0, 8), SHORT, NO_BOUND),
+    ((2, 5), 3, "empty", (2, 5), [false; 3], NO_POINT),
+    ((3, 9), 0, "same", (3, 9), BOTH, &[]),
+];
+
+/// Whether a pruning is as its row says, and leaves the two other objects as in `line`.
+fn is_right(alloc: Global, row: &Row) -> Result<bool, AllocError> {
+    let (range, fixed, answer, left, shapes, events) = *row;
+    let mut rec = Log::new(alloc);
+    let Some((given, s)) = pruned(alloc, line(alloc, range, fixed)?, &mut rec)? else {
+        return Ok(false);
+    };
+    Ok(
+        given == answer
+            && is_open(&s, A, left, shapes)
+            && is_open(&s, B, (fixed, fixed), [true, false, false])
+            && is_open(&s, C, (-5, 5), [true, true, true])
+            && are_same(rec.events(), events),
+    )
+}
+
 #[test]
 fn an_object_of_two_shapes(rt: HostRuntime) -> Result<(), Fail> {
-    let both = [true, true, false];
-    let short = [true, false, false];
-    for (range, fixed, answer, open, events) in [
-        ((0, 9), 0, "changed", (3, 9, both), BOTH_SHAPES.as_slice()),
-        ((0, 9), 3, "changed", (0, 8, short), ONE_SHAPE.as_slice()),
-        ((0, 8), 3, "changed", (0, 8, short), NO_BOUND.as_slice()),
-        (
-            (2, 5),
-            3,
-            "empty",
-            (2, 5, [false, false, false]),
-            NO_POINT.as_slice(),
-        ),
-        ((3, 9), 0, "same", (3, 9, both), [].as_slice()),
-    ] {
-        let s = line(rt.alloc(), range, fixed)?;
-        let mut rec = Log::new(rt.alloc());
-        let (given, left) = pruned(&rt, s, &mut rec)?;
-        assert_eq!(rt; given, answer, "in {range:?}");
-        assert_eq!(rt; open_to(&left, A), open, "in {range:?}");
-        assert_others(&rt, &left, fixed);
-        assert_events(&rt, &rec, events);
+    for row in ROWS {
+        assert!(rt; is_right(rt.alloc(), row)?, "in {:?}", row.0);
     }
     Ok(())
 }
@@ -253,40 +254,48 @@ fn is_beside_the_first_cells(q: &Placed<1>) -> bool {
     }
 }
 
-/// How many supports are kept. Each of them is one beside the first cells.
-fn supports(rt: &impl Abort, kept: &[Option<Placed<1>>]) -> usize {
+/// How many supports are kept, where each of them is one beside the first cells; none otherwise.
+fn supports(kept: &[Option<Placed<1>>]) -> usize {
     let mut some: usize = 0;
     for slot in kept {
         if let Some(q) = slot {
-            assert!(rt; is_beside_the_first_cells(q));
+            if !is_beside_the_first_cells(q) {
+                return 0;
+            }
             some = some.saturating_add(1);
         }
     }
     some
 }
 
-/// Prunes the first object of the state by the conditions, beginning with nothing kept. The answer is what is kept then.
-fn kept_after(
-    rt: &(impl Alloc<A = Global> + Abort),
-    s: State<1>,
-    rec: &mut Log,
-) -> Result<[Option<Placed<1>>; 18], AllocError>
-    requires objects { length s ≡ 3 }
-{
-    let list = conditions(rt.alloc(), &s)?;
-    assert!(rt; list.len() == 4 && is_small(&s));
-    let mut t = Trailed::start(rt.alloc(), s, 0)?;
+/// Prunes the first object of the state by the conditions, beginning with nothing kept. The answer is what is kept then; none where it
+/// cannot be pruned.
+fn kept_after(alloc: Global, s: State<1>) -> Result<Option<[Option<Placed<1>>; 18]>, AllocError> {
+    let list = conditions(alloc, &s)?;
+    if list.len() != 4 || s.objects() != 3 || !is_small(&s) {
+        return Ok(None);
+    }
+    let mut t = Trailed::start(alloc, s, 0)?;
     let mut kept = blank();
     let mut hints = blank();
-    prune_kept(&mut t, A, &list, &[1, 2, 3, 4], &mut kept, &mut hints, rec)?;
-    Ok(kept)
+    let mut rec = Log::new(alloc);
+    prune_kept(
+        &mut t,
+        A,
+        &list,
+        &[1, 2, 3, 4],
+        &mut kept,
+        &mut hints,
+        &mut rec,
+    )?;
+    Ok(Some(kept))
 }
 
 #[test]
 fn supports_are_kept(rt: HostRuntime) -> Result<(), Fail> {
     let s = line(rt.alloc(), (0, 9), 0)?;
-    let kept = kept_after(&rt, s, &mut Log::new(rt.alloc()))?;
-    assert_eq!(rt; slots::<1>(), kept.len());
-    assert!(rt; supports(&rt, &kept) >= 2);
+    let kept = kept_after(rt.alloc(), s)?.ok_or("not pruned")?;
+    assert!(rt; slots::<1>() == kept.len());
+    assert!(rt; supports(&kept) >= 2);
     Ok(())
 }

@@ -1,27 +1,16 @@
 //! Changes of a state over many levels, which are undone level by level.
 
-ghost use Rattle.std.specs.Prelude.{◌≡◌, ◌<◌, IfOk, length};
+ghost use Rattle.std.specs.Prelude.{◌≡◌, ◌<◌, length};
 
-use geo_base::{KBox, Point};
+use super::literals::state;
 use geo_conditions::{ObjId, State};
 use geo_state::{Trailed, is_small};
-use std::alloc::{AllocError, Global};
+use std::alloc::AllocError;
 use std::test::Fail;
 
 const LEAST: i64 = -2_000_000;
 
 const MOST: i64 = 2_000_000;
-
-/// Three objects in the plane, each with four shapes, in those ranges.
-fn three(alloc: Global, lo: i64, hi: i64) -> Result<State<2>, AllocError>
-    ensures { IfOk result (λ s. length s ≡ 3) }
-{
-    let mut s = State::new(alloc);
-    s.add_object(4, KBox::new(Point::filled(lo), Point::filled(hi)))?;
-    s.add_object(4, KBox::new(Point::filled(lo), Point::filled(hi)))?;
-    s.add_object(4, KBox::new(Point::filled(lo), Point::filled(hi)))?;
-    Ok(s)
-}
 
 /// One change of many: a low end raised, a high end lowered, or a shape dropped.
 fn change(t: &mut Trailed<2>, n: usize)
@@ -85,8 +74,8 @@ fn go_down(t: &mut Trailed<2>, level: usize) -> Result<State<2>, AllocError>
 
 #[test]
 fn a_thousand_changes_are_undone(rt: HostRuntime) -> Result<(), Fail> {
-    let s = three(rt.alloc(), LEAST, MOST)?;
-    assert!(rt; is_small(&s));
+    let s = state::<2>(rt.alloc(), &[(4, LEAST, MOST); 3])?;
+    assert!(rt; is_small(&s) && s.objects() == 3);
     let mut t = Trailed::start(rt.alloc(), s, 50)?;
     let mut copies = Vec::new(rt.alloc());
     for level in 0..50 {
