@@ -1,3 +1,4 @@
+mod answer;
 mod boxes;
 mod formulas;
 mod layouts;

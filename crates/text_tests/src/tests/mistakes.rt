@@ -1,134 +1,99 @@
 //! First mistakes of names and kinds that the format gives for whole texts, and texts without one.
 
-use geo_tokens::fault::{FaultWord, TextFault};
-use problem_text::read::read_problem;
-use rule_names::check::check_names;
-use std::alloc::Global;
+use super::answer::{Part, say};
 use std::test::Fail;
 
-/// The answer for the problem in which the shape `s` and the object `a` stand before these statements, at place 62.
-fn checked(alloc: Global, statements: &[u8]) -> Result<Result<(), TextFault>, Fail> {
-    let front = b"geost 1 dims 1 shape s box 0 size 1 ; object a as s at 0..9 ; ";
-    let mut text = Vec::from_slice(alloc, front)?;
-    text.extend_from_slice(statements)?;
-    text.extend_from_slice(b" end")?;
-    let problem = read_problem(alloc, text.as_slice())?;
-    Ok(check_names(alloc, &problem))
-}
+/// Statements with a name that is not known, or stands twice.
+const NAMES: &[(&[u8], &str)] = &[
+    (b"rule r : p.x1 < 3 ;", "At(71, Unknown)"),
+    (b"rule r : a.sid = shape a ;", "At(85, Unknown)"),
+    (
+        b"rule r : @m(a) ; macro m(p : object) means p.x1 > 0 ;",
+        "At(72, Unknown)",
+    ),
+    (b"macro m() means @m() ; rule r : true ;", "At(79, Unknown)"),
+    (
+        b"macro m() means q.x1 > 0 ; rule r : forall q in objects : @m() ;",
+        "At(78, Unknown)",
+    ),
+    (
+        b"rule r : [ forall p in objects : p.x1 < 3 ] and p.x1 < 3 ;",
+        "At(110, Unknown)",
+    ),
+    (
+        b"rule r : forall p in objects (a, a) : true ;",
+        "At(95, Twice)",
+    ),
+    (b"rule r : a <= 4 and q.x1 < 3 ;", "At(82, Unknown)"),
+    (
+        b"macro m() means a < 3 ; macro n() means q.x1 > 0 ; rule r : true ;",
+        "At(102, Unknown)",
+    ),
+];
 
-#[test]
-fn names_are_known(rt: HostRuntime) -> Result<(), Fail> {
-    let cases: [(&[u8], u64, FaultWord); 9] = [
-        (b"rule r : p.x1 < 3 ;", 71, FaultWord::Unknown),
-        (b"rule r : a.sid = shape a ;", 85, FaultWord::Unknown),
-        (
-            b"rule r : @m(a) ; macro m(p : object) means p.x1 > 0 ;",
-            72,
-            FaultWord::Unknown,
-        ),
-        (
-            b"macro m() means @m() ; rule r : true ;",
-            79,
-            FaultWord::Unknown,
-        ),
-        (
-            b"macro m() means q.x1 > 0 ; rule r : forall q in objects : @m() ;",
-            78,
-            FaultWord::Unknown,
-        ),
-        (
-            b"rule r : [ forall p in objects : p.x1 < 3 ] and p.x1 < 3 ;",
-            110,
-            FaultWord::Unknown,
-        ),
-        (
-            b"rule r : forall p in objects (a, a) : true ;",
-            95,
-            FaultWord::Twice,
-        ),
-        (b"rule r : a <= 4 and q.x1 < 3 ;", 82, FaultWord::Unknown),
-        (
-            b"macro m() means a < 3 ; macro n() means q.x1 > 0 ; rule r : true ;",
-            102,
-            FaultWord::Unknown,
-        ),
-    ];
-    for (statements, place, word) in cases {
-        let answer = checked(rt.alloc(), statements)?;
-        assert_eq!(rt; answer, Err(TextFault::At(place, word)));
-    }
-    Ok(())
-}
+/// Statements with a name of another kind, with too few arguments, or with a field that is not known.
+const KINDS: &[(&[u8], &str)] = &[
+    (b"rule r : a <= 4 ;", "At(71, Kind)"),
+    (
+        b"macro m(a : int) means a.x1 > 0 ; rule r : true ;",
+        "At(86, Kind)",
+    ),
+    (
+        b"rule r : forall t in boxes of a : exists u in boxes of t : true ;",
+        "At(117, Kind)",
+    ),
+    (
+        b"macro m() means true ; rule r : $m() <= a.x1 ;",
+        "At(94, Kind)",
+    ),
+    (
+        b"macro m(p : object) means true ; rule r : @m(- 3) ;",
+        "At(107, Kind)",
+    ),
+    (
+        b"macro m(n : int) means true ; rule r : @m((a)) ;",
+        "At(104, Kind)",
+    ),
+    (
+        b"macro m(p : object, n : int) means true ; rule r : @m(a, a) ;",
+        "At(119, Kind)",
+    ),
+    (b"macro v() is 1 ; rule r : @v(1) ;", "At(88, Kind)"),
+    (
+        b"macro m(p : object) means p.x1 > 0 ; rule r : @m(3, a) ;",
+        "At(108, Args)",
+    ),
+    (
+        b"macro m(p : object) means true ; rule r : a.x1 < a and @m() ;",
+        "At(111, Kind)",
+    ),
+    (b"rule r : a.x01 <= 3 ;", "At(73, Unknown)"),
+    (b"rule r : a.w < 3 and a.x1 < a ;", "At(73, Unknown)"),
+    (
+        b"rule r : forall t in boxes of a : t.l2 <= 3 ;",
+        "At(98, Unknown)",
+    ),
+];
 
-#[test]
-fn kinds_fit(rt: HostRuntime) -> Result<(), Fail> {
-    let cases: [(&[u8], u64, FaultWord); 13] = [
-        (b"rule r : a <= 4 ;", 71, FaultWord::Kind),
-        (
-            b"macro m(a : int) means a.x1 > 0 ; rule r : true ;",
-            86,
-            FaultWord::Kind,
-        ),
-        (
-            b"rule r : forall t in boxes of a : exists u in boxes of t : true ;",
-            117,
-            FaultWord::Kind,
-        ),
-        (
-            b"macro m() means true ; rule r : $m() <= a.x1 ;",
-            94,
-            FaultWord::Kind,
-        ),
-        (
-            b"macro m(p : object) means true ; rule r : @m(- 3) ;",
-            107,
-            FaultWord::Kind,
-        ),
-        (
-            b"macro m(n : int) means true ; rule r : @m((a)) ;",
-            104,
-            FaultWord::Kind,
-        ),
-        (
-            b"macro m(p : object, n : int) means true ; rule r : @m(a, a) ;",
-            119,
-            FaultWord::Kind,
-        ),
-        (b"macro v() is 1 ; rule r : @v(1) ;", 88, FaultWord::Kind),
-        (
-            b"macro m(p : object) means p.x1 > 0 ; rule r : @m(3, a) ;",
-            108,
-            FaultWord::Args,
-        ),
-        (
-            b"macro m(p : object) means true ; rule r : a.x1 < a and @m() ;",
-            111,
-            FaultWord::Kind,
-        ),
-        (b"rule r : a.x01 <= 3 ;", 73, FaultWord::Unknown),
-        (b"rule r : a.w < 3 and a.x1 < a ;", 73, FaultWord::Unknown),
-        (
-            b"rule r : forall t in boxes of a : t.l2 <= 3 ;",
-            98,
-            FaultWord::Unknown,
-        ),
-    ];
-    for (statements, place, word) in cases {
-        let answer = checked(rt.alloc(), statements)?;
-        assert_eq!(rt; answer, Err(TextFault::At(place, word)));
-    }
-    Ok(())
-}
-
-#[test]
-fn right_names_are_accepted(rt: HostRuntime) -> Result<(), Fail> {
-    let cases: [&[u8]; 3] = [
+/// Statements without a mistake.
+const RIGHT: &[(&[u8], &str)] = &[
+    (
         b"rule r : true ; macro m() means true ; rule q : @m() ;",
+        "none",
+    ),
+    (
         b"rule r : forall a in boxes of a : exists q in objects (a) : q.x1 < 3 ;",
+        "none",
+    ),
+    (
         b"object c as s at 0..9 with w = 2 ; rule r : a.w = 0 ;",
-    ];
-    for statements in cases {
-        assert_eq!(rt; checked(rt.alloc(), statements)?, Ok(()));
-    }
-    Ok(())
+        "none",
+    ),
+];
+
+#[test]
+fn names_and_kinds_are_checked(rt: HostRuntime) -> Result<(), Fail> {
+    say(&rt, rt.alloc(), Part::Mistake, NAMES)?;
+    say(&rt, rt.alloc(), Part::Mistake, KINDS)?;
+    say(&rt, rt.alloc(), Part::Mistake, RIGHT)
 }

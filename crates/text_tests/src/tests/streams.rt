@@ -1,9 +1,10 @@
 //! Sources and sinks in memory and over std, and what is written into them.
 
 use geo_chan::{
-    CleanSink, CleanSource, Failed, MemSink, MemSource, Piece, PutFault, Sink, Source, StdSink,
-    StdSource, write_all_bytes, write_number, write_pieces,
+    CleanSink, CleanSource, MemSink, MemSource, Piece, PutFault, Sink, Source, StdSink, StdSource,
+    write_all_bytes, write_number, write_pieces,
 };
+use std::alloc::Global;
 use std::io::{self, Read, Write};
 use std::test::Fail;
 
@@ -42,134 +43,169 @@ impl<T: Write> Write for Halting<T> {
     }
 }
 
+/// Whether calls give these numbers of bytes, or none where they fail, and leave these bytes in the buffer.
+fn gives<S: Source>(source: &mut S, into: &mut [u8], rows: &[(Option<usize>, &[u8])]) -> bool {
+    for (count, wanted) in rows {
+        let found = source.take(into).ok();
+        if found != *count || &*into != *wanted {
+            return false;
+        }
+    }
+    true
+}
+
 #[test]
 fn each_error_of_a_reader_is_a_fault(rt: HostRuntime) {
     let inner = Halting {
         inner: b"abcdef".as_slice(),
         calls: 0,
     };
-    let mut source = StdSource::new(inner);
-    let mut into = [b'.'; 4];
-    for (count, wanted) in [
-        (Ok(2), b"ab.."),
-        (Ok(2), b"cd.."),
-        (Err(Failed), b"cd.."),
-        (Ok(2), b"ef.."),
-        (Ok(0), b"ef.."),
-        (Err(Failed), b"ef.."),
-    ] {
-        assert_eq!(rt; source.take(&mut into), count);
-        assert_eq!(rt; into.as_slice(), wanted.as_slice());
-    }
-}
-
-/// Writes into a halting writer over this room, once past its fault.
-fn write_past_a_fault(room: &mut [u8]) -> [Result<(), PutFault>; 3] {
-    let mut sink = StdSink::new(Halting {
-        inner: room,
-        calls: 0,
-    });
-    let front = write_all_bytes(&mut sink, b"abc");
-    let halted = write_all_bytes(&mut sink, b"def");
-    let rest = write_all_bytes(&mut sink, b"def");
-    [front, halted, rest]
-}
-
-#[test]
-fn a_short_or_failing_write_loses_nothing(rt: HostRuntime) {
-    let mut room = [b'.'; 6];
-    let answers = write_past_a_fault(&mut room);
-    assert_eq!(rt; answers, [Ok(()), Err(PutFault::Failed), Ok(())]);
-    assert_eq!(rt; room.as_slice(), b"abcdef".as_slice());
-}
-
-#[test]
-fn a_writer_that_takes_nothing_is_a_fault(rt: HostRuntime) {
-    let mut room = [b'.'; 3];
-    let mut sink = StdSink::new(room.as_mut_slice());
-    assert_eq!(rt; write_all_bytes(&mut sink, b"abcd"), Err(PutFault::Failed));
+    let rows: &[(Option<usize>, &[u8])] = &[
+        (Some(2), b"ab.."),
+        (Some(2), b"cd.."),
+        (None, b"cd.."),
+        (Some(2), b"ef.."),
+        (Some(0), b"ef.."),
+        (None, b"ef.."),
+    ];
+    assert!(rt; gives(&mut StdSource::new(inner), &mut [b'.'; 4], rows));
 }
 
 #[test]
 fn a_source_gives_what_the_piece_the_buffer_and_the_rest_allow(
     rt: HostRuntime,
 ) -> Result<(), Fail> {
-    let alloc = rt.alloc();
-    let bytes = Vec::from_slice(alloc, b"abcdefg")?;
-    let mut source = MemSource::new(bytes, 3, vec![in alloc; 2, 6]?);
-    let mut into = [b'.'; 2];
-    for (count, wanted) in [
-        (Ok(2), b"ab"),
-        (Err(Failed), b"ab"),
-        (Ok(2), b"cd"),
-        (Ok(2), b"ef"),
-        (Ok(1), b"gf"),
-        (Err(Failed), b"gf"),
-        (Ok(0), b"gf"),
-        (Ok(0), b"gf"),
-    ] {
-        assert_eq!(rt; source.take(&mut into), count);
-        assert_eq!(rt; into.as_slice(), wanted.as_slice());
-    }
+    let bytes = Vec::from_slice(rt.alloc(), b"abcdefg")?;
+    let mut source = MemSource::new(bytes, 3, vec![in rt.alloc(); 2, 6]?);
+    let rows: &[(Option<usize>, &[u8])] = &[
+        (Some(2), b"ab"),
+        (None, b"ab"),
+        (Some(2), b"cd"),
+        (Some(2), b"ef"),
+        (Some(1), b"gf"),
+        (None, b"gf"),
+        (Some(0), b"gf"),
+        (Some(0), b"gf"),
+    ];
+    assert!(rt; gives(&mut source, &mut [b'.'; 2], rows));
     Ok(())
 }
 
 #[test]
 fn a_source_gives_at_most_a_piece(rt: HostRuntime) -> Result<(), Fail> {
-    let alloc = rt.alloc();
-    let mut wide = [b'.'; 9];
-    let mut source = MemSource::new(Vec::from_slice(alloc, b"abcdefg")?, 3, Vec::new(alloc));
-    assert_eq!(rt; source.take(&mut wide), Ok(3));
-    assert_eq!(rt; wide.as_slice(), b"abc......".as_slice());
+    let bytes = Vec::from_slice(rt.alloc(), b"abcdefg")?;
+    let mut source = MemSource::new(bytes, 3, Vec::new(rt.alloc()));
+    assert!(rt; gives(&mut source, &mut [b'.'; 9], &[(Some(3), b"abc......")]));
     Ok(())
 }
 
 #[test]
 fn a_clean_source_gives_its_bytes(rt: HostRuntime) -> Result<(), Fail> {
     let mut source = CleanSource::new(Vec::from_slice(rt.alloc(), b"abc")?);
-    let mut into = [b'.'; 2];
-    for (count, wanted) in [(2, b"ab"), (1, b"cb"), (0, b"cb")] {
-        assert_eq!(rt; source.take(&mut into), Ok(count));
-        assert_eq!(rt; into.as_slice(), wanted.as_slice());
-    }
+    let rows: &[(Option<usize>, &[u8])] = &[(Some(2), b"ab"), (Some(1), b"cb"), (Some(0), b"cb")];
+    assert!(rt; gives(&mut source, &mut [b'.'; 2], rows));
     Ok(())
 }
 
+/// Whether the pieces are written whole, where that is wanted, and fail otherwise, but not for want of memory.
+fn writes<W: Sink>(sink: &mut W, rows: &[(&[u8], bool)]) -> bool {
+    for (piece, wanted) in rows {
+        let done = match write_all_bytes(sink, piece) {
+            Ok(()) => true,
+            Err(PutFault::Failed) => false,
+            Err(PutFault::Memory) => return false,
+        };
+        if done != *wanted {
+            return false;
+        }
+    }
+    true
+}
+
+/// Writes into a halting writer over this room, once past its fault.
+fn writes_past_a_fault(room: &mut [u8]) -> bool {
+    let mut sink = StdSink::new(Halting {
+        inner: room,
+        calls: 0,
+    });
+    writes(
+        &mut sink,
+        &[(b"abc", true), (b"def", false), (b"def", true)],
+    )
+}
+
 #[test]
-fn a_sink_takes_at_most_a_piece_and_fails_at_the_chosen_calls(rt: HostRuntime) -> Result<(), Fail> {
-    let alloc = rt.alloc();
-    let mut sink = MemSink::new(alloc, 2, vec![in alloc; 2]?);
-    assert_eq!(rt; sink.put(b"abc"), Ok(2));
-    assert_eq!(rt; sink.put(b"c"), Err(PutFault::Failed));
-    assert_eq!(rt; sink.put(b"c"), Ok(1));
-    assert_eq!(rt; sink.bytes(), b"abc".as_slice());
-    Ok(())
+fn a_short_or_failing_write_loses_nothing(rt: HostRuntime) {
+    let mut room = [b'.'; 6];
+    assert!(rt; writes_past_a_fault(&mut room));
+    assert!(rt; room.as_slice() == b"abcdef".as_slice());
+}
+
+#[test]
+fn a_writer_that_takes_nothing_is_a_fault(rt: HostRuntime) {
+    let mut room = [b'.'; 3];
+    assert!(rt; writes(&mut StdSink::new(room.as_mut_slice()), &[(b"abcd", false)]));
 }
 
 #[test]
 fn a_fault_in_the_middle_leaves_the_front(rt: HostRuntime) -> Result<(), Fail> {
-    let alloc = rt.alloc();
-    let mut sink = MemSink::new(alloc, 1, vec![in alloc; 2]?);
-    assert_eq!(rt; write_all_bytes(&mut sink, b"abc"), Err(PutFault::Failed));
-    assert_eq!(rt; sink.bytes(), b"a".as_slice());
+    let mut sink = MemSink::new(rt.alloc(), 1, vec![in rt.alloc(); 2]?);
+    assert!(rt; writes(&mut sink, &[(b"abc", false)]));
+    assert!(rt; sink.bytes() == b"a".as_slice());
     Ok(())
+}
+
+/// Whether calls take these numbers of bytes, or none where they fail, but not for want of memory.
+fn takes<W: Sink>(sink: &mut W, rows: &[(&[u8], Option<usize>)]) -> bool {
+    for (piece, wanted) in rows {
+        let found = match sink.put(piece) {
+            Ok(count) => Some(count),
+            Err(PutFault::Failed) => None,
+            Err(PutFault::Memory) => return false,
+        };
+        if found != *wanted {
+            return false;
+        }
+    }
+    true
+}
+
+#[test]
+fn a_sink_takes_at_most_a_piece_and_fails_at_the_chosen_calls(rt: HostRuntime) -> Result<(), Fail> {
+    let mut sink = MemSink::new(rt.alloc(), 2, vec![in rt.alloc(); 2]?);
+    assert!(rt;
+        takes(
+            &mut sink,
+            &[(b"abc", Some(2)), (b"c", None), (b"c", Some(1))]
+        )
+    );
+    assert!(rt; sink.bytes() == b"abc".as_slice());
+    Ok(())
+}
+
+/// Whether a number is written so.
+fn is_written(alloc: Global, number: i128, wanted: &[u8]) -> bool {
+    let mut sink = CleanSink::new(alloc);
+    write_number(&mut sink, number).is_ok() && sink.bytes() == wanted
+}
+
+/// Whether pieces are written one behind the other.
+fn are_written(alloc: Global, pieces: &[Piece<'_>], wanted: &[u8]) -> bool {
+    let mut sink = CleanSink::new(alloc);
+    write_pieces(&mut sink, pieces).is_ok() && sink.bytes() == wanted
 }
 
 #[test]
 fn numbers_are_written_in_decimal(rt: HostRuntime) {
-    let cases: [(i128, &[u8]); 4] = [
+    let rows: &[(i128, &[u8])] = &[
         (0, b"0"),
         (-7, b"-7"),
         (i128::MAX, b"170141183460469231731687303715884105727"),
         (i128::MIN, b"-170141183460469231731687303715884105728"),
     ];
-    for (number, wanted) in cases {
-        let mut sink = CleanSink::new(rt.alloc());
-        assert_eq!(rt; write_number(&mut sink, number), Ok(()));
-        assert_eq!(rt; sink.bytes(), wanted);
+    for (number, wanted) in rows {
+        assert!(rt; is_written(rt.alloc(), *number, wanted));
     }
-    let mut sink = CleanSink::new(rt.alloc());
     let pieces = [Piece::Bytes(b"at "), Piece::Number(-3), Piece::Bytes(b";")];
-    assert_eq!(rt; write_pieces(&mut sink, &pieces), Ok(()));
-    assert_eq!(rt; sink.bytes(), b"at -3;".as_slice());
+    assert!(rt; are_written(rt.alloc(), &pieces, b"at -3;"));
 }
