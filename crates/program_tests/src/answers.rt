@@ -18,36 +18,50 @@ pub fn words(alloc: Global, list: &[&str]) -> Result<Vec<String>, AllocError> {
     Ok(all)
 }
 
-// The status and the text that the words have for an input, and how many of the first 200 bytes were left.
-fn answer(
+// Whether the words have that status and that text for an input, and leave so many of its first 200 bytes, where that is asked.
+fn answers(
     alloc: Global,
-    list: &[&str],
-    input: &[u8],
-) -> Result<(Status, Vec<u8>, usize), AllocError> {
+    (list, input): (&[&str], &[u8]),
+    (status, text): (Status, &[u8]),
+    left: Option<usize>,
+) -> Result<bool, AllocError> {
     let words = words(alloc, list)?;
     let mut source = CleanSource::new(Vec::from_slice(alloc, input)?);
     let mut sink = CleanSink::new(alloc);
-    let status = run(alloc, &words, &mut source, &mut sink);
-    let left = source.take(&mut [0; 200]).unwrap_or(0);
-    Ok((status, Vec::from_slice(alloc, sink.bytes())?, left))
+    let ended = run(alloc, &words, &mut source, &mut sink);
+    let rest = source.take(&mut [0; 200]).unwrap_or(0);
+    Ok(ended == status && sink.bytes() == text && left.unwrap_or(rest) == rest)
 }
+
+const NARROW: &[u8] =
+    b"geost 1 dims 1 shape s box 0 size 2 ; object a as s at 0..1 ; object b as s at 0..1 ; rule r : apart ; end";
+
+const TWO_SHAPES: &[u8] =
+    b"geost 1 dims 2 shape flat box 0 0 size 2 1 ; shape tall box 0 0 size 1 2 ; object a as flat, tall at 0..5 0..5 ; rule w : within 0..0 0..9 ; end";
+
+const FROM_ABOVE: &[u8] =
+    b"geost 1 dims 1 shape s box 0 size 2 ; object a as s at 0..3 ; object b as s at 0..3 ; sides high ; rule r : apart ; end";
+
+const FORMULA: &[u8] =
+    b"geost 1 dims 1 shape s box 0 size 1 ; object a as s at 0..9 ; rule r : a.x1 > 3 ; end";
+
+const FITTING: &[u8] =
+    b"geost 1 dims 1 shape s box 0 size 2 ; object a as s at 0..3 ; object b as s at 0..3 ; rule r : apart ; end layout a as s at 0 b as s at 2";
+
+const OVERLAPPING: &[u8] =
+    b"geost 1 dims 1 shape s box 0 size 2 ; object a as s at 0..3 ; object b as s at 0..3 ; rule r : apart ; end layout a as s at 0 b as s at 1";
+
+const OUTSIDE: &[u8] =
+    b"geost 1 dims 1 shape s box 0 size 2 ; object a as s at 0..3 ; object b as s at 0..3 ; rule r : apart ; end layout a as s at 0 b as s at 4";
+
+const KIND: &[u8] =
+    b"geost 1 dims 1 shape s box 0 size 1 ; object a as s at 0..9 ; rule r : 3 < a ; end";
+
+const PRODUCT: &[u8] =
+    b"geost 1 dims 1 shape s box 0 size 1 ; object a as s at 0..9 ; rule r : a.x1 * 0 * a.x1 <= 4 ; end";
 
 #[test]
 fn words_have_their_answers(rt: HostRuntime) -> Result<(), Fail> {
-    let narrow =
-        b"geost 1 dims 1 shape s box 0 size 2 ; object a as s at 0..1 ; object b as s at 0..1 ; rule r : apart ; end";
-    let two_shapes =
-        b"geost 1 dims 2 shape flat box 0 0 size 2 1 ; shape tall box 0 0 size 1 2 ; object a as flat, tall at 0..5 0..5 ; rule w : within 0..0 0..9 ; end";
-    let from_above =
-        b"geost 1 dims 1 shape s box 0 size 2 ; object a as s at 0..3 ; object b as s at 0..3 ; sides high ; rule r : apart ; end";
-    let formula =
-        b"geost 1 dims 1 shape s box 0 size 1 ; object a as s at 0..9 ; rule r : a.x1 > 3 ; end";
-    let fitting =
-        b"geost 1 dims 1 shape s box 0 size 2 ; object a as s at 0..3 ; object b as s at 0..3 ; rule r : apart ; end layout a as s at 0 b as s at 2";
-    let overlapping =
-        b"geost 1 dims 1 shape s box 0 size 2 ; object a as s at 0..3 ; object b as s at 0..3 ; rule r : apart ; end layout a as s at 0 b as s at 1";
-    let outside =
-        b"geost 1 dims 1 shape s box 0 size 2 ; object a as s at 0..3 ; object b as s at 0..3 ; rule r : apart ; end layout a as s at 0 b as s at 4";
     let rows: &[(&[&str], &[u8], Status, &[u8])] = &[
         (
             &["first", "4"],
@@ -56,24 +70,24 @@ fn words_have_their_answers(rt: HostRuntime) -> Result<(), Fail> {
             FIRST_OF_TWO_BOXES,
         ),
         (&["first", "3"], TWO_BOXES, Status::Budget, b"budget 3\n"),
-        (&["first", "1"], narrow, Status::No, b"none\n"),
+        (&["first", "1"], NARROW, Status::No, b"none\n"),
         (&["first", "1"], b"", Status::Refused, b"refused 0 syntax\n"),
         (
             &["first", "3"],
-            two_shapes,
+            TWO_SHAPES,
             Status::Answered,
             b"layout\na as tall at 0 0\ntoken 2,0,0\n",
         ),
         (
             &["first", "4"],
-            from_above,
+            FROM_ABOVE,
             Status::Answered,
             b"layout\na as s at 3\nb as s at 1\ntoken 1,3/1,1\n",
         ),
-        (&["first", "1"], formula, Status::Budget, b"budget 1\n"),
+        (&["first", "1"], FORMULA, Status::Budget, b"budget 1\n"),
         (
             &["first", "2"],
-            formula,
+            FORMULA,
             Status::Answered,
             b"layout\na as s at 4\ntoken 1,4\n",
         ),
@@ -83,34 +97,28 @@ fn words_have_their_answers(rt: HostRuntime) -> Result<(), Fail> {
             Status::Answered,
             b"geost 1 dims 1\nshape s box 0 size 2 ;\nobject a as s at 0..3 ;\nobject b as s at 0..3 ;\nrule r : apart ;\nend\n",
         ),
-        (&["judge"], fitting, Status::Answered, b"good\n"),
-        (&["judge"], overlapping, Status::No, b"broken r\n"),
-        (&["judge"], outside, Status::Refused, b"refused 136 range\n"),
+        (&["judge"], FITTING, Status::Answered, b"good\n"),
+        (&["judge"], OVERLAPPING, Status::No, b"broken r\n"),
+        (&["judge"], OUTSIDE, Status::Refused, b"refused 136 range\n"),
     ];
     for (list, input, status, text) in rows {
-        let (ended, wrote, _) = answer(rt.alloc(), list, input)?;
-        assert_eq!(rt; ended, *status);
-        assert_eq!(rt; wrote.as_slice(), *text);
+        let is_right = answers(rt.alloc(), (list, input), (*status, text), None)?;
+        assert!(rt; is_right, "{text:?}");
     }
     Ok(())
 }
 
 #[test]
 fn wrong_rules_are_refused_by_every_command(rt: HostRuntime) -> Result<(), Fail> {
-    let kind =
-        b"geost 1 dims 1 shape s box 0 size 1 ; object a as s at 0..9 ; rule r : 3 < a ; end";
-    let product =
-        b"geost 1 dims 1 shape s box 0 size 1 ; object a as s at 0..9 ; rule r : a.x1 * 0 * a.x1 <= 4 ; end";
     let commands: &[&[&str]] = &[&["first", "1"], &["show"], &["judge"]];
     let rows: &[(&[u8], &[u8])] = &[
-        (kind, b"refused 75 kind\n"),
-        (product, b"refused 67 product\n"),
+        (KIND, b"refused 75 kind\n"),
+        (PRODUCT, b"refused 67 product\n"),
     ];
     for command in commands {
         for (input, text) in rows {
-            let (ended, wrote, _) = answer(rt.alloc(), command, input)?;
-            assert_eq!(rt; ended, Status::Refused);
-            assert_eq!(rt; wrote.as_slice(), *text);
+            let refused = (Status::Refused, *text);
+            assert!(rt; answers(rt.alloc(), (command, input), refused, None)?);
         }
     }
     Ok(())
@@ -126,10 +134,9 @@ fn bad_words_take_nothing(rt: HostRuntime) -> Result<(), Fail> {
         &[],
     ];
     for list in rows {
-        let (ended, wrote, left) = answer(rt.alloc(), list, TWO_BOXES)?;
-        assert_eq!(rt; ended, Status::BadWords);
-        assert_eq!(rt; wrote.as_slice(), b"bad words\n".as_slice());
-        assert_eq!(rt; left, TWO_BOXES.len());
+        let bad = (Status::BadWords, b"bad words\n".as_slice());
+        let left = Some(TWO_BOXES.len());
+        assert!(rt; answers(rt.alloc(), (list, TWO_BOXES), bad, left)?);
     }
     Ok(())
 }

@@ -1,3 +1,4 @@
+mod answer;
 mod expansion;
 mod grounding;
 mod judging;

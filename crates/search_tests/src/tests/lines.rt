@@ -1,6 +1,6 @@
 //! Small states, and conditions on them.
 
-ghost use Rattle.std.specs.Prelude.{◌≡◌, ◌<◌, ◌≤◌, IfOk, length, map};
+ghost use Rattle.std.specs.Prelude.{◌≡◌, ◌≢◌, ◌<◌, ◌≤◌, IfOk, length, map, pos};
 
 use geo_base::{KBox, Point};
 use geo_conditions::{Cond, Conds, Form, ObjId, State};
@@ -67,54 +67,52 @@ fn less(alloc: Global, a: ObjId, b: ObjId) -> Result<Cond, AllocError>
     Ok(Cond::Lin(Form::new(alloc, &[(a, 0, 1), (b, 0, -1)], 1)?))
 }
 
-/// One of the two forms is at most 0.
-fn either(alloc: Global, first: Form, second: Form) -> Result<Cond, AllocError> {
+/// One of the two conditions holds.
+fn either(alloc: Global, first: Cond, second: Cond) -> Result<Cond, AllocError> {
     let mut children = Conds::new(alloc);
-    children.push(Cond::Lin(first))?;
-    children.push(Cond::Lin(second))?;
+    children.push(first)?;
+    children.push(second)?;
     Ok(Cond::AtLeast(1, children))
+}
+
+/// The literal `factor * a + constant <= 0` on a coordinate of the first object.
+fn of_one(alloc: Global, d: usize, factor: i8, constant: i8) -> Result<Cond, AllocError>
+    requires factor { factor ≢ pos 0 }
+{
+    let form = Form::new(alloc, &[(A, d, i64::from(factor))], i64::from(constant))?;
+    Ok(Cond::Lin(form))
 }
 
 /// Two boxes of size 2 do not overlap.
 fn apart(alloc: Global, a: ObjId, b: ObjId) -> Result<Cond, AllocError>
     requires order { a.0 < b.0 }
 {
-    either(
-        alloc,
-        Form::new(alloc, &[(a, 0, 1), (b, 0, -1)], 2)?,
-        Form::new(alloc, &[(a, 0, -1), (b, 0, 1)], 2)?,
-    )
+    let before = Form::new(alloc, &[(a, 0, 1), (b, 0, -1)], 2)?;
+    let behind = Form::new(alloc, &[(a, 0, -1), (b, 0, 1)], 2)?;
+    either(alloc, Cond::Lin(before), Cond::Lin(behind))
 }
 
-/// The object has another place, or the form is at most 0.
-fn unless(alloc: Global, place: u8, form: Form) -> Result<Cond, AllocError> {
-    let mut children = Conds::new(alloc);
-    children.push(Cond::NotShape(A, place))?;
-    children.push(Cond::Lin(form))?;
-    Ok(Cond::AtLeast(1, children))
+/// Where the first object has that place, its coordinate is at most this.
+fn at_most(alloc: Global, place: u8, d: usize, most: i8) -> Result<Cond, AllocError> {
+    let form = Form::new(alloc, &[(A, d, 1)], -i64::from(most))?;
+    either(alloc, Cond::NotShape(A, place), Cond::Lin(form))
 }
 
 /// The conditions of the two shapes in the slot.
 fn slot(alloc: Global, list: &mut Vec<Cond>) -> Result<(), AllocError> {
-    list.push(unless(alloc, 1, Form::new(alloc, &[(A, 0, 1)], 1)?)?)?;
-    list.push(unless(alloc, 1, Form::new(alloc, &[(A, 1, 1)], -9)?)?)?;
-    list.push(unless(alloc, 2, Form::new(alloc, &[(A, 0, 1)], 0)?)?)?;
-    list.push(unless(alloc, 2, Form::new(alloc, &[(A, 1, 1)], -8)?)?)?;
+    list.push(at_most(alloc, 1, 0, -1)?)?;
+    list.push(at_most(alloc, 1, 1, 9)?)?;
+    list.push(at_most(alloc, 2, 0, 0)?)?;
+    list.push(at_most(alloc, 2, 1, 8)?)?;
     Ok(())
 }
 
 /// The conditions of the carry.
 fn carry(alloc: Global, list: &mut Vec<Cond>) -> Result<(), AllocError> {
-    list.push(either(
-        alloc,
-        Form::new(alloc, &[(A, 0, -1)], 3)?,
-        Form::new(alloc, &[(A, 1, -1)], 1)?,
-    )?)?;
-    list.push(either(
-        alloc,
-        Form::new(alloc, &[(A, 0, -1)], 1)?,
-        Form::new(alloc, &[(A, 1, 1)], 0)?,
-    )?)?;
+    let (far, high) = (of_one(alloc, 0, -1, 3)?, of_one(alloc, 1, -1, 1)?);
+    list.push(either(alloc, far, high)?)?;
+    let (near, low) = (of_one(alloc, 0, -1, 1)?, of_one(alloc, 1, 1, 0)?);
+    list.push(either(alloc, near, low)?)?;
     Ok(())
 }
 

@@ -124,31 +124,33 @@ fn finds(
     Ok(true)
 }
 
+/// The layouts of two boxes on a line, by the origins of both.
+const ALL: [(i64, i64); 6] = [(0, 2), (0, 3), (1, 3), (2, 0), (3, 0), (3, 1)];
+
 // The walk has 15 members: a's place; and for each of a's four origins that origin, b's place and the layouts with it,
 // which are the members 4 and 5, 8, 11, and 14 and 15.
+const BUDGETS: &[(u64, usize, &str)] = &[
+    (0, 0, "budget"),
+    (3, 0, "budget"),
+    (4, 1, "budget"),
+    (5, 2, "budget"),
+    (7, 2, "budget"),
+    (8, 3, "budget"),
+    (10, 3, "budget"),
+    (11, 4, "budget"),
+    (13, 4, "budget"),
+    (14, 5, "budget"),
+    (15, 6, "ended"),
+    (100, 6, "ended"),
+];
+
 #[test]
 fn two_boxes_on_a_line(rt: HostRuntime) -> Result<(), Fail> {
-    let all = [(0, 2), (0, 3), (1, 3), (2, 0), (3, 0), (3, 1)];
-    for (budget, count, end) in [
-        (0, 0usize, "budget"),
-        (3, 0, "budget"),
-        (4, 1, "budget"),
-        (5, 2, "budget"),
-        (7, 2, "budget"),
-        (8, 3, "budget"),
-        (10, 3, "budget"),
-        (11, 4, "budget"),
-        (13, 4, "budget"),
-        (14, 5, "budget"),
-        (15, 6, "ended"),
-        (100, 6, "ended"),
-    ] {
-        let wanted = all.get(..count).unwrap_or(&[]);
-        let ranges = [(0, 3), (0, 3)];
-        assert!(rt;
-            finds(rt.alloc(), &ranges, false, budget, wanted, end)?,
-            "within {budget}"
-        );
+    let ranges = [(0, 3), (0, 3)];
+    for (budget, count, end) in BUDGETS {
+        let wanted = ALL.get(..*count).unwrap_or(&[]);
+        let is_found = finds(rt.alloc(), &ranges, false, *budget, wanted, end)?;
+        assert!(rt; is_found, "within {budget}");
     }
     Ok(())
 }
@@ -187,74 +189,75 @@ fn planar(found: &[Vec<i64>], alloc: Global) -> Result<Vec<i64>, AllocError> {
     Ok(all)
 }
 
-/// Checks the layouts of one object in the plane, each as `100 * place + 10 * x1 + x2`.
-fn finds_in_the_plane(
-    alloc: Global,
-    s: State<2>,
-    rules: Rules,
-    budget: u64,
-    wanted: &[i64],
-    end: &str,
-) -> Result<bool, AllocError> {
+/// What has to hold of one object in the plane, the high ends of its ranges, the budget, the layouts, each as
+/// `100 * place + 10 * x1 + x2`, and how the search ends.
+type Row = (Rules, (i64, i64), u64, &'static [i64], &'static str);
+
+// In the slot only the second shape fits. With the sum there is one place, five values of x1 and nine layouts.
+const ROWS: &[Row] = &[
+    (Slot, (5, 5), 2, &[], "budget"),
+    (Slot, (5, 5), 3, &[200], "budget"),
+    (Slot, (5, 5), 8, &[200, 201, 202, 203, 204, 205], "ended"),
+    (Sum, (9, 3), 2, &[], "budget"),
+    (Sum, (9, 3), 3, &[153], "budget"),
+    (
+        Sum,
+        (9, 3),
+        15,
+        &[153, 163, 172, 173, 182, 183, 191, 192, 193],
+        "ended",
+    ),
+    (Carry, (3, 1), 3, &[111], "budget"),
+    (Carry, (3, 1), 8, &[111, 121, 130, 131], "ended"),
+];
+
+/// Whether the search finds what the row says.
+fn finds_in_the_plane(alloc: Global, row: &Row) -> Result<bool, AllocError> {
+    let (rules, (x, y), budget, wanted, end) = *row;
+    let shapes = match rules {
+        Slot => 2,
+        _ => 1,
+    };
+    let s = plane(alloc, shapes, x, y)?;
     let Some((found, word)) = listing(alloc, s, &[false, false], rules, budget)? else {
         return Ok(false);
     };
     Ok(word == end && planar(&found, alloc)?.as_slice() == wanted)
 }
 
-// In the slot only the second shape fits. With the sum there is one place, five values of x1 and nine layouts.
 #[test]
 fn an_object_in_the_plane(rt: HostRuntime) -> Result<(), Fail> {
-    let alloc = rt.alloc();
-    for (rules, (x, y), budget, wanted, end) in [
-        (Slot, (5, 5), 2u64, [].as_slice(), "budget"),
-        (Slot, (5, 5), 3, [200].as_slice(), "budget"),
-        (
-            Slot,
-            (5, 5),
-            8,
-            [200, 201, 202, 203, 204, 205].as_slice(),
-            "ended",
-        ),
-        (Sum, (9, 3), 2, [].as_slice(), "budget"),
-        (Sum, (9, 3), 3, [153].as_slice(), "budget"),
-        (
-            Sum,
-            (9, 3),
-            15,
-            [153, 163, 172, 173, 182, 183, 191, 192, 193].as_slice(),
-            "ended",
-        ),
-        (Carry, (3, 1), 3, [111].as_slice(), "budget"),
-        (Carry, (3, 1), 8, [111, 121, 130, 131].as_slice(), "ended"),
-    ] {
-        let shapes = match rules {
-            Slot => 2,
-            _ => 1,
-        };
-        let s = plane(alloc, shapes, x, y)?;
-        assert!(rt;
-            finds_in_the_plane(alloc, s, rules, budget, wanted, end)?,
-            "{wanted:?} within {budget}"
-        );
+    for row in ROWS {
+        assert!(rt; finds_in_the_plane(rt.alloc(), row)?, "{:?}", row.3);
     }
     Ok(())
+}
+
+/// How many layouts a search over objects on a line finds before its end; none where it ends otherwise.
+fn number_of(
+    alloc: Global,
+    ranges: &[(i64, i64)],
+    rules: Rules,
+    budget: u64,
+) -> Result<Option<usize>, AllocError> {
+    let s = line(alloc, ranges)?;
+    let Some((found, end)) = listing(alloc, s, &[false], rules, budget)? else {
+        return Ok(None);
+    };
+    Ok(if end == "ended" {
+        Some(found.len())
+    } else {
+        None
+    })
 }
 
 // Each object of a cycle is less than the next one: the bounds creep to nothing before a value is tried. Without objects there is
 // one layout, the empty one, or none where a rule is false.
 #[test]
 fn no_member_and_no_object(rt: HostRuntime) -> Result<(), Fail> {
-    let alloc = rt.alloc();
-    for (ranges, rules, budget, layouts) in [
-        ([(0, 9), (0, 9), (0, 9)].as_slice(), Cycle, 0, 0),
-        ([].as_slice(), Free, 1, 1),
-        ([].as_slice(), False, 1, 0),
-    ] {
-        let s = line(alloc, ranges)?;
-        let (found, end) = listing(alloc, s, &[false], rules, budget)?.ok_or("not started")?;
-        assert_eq!(rt; found.len(), layouts);
-        assert_eq!(rt; end, "ended");
-    }
+    let ranges = [(0, 9), (0, 9), (0, 9)];
+    assert!(rt; number_of(rt.alloc(), &ranges, Cycle, 0)? == Some(0));
+    assert!(rt; number_of(rt.alloc(), &[], Free, 1)? == Some(1));
+    assert!(rt; number_of(rt.alloc(), &[], False, 1)? == Some(0));
     Ok(())
 }

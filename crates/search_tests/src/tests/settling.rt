@@ -112,87 +112,72 @@ fn leave<const K: usize>(
     )
 }
 
+/// The ranges of objects, what has to hold of them, and what is left open.
+type Row = (
+    &'static [(i64, i64)],
+    Rules,
+    Option<&'static [(u8, i64, i64)]>,
+);
+
+const ROWS: &[Row] = &[
+    (&[(4, 9), (0, 9), (0, 5)], Chain, None),
+    (
+        &[(0, 9), (0, 9), (0, 9)],
+        Chain,
+        Some(&[(1, 0, 7), (1, 1, 8), (1, 2, 9)]),
+    ),
+    (
+        &[(4, 9), (0, 9), (0, 6)],
+        Chain,
+        Some(&[(1, 4, 4), (1, 5, 5), (1, 6, 6)]),
+    ),
+    (
+        &[(0, 2), (5, 7), (3, 9)],
+        Chain,
+        Some(&[(1, 0, 2), (1, 5, 7), (1, 6, 9)]),
+    ),
+    (&[(0, 9), (3, 2), (0, 9)], Chain, None),
+    (&[(0, 9), (0, 9), (0, 9)], Cycle, None),
+    (&[(0, 3), (0, 3)], TwoApart, Some(&[(1, 0, 3), (1, 0, 3)])),
+    (&[(0, 2), (0, 2)], TwoApart, Some(&[(1, 0, 2), (1, 0, 2)])),
+    (&[(1, 1), (0, 3)], TwoApart, Some(&[(1, 1, 1), (1, 3, 3)])),
+    (&[(2, 2), (0, 3)], TwoApart, Some(&[(1, 2, 2), (1, 0, 0)])),
+    (&[(1, 2), (0, 3)], TwoApart, Some(&[(1, 1, 2), (1, 0, 3)])),
+    (&[(0, 1), (0, 1)], TwoApart, None),
+    (
+        &[(0, 0), (0, 4), (0, 4)],
+        ThreeApart,
+        Some(&[(1, 0, 0), (1, 2, 4), (1, 2, 4)]),
+    ),
+    (
+        &[(0, 4), (0, 2), (0, 0)],
+        ThreeApart,
+        Some(&[(1, 4, 4), (1, 2, 2), (1, 0, 0)]),
+    ),
+    (&[(0, 0), (0, 2), (0, 3)], ThreeApart, None),
+    (
+        &[(0, 4), (0, 4), (0, 4)],
+        ThreeApart,
+        Some(&[(1, 0, 4), (1, 0, 4), (1, 0, 4)]),
+    ),
+    (
+        &[(0, 5), (2, 2), (0, 5)],
+        ThreeApart,
+        Some(&[(1, 0, 5), (1, 2, 2), (1, 0, 5)]),
+    ),
+    (&[(0, 1), (0, 1), (0, 9)], ThreeApart, None),
+    (&[(-7, 8)], Free, Some(&[(1, -7, 8)])),
+    (&[(1, 0)], Free, None),
+    (&[(0, 4)], False, None),
+    (&[], Free, Some(&[])),
+    (&[], False, None),
+];
+
 #[test]
 fn objects_on_a_line(rt: HostRuntime) -> Result<(), Fail> {
-    let alloc = rt.alloc();
-    for (ranges, rules, wanted) in [
-        ([(4, 9), (0, 9), (0, 5)].as_slice(), Chain, None),
-        (
-            [(0, 9), (0, 9), (0, 9)].as_slice(),
-            Chain,
-            Some([(1, 0, 7), (1, 1, 8), (1, 2, 9)].as_slice()),
-        ),
-        (
-            [(4, 9), (0, 9), (0, 6)].as_slice(),
-            Chain,
-            Some([(1, 4, 4), (1, 5, 5), (1, 6, 6)].as_slice()),
-        ),
-        (
-            [(0, 2), (5, 7), (3, 9)].as_slice(),
-            Chain,
-            Some([(1, 0, 2), (1, 5, 7), (1, 6, 9)].as_slice()),
-        ),
-        ([(0, 9), (3, 2), (0, 9)].as_slice(), Chain, None),
-        ([(0, 9), (0, 9), (0, 9)].as_slice(), Cycle, None),
-        (
-            [(0, 3), (0, 3)].as_slice(),
-            TwoApart,
-            Some([(1, 0, 3), (1, 0, 3)].as_slice()),
-        ),
-        (
-            [(0, 2), (0, 2)].as_slice(),
-            TwoApart,
-            Some([(1, 0, 2), (1, 0, 2)].as_slice()),
-        ),
-        (
-            [(1, 1), (0, 3)].as_slice(),
-            TwoApart,
-            Some([(1, 1, 1), (1, 3, 3)].as_slice()),
-        ),
-        (
-            [(2, 2), (0, 3)].as_slice(),
-            TwoApart,
-            Some([(1, 2, 2), (1, 0, 0)].as_slice()),
-        ),
-        (
-            [(1, 2), (0, 3)].as_slice(),
-            TwoApart,
-            Some([(1, 1, 2), (1, 0, 3)].as_slice()),
-        ),
-        ([(0, 1), (0, 1)].as_slice(), TwoApart, None),
-        (
-            [(0, 0), (0, 4), (0, 4)].as_slice(),
-            ThreeApart,
-            Some([(1, 0, 0), (1, 2, 4), (1, 2, 4)].as_slice()),
-        ),
-        (
-            [(0, 4), (0, 2), (0, 0)].as_slice(),
-            ThreeApart,
-            Some([(1, 4, 4), (1, 2, 2), (1, 0, 0)].as_slice()),
-        ),
-        ([(0, 0), (0, 2), (0, 3)].as_slice(), ThreeApart, None),
-        (
-            [(0, 4), (0, 4), (0, 4)].as_slice(),
-            ThreeApart,
-            Some([(1, 0, 4), (1, 0, 4), (1, 0, 4)].as_slice()),
-        ),
-        (
-            [(0, 5), (2, 2), (0, 5)].as_slice(),
-            ThreeApart,
-            Some([(1, 0, 5), (1, 2, 2), (1, 0, 5)].as_slice()),
-        ),
-        ([(0, 1), (0, 1), (0, 9)].as_slice(), ThreeApart, None),
-        ([(-7, 8)].as_slice(), Free, Some([(1, -7, 8)].as_slice())),
-        ([(1, 0)].as_slice(), Free, None),
-        ([(0, 4)].as_slice(), False, None),
-        ([].as_slice(), Free, Some([].as_slice())),
-        ([].as_slice(), False, None),
-    ] {
-        let s = line(alloc, ranges)?;
-        assert!(rt;
-            leave(alloc, &s, rules, wanted)?,
-            "from {ranges:?}: {wanted:?}"
-        );
+    for (ranges, rules, wanted) in ROWS {
+        let s = line(rt.alloc(), ranges)?;
+        assert!(rt; leave(rt.alloc(), &s, *rules, *wanted)?, "from {ranges:?}");
     }
     Ok(())
 }
@@ -201,11 +186,9 @@ fn objects_on_a_line(rt: HostRuntime) -> Result<(), Fail> {
 fn an_object_in_the_plane(rt: HostRuntime) -> Result<(), Fail> {
     let alloc = rt.alloc();
     let wide = plane(alloc, 1, 9, 3)?;
-    let open = [(1, 5, 9), (1, 1, 3)];
-    assert!(rt; leave(alloc, &wide, Sum, Some(open.as_slice()))?);
+    assert!(rt; leave(alloc, &wide, Sum, Some(&[(1, 5, 9), (1, 1, 3)]))?);
     let square = plane(alloc, 2, 5, 5)?;
-    let open = [(2, 0, 0), (2, 0, 5)];
-    assert!(rt; leave(alloc, &square, Slot, Some(open.as_slice()))?);
+    assert!(rt; leave(alloc, &square, Slot, Some(&[(2, 0, 0), (2, 0, 5)]))?);
     let mut shapeless = plane(alloc, 1, 5, 5)?;
     shapeless.drop_shape(A, 1);
     assert!(rt; leave(alloc, &shapeless, Free, None)?);
