@@ -1,5 +1,7 @@
-pub mod PointSearch
-pub mod Narrowed
-pub mod Finding
-pub mod Passing
-pub mod Recorded
+pub mod Names
+pub mod Turns
+pub mod Linking
+pub mod Effect
+pub mod Stable
+pub mod Standing
+pub mod Record

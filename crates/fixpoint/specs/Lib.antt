@@ -1,4 +1,5 @@
-pub mod Points
-pub mod Defects
-pub mod Passes
-pub mod Recorded
+pub mod Near
+pub mod Links
+pub mod Queue
+pub mod Kept
+pub mod Record

@@ -1,10 +1,10 @@
-//! Propagation to the greatest supported state.
+//! Propagation to the greatest supported state by a queue of objects, each pruned by sweeps.
 #![tactic(auto)]
 
-mod defects;
-mod mending;
-mod plain;
-mod points;
-mod recording;
+mod differences;
+mod kept;
+mod links;
+mod propagation;
+mod queue;
 
-pub use plain::PlainPropagate;
+pub use propagation::Fixpoint;

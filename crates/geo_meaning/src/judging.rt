@@ -20,7 +20,7 @@ use rule_values::env::Env;
 use std::alloc::{AllocError, Global};
 
 /// What a judge says of a tuple.
-#[derive(Clone, Copy, Debug)]
+#[derive(Clone, Copy)]
 pub enum Judged {
     /// Every rule holds.
     Good,

@@ -11,8 +11,8 @@ use crate::Decision;
 use geo_chan::{Piece, PutFault, Sink, write_all_bytes, write_pieces};
 use geo_tokens::fault::{FaultWord, fault_text};
 use layout_text::print_layout;
-use problem_text::print::print_problem;
 use problem_data::problem::Problem;
+use problem_text::print::print_problem;
 use std::alloc::Global;
 
 /// Writes the whole answer.

@@ -15,7 +15,7 @@ use geo_conditions::{Cond, Layout, MAX_OBJECTS, ObjId};
 use geo_state::Propagate;
 use indexical::AnyIndexical;
 use problem_data::problem::Problem;
-use queued_fixpoint::Fixpoint;
+use fixpoint::Fixpoint;
 use rule_ground::order::search_order;
 use rule_ground::start::start_state;
 use std::alloc::{AllocError, Global};

@@ -8,8 +8,8 @@ ghost use Rattle.layout_text.specs.Faults.{spot_of, tuple_of};
 use crate::names::shape_position;
 use crate::tree::LineText;
 use geo_conditions::Layout;
-use problem_syntax::numbers::values;
 use problem_data::problem::{ObjectDef, Problem};
+use problem_syntax::numbers::values;
 use std::alloc::{AllocError, Global};
 
 // Puts the object where the line says.

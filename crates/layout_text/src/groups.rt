@@ -11,8 +11,8 @@ ghost use Rattle.layout_text.specs.View.{group_view, group_views, token_view, to
 use crate::tree::{GroupText, TokenText};
 use geo_tokens::stop::{Stop, next_is, token};
 use geo_tokens::token::{Keyword, Kind, Sym, Token, number_in};
-use problem_syntax::numbers::int;
 use problem_data::tree::Int;
+use problem_syntax::numbers::int;
 use std::alloc::Global;
 
 /// A comma and a whole number.

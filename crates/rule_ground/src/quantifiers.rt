@@ -13,7 +13,7 @@ use rule_syntax::tree::QuantKind;
 use std::alloc::Global;
 
 /// How the children of a quantifier come together.
-#[derive(Clone, Copy, Debug, PartialEq, Eq)]
+#[derive(Clone, Copy)]
 pub enum Manner {
     /// All must hold.
     All,

@@ -150,14 +150,14 @@ fn report<L: Ledger>(rt: &HostRuntime, task: &Task, steps: &mut Steps<L>) -> io:
 
 /// The task that the words name.
 fn task_of(words: &[String]) -> Option<Task> {
-    let [form, record, way, times] = words else {
+    if words.len() != 4 {
         return None;
-    };
-    let times = times.as_str().parse::<u64>().ok()?;
+    }
+    let times = words[3].as_str().parse::<u64>().ok()?;
     Some(Task {
-        trees: form.as_str() == "trees",
-        keeps: record.as_str() == "log",
-        up: way.as_str() == "up",
+        trees: words[0].as_str() == "trees",
+        keeps: words[1].as_str() == "log",
+        up: words[2].as_str() == "up",
         times,
     })
 }

@@ -20,7 +20,8 @@ const MOVING: u32 = 50_000;
 /// Numbers that look drawn: those of a linear congruential generator.
 #[derive(Drop)]
 struct Draws {
-    last: u32,
+    last: u64,
+    ghost small: { last < 2 ^ 31 },
 }
 
 impl Draws {
@@ -28,10 +29,11 @@ impl Draws {
         Draws { last: 1 }
     }
 
-    fn next(&mut self) -> u64 {
-        let next = self.last.wrapping_mul(1_103_515_245).wrapping_add(12_345);
-        self.last = next % 2_147_483_648;
-        u64::from(self.last / 65_536)
+    fn next(&mut self) -> u64
+        ensures { result < 2 ^ 15 }
+    {
+        self.last = (1_103_515_245 * self.last + 12_345) % 2_147_483_648;
+        self.last / 65_536
     }
 
     /// The next number below the bound.
@@ -41,7 +43,7 @@ impl Draws {
     {
         let high = self.next();
         let low = self.next();
-        (high.wrapping_mul(32_768).wrapping_add(low) % u64::from(bound)) as u32
+        ((high * 32_768 + low) % u64::from(bound)) as u32
     }
 }
 

@@ -136,12 +136,12 @@ Walks cs n p w Memory q = Unit {0}
 abbrev pub GoesOnAs : List Cond → ℕ → Position → Step → Position → Type 0
 GoesOnAs cs n p s q = (w : List (List ℤ)) × (length w ≡ p.walked) × Walks cs n p w s q
 
--- want of memory is answered only where the count of refusals rose, or stands at its last value
-abbrev pub IsRefused : Step → ℕ → ℕ → Type 0
-IsRefused Found i j = Unit {0}
-IsRefused Ended i j = Unit {0}
-IsRefused Budget i j = Unit {0}
-IsRefused Memory i j = min (i + 1) (2 ^ 64 - 1) ≤ j
+-- whether it is an answer, and not want of memory
+abbrev pub is_answer : Step → Bool
+is_answer Found = true
+is_answer Ended = true
+is_answer Budget = true
+is_answer Memory = false
 
 -- what a walk keeps
 pub record Walking (k : ℕ) (cs : List Cond) (n : ℕ) (p q : Position) : Type 0 where

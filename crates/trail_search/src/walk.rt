@@ -1,8 +1,8 @@
-ghost use Rattle.std.specs.Prelude.{◌≡◌, ◌≢◌, ℕ, ℤ, ◌≤◌, ◌<◌, true, false, List, [], length};
+ghost use Rattle.std.specs.Prelude.{◌≡◌, ℕ, ℤ, ◌≤◌, ◌<◌, List, [], length};
 ghost use Rattle.std.specs.List.{All};
-ghost use Rattle.derivation.specs.Events.{Continues};
+ghost use Rattle.derivation.specs.Events.{Growth};
 ghost use Rattle.geo_conditions.specs.Conditions.{FitsIn};
-ghost use Rattle.trail_search.specs.Walker.{IsWell, SameWalk, depth, Searches, Walks, IsRefused, GoesOnAs, IsReady, StandsAt};
+ghost use Rattle.trail_search.specs.Walker.{IsWell, SameWalk, depth, Searches, Walks, is_answer, GoesOnAs, IsReady, StandsAt};
 
 use super::step::Step;
 use super::walker::Walker;
@@ -27,10 +27,8 @@ fn walk<const K: usize, P: Propagate<K>, R: Recorder>(
     ensures same { SameWalk walker.old walker.new }
     ensures conditions { P.conditions prop.new ≡ P.conditions prop.old }
     ensures number { P.objects prop.new ≡ P.objects prop.old }
-    ensures events { R.keeps ≡ true → Continues (R.list rec.old) (R.list rec.new) }
-    ensures refused { IsRefused result (R.refusals rec.old) (R.refusals rec.new) }
-    ensures refusals { R.refusals rec.old ≤ R.refusals rec.new }
-    ensures no_record { R.keeps ≡ false → result ≢ Step.Memory }
+    ensures grows { Growth R.keeps (R.list rec.old) (R.list rec.new) (R.refusals rec.old)
+        (R.refusals rec.new) (is_answer result) }
     ensures walks { (w : List (List ℤ)) → Searches (P.conditions prop.old) walker.old w
         → Walks (P.conditions prop.old) budget walker.old w result walker.new }
 {
@@ -80,10 +78,8 @@ fn walk_empty<const K: usize, P: Propagate<K>, R: Recorder>(
     ensures same { SameWalk walker.old walker.new }
     ensures conditions { P.conditions prop.new ≡ P.conditions prop.old }
     ensures number { P.objects prop.new ≡ P.objects prop.old }
-    ensures events { R.keeps ≡ true → Continues (R.list rec.old) (R.list rec.new) }
-    ensures refused { IsRefused result (R.refusals rec.old) (R.refusals rec.new) }
-    ensures refusals { R.refusals rec.old ≤ R.refusals rec.new }
-    ensures no_record { R.keeps ≡ false → result ≢ Step.Memory }
+    ensures grows { Growth R.keeps (R.list rec.old) (R.list rec.new) (R.refusals rec.old)
+        (R.refusals rec.new) (is_answer result) }
     ensures walks { IsReady (P.conditions prop.old) walker.old found
         → GoesOnAs (P.conditions prop.old) budget walker.old result walker.new }
 {
@@ -125,10 +121,8 @@ pub fn go_on<const K: usize, P: Propagate<K>, R: Recorder>(
     ensures same { SameWalk walker.old walker.new }
     ensures conditions { P.conditions prop.new ≡ P.conditions prop.old }
     ensures number { P.objects prop.new ≡ P.objects prop.old }
-    ensures events { R.keeps ≡ true → Continues (R.list rec.old) (R.list rec.new) }
-    ensures refused { IsRefused result (R.refusals rec.old) (R.refusals rec.new) }
-    ensures refusals { R.refusals rec.old ≤ R.refusals rec.new }
-    ensures no_record { R.keeps ≡ false → result ≢ Step.Memory }
+    ensures grows { Growth R.keeps (R.list rec.old) (R.list rec.new) (R.refusals rec.old)
+        (R.refusals rec.new) (is_answer result) }
     ensures walks { IsReady (P.conditions prop.old) walker.old found
         → GoesOnAs (P.conditions prop.old) budget walker.old result walker.new }
 {

@@ -4,7 +4,7 @@ ghost use Rattle.geo_conditions.specs.declared.cond.Cond.{Cond};
 ghost use Rattle.geo_conditions.specs.Conditions.{FitsIn};
 ghost use Rattle.geo_conditions.specs.Reach.{reach, NotEmpty, HasNoEmpty};
 ghost use Rattle.geo_conditions.specs.Walk.{Variable as Seen, object_of, IsFirstValue, IsFixed};
-ghost use Rattle.derivation.specs.Events.{Continues};
+ghost use Rattle.derivation.specs.Events.{Grows};
 ghost use Rattle.geo_state.specs.Settle.{SettlesOr};
 ghost use Rattle.trail_search.specs.Cursor.{Narrows, IsFrom, IsValueOf, HasDimension};
 ghost use Rattle.trail_search.specs.Variables.{variable_of, IsAt, HasOne};
@@ -126,11 +126,7 @@ impl<const K: usize> Walker<K> {
         ensures walked { self.new.walked ≡ self.old.walked }
         ensures conditions { P.conditions prop.new ≡ P.conditions prop.old }
         ensures number { P.objects prop.new ≡ P.objects prop.old }
-        ensures events { R.keeps ≡ true → Continues (R.list rec.old) (R.list rec.new) }
-        ensures refused { OnErr result
-            (min (R.refusals rec.old + 1) (2 ^ 64 - 1) ≤ R.refusals rec.new) }
-        ensures refusals { R.refusals rec.old ≤ R.refusals rec.new }
-        ensures no_record { R.keeps ≡ false → IsOk result }
+        ensures grows { Grows R.keeps R.list R.refusals rec.old rec.new result }
     {
         prop.settle(&mut self.trail, rec)
     }
@@ -147,11 +143,7 @@ impl<const K: usize> Walker<K> {
         requires object { object_of (variable_of x) < length self.now.trail.state }
         requires dimension { HasDimension K (variable_of x) }
         requires fits { IsValueOf (variable_of x) u }
-        ensures events { R.keeps ≡ true → Continues (R.list rec.old) (R.list rec.new) }
-        ensures refused { OnErr result
-            (min (R.refusals rec.old + 1) (2 ^ 64 - 1) ≤ R.refusals rec.new) }
-        ensures refusals { R.refusals rec.old ≤ R.refusals rec.new }
-        ensures no_record { R.keeps ≡ false → IsOk result }
+        ensures grows { Grows R.keeps R.list R.refusals rec.old rec.new result }
     {
         if has_after(self.trail.state(), x, u) {
             rec.add(split(x, u))

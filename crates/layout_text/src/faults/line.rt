@@ -13,9 +13,9 @@ use crate::names::shape_position;
 use crate::tree::LineText;
 use geo_tokens::fault::FaultWord;
 use problem_data::fault::{Fault, earlier, fault_if};
-use statement_faults::numbers::first_int;
 use problem_data::problem::{ObjectDef, Problem, RangeDef};
 use problem_data::tree::Int;
+use statement_faults::numbers::first_int;
 
 fn name_fault(object: &ObjectDef, line: &LineText) -> Option<Fault>
     ensures { IsLeast (NameFault object.now (line_view line.now)) result }

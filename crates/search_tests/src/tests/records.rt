@@ -5,7 +5,7 @@ use super::lines::{B, C, Rules, conditions, indexicals, line};
 use derivation::{Event, Log};
 use geo_conditions::all_fit;
 use geo_state::{Propagate, Settled, Trailed, is_small};
-use queued_fixpoint::Fixpoint;
+use fixpoint::Fixpoint;
 use std::alloc::{AllocError, Global};
 use std::test::Fail;
 

@@ -8,7 +8,7 @@ ghost use Rattle.geo_conditions.specs.Walk.{NamesEach};
 use super::lines::Rules::{Carry, Cycle, False, Free, Slot, Sum, TwoApart};
 use super::lines::{Rules, conditions, line, plane};
 use derivation::NoRecord;
-use fixpoint::PlainPropagate;
+use plain_propagate::PlainPropagate;
 use geo_base::MAX_DIMS;
 use geo_conditions::{MAX_OBJECTS, ObjId, SearchOrder, State, all_fit};
 use geo_state::is_small;

@@ -8,10 +8,12 @@ ghost use Rattle.indexical.specs.Apart.{apart};
 use super::ask::swept;
 use super::literals::{A, B, state};
 use derivation::{Log, NoRecord, Recorder};
-use geo_base::{KBox, Point, Way};
+use geo_base::{KBox, Point, Steps, Way};
 use geo_conditions::{ObjId, State};
 use indexical::{ApartIndexical, Counted, PlacedBox};
 use std::alloc::{AllocError, Global};
+use std::marker::Brand;
+use std::sync::ledger::{Blank, Ledger};
 use std::test::Fail;
 
 const C: ObjId = ObjId(2);
@@ -44,16 +46,17 @@ fn pair(
 }
 
 /// Sweeps the first object upwards beside the two others. The answer is its coordinate; -1 where there is none.
-fn sweep_beside<R: Recorder>(
+fn sweep_beside<L: Ledger, R: Recorder>(
     s: &State<1>,
     list: &[Counted<ApartIndexical<1>>],
     rec: &mut R,
+    steps: &mut Steps<L>,
 ) -> Result<i64, AllocError>
     requires objects { 0 < length s.now }
     requires fits { AllFit (map (λ x. apart x.inner.first x.inner.second x.inner.short) list.now) s.now }
 {
     let region = KBox::new(at(0), at(1_000_000));
-    match swept(s, &region, list, &Way::new(0, true), rec)? {
+    match swept(s, &region, list, &Way::new(0, true), rec, steps)? {
         Some(p) => Ok(p.get(0)),
         None => Ok(-1),
     }
@@ -80,7 +83,12 @@ struct Found {
 }
 
 /// Both sweeps beside two fixed boxes; none where the conditions do not fit.
-fn beside_two_boxes(alloc: Global) -> Result<Option<Found>, AllocError> {
+fn beside_two_boxes<L: Ledger>(blank: Blank, alloc: Global) -> Result<Option<Found>, AllocError>
+    requires name { blank.name ≡ L.name }
+    requires parts { blank.parts ≡ L.parts }
+    requires some { 0 < blank.parts }
+{
+    let mut steps = Steps::<L>::new(blank);
     let s = state::<1>(alloc, &[(1, 0, 1_000_000), (1, 0, 0), (1, 10, 10)])?;
     let first = ApartIndexical::new(ten(A), ten(B));
     let second = ApartIndexical::new(ten(C), ten(A));
@@ -89,9 +97,9 @@ fn beside_two_boxes(alloc: Global) -> Result<Option<Found>, AllocError> {
     }
     let list = pair(first, second, &s);
     let mut log = Log::new(alloc);
-    let with_log = sweep_beside(&s, &list, &mut log)?;
+    let with_log = sweep_beside(&s, &list, &mut log, &mut steps)?;
     let asked = questions(&list);
-    let without = sweep_beside(&s, &list, &mut NoRecord::new())?;
+    let without = sweep_beside(&s, &list, &mut NoRecord::new(), &mut steps)?;
     let again = questions(&list);
     Ok(Some(Found {
         points: [with_log, without],
@@ -103,7 +111,7 @@ fn beside_two_boxes(alloc: Global) -> Result<Option<Found>, AllocError> {
 
 #[test]
 fn two_fixed_boxes(rt: HostRuntime) -> Result<(), Fail> {
-    let found = beside_two_boxes(rt.alloc())?.ok_or("no fit")?;
+    let found = beside_two_boxes::<Brand>(Blank::new(1), rt.alloc())?.ok_or("no fit")?;
     assert!(rt; found.points[0] == 20 && found.points[1] == 20);
     assert!(rt; found.events <= 7);
     assert!(rt; 2 < found.asked && found.asked <= 6 && found.again == found.asked);

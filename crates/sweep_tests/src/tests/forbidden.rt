@@ -5,13 +5,14 @@ ghost use Rattle.geo_base.specs.declared.TheConstants.{MAX_DIMS};
 ghost use Rattle.geo_conditions.specs.Conditions.{FitsIn};
 ghost use Rattle.indexical.specs.Apart.{apart};
 
-use super::ask::forbid;
 use super::literals::Literal::AtLeast;
 use super::literals::{A, B, Literal, ahead, behind, one_object, some_of, state};
-use geo_base::{KBox, MAX_DIMS, Point};
+use geo_base::{KBox, MAX_DIMS, Point, Steps, Way};
 use geo_conditions::{Cond, Conds, ObjId, State, fits};
-use indexical::{AnyIndexical, ApartIndexical, PlacedBox, TreeIndexical};
+use indexical::{AnyIndexical, ApartIndexical, Indexical, PlacedBox, TreeIndexical};
 use std::alloc::{AllocError, Global};
+use std::marker::Brand;
+use std::sync::ledger::{Blank, Ledger};
 use std::test::Fail;
 
 fn corner(x: i64, y: i64) -> Point<2> {
@@ -21,9 +22,16 @@ fn corner(x: i64, y: i64) -> Point<2> {
 /// The literals of `a.x1 >= 3 or a.x2 >= 1`.
 const FAR_OR_HIGH: [Literal; 2] = [AtLeast(0, 3), AtLeast(1, 1)];
 
-/// The ends of the box that the tree of those literals gives at a point of the first row; none where it gives no box. The other
-/// none stands where nothing can be asked.
-fn far_or_high(alloc: Global, x: i64) -> Result<Option<Option<[i64; 4]>>, AllocError> {
+fn far_or_high_with<L: Ledger>(
+    blank: Blank,
+    alloc: Global,
+    x: i64,
+) -> Result<Option<Option<[i64; 4]>>, AllocError>
+    requires name { blank.name ≡ L.name }
+    requires parts { blank.parts ≡ L.parts }
+    requires some { 0 < blank.parts }
+{
+    let mut steps = Steps::<L>::new(blank);
     let region = KBox::new(corner(0, 0), corner(3, 1));
     let s = one_object(alloc, region)?;
     let cond = some_of(alloc, &FAR_OR_HIGH)?;
@@ -31,11 +39,17 @@ fn far_or_high(alloc: Global, x: i64) -> Result<Option<Option<[i64; 4]>>, AllocE
     if !fits(&cond, &s) || !region.has(&c) {
         return Ok(None);
     }
-    let ends = match forbid(&TreeIndexical::new(cond), &s, A, 1, &c, &region) {
-        Some(b) => Some([b.lo.get(0), b.hi.get(0), b.lo.get(1), b.hi.get(1)]),
-        None => None,
-    };
-    Ok(Some(ends))
+    let tree = TreeIndexical::new(cond);
+    match tree.forbid(&s, A, 1, &c, &region, &Way::new(0, true), &mut steps) {
+        Some(b) => Ok(Some(Some([b.lo.get(0), b.hi.get(0), b.lo.get(1), b.hi.get(1)]))),
+        None => Ok(Some(None)),
+    }
+}
+
+/// The ends of the box that the tree of those literals gives upwards at a point of the first row; none where it gives no box. The
+/// other none stands where nothing can be asked.
+fn far_or_high(alloc: Global, x: i64) -> Result<Option<Option<[i64; 4]>>, AllocError> {
+    far_or_high_with::<Brand>(Blank::new(1), alloc, x)
 }
 
 #[test]
@@ -112,11 +126,12 @@ fn numbered<const K: usize>(n: usize) -> Point<K> {
 
 /// Whether the tree and the boxes of a condition give the same at each point from (0,..) to (3,..), of which there are so many,
 /// for each of three objects at each place.
-fn agree<const K: usize>(
+fn agree<L: Ledger, const K: usize>(
     points: usize,
     s: &State<K>,
     tree: &TreeIndexical,
     boxes: &ApartIndexical<K>,
+    steps: &mut Steps<L>,
 ) -> bool
     requires dimensions { (0 < K) × (K ≤ MAX_DIMS) }
     requires points { points ≤ 256 }
@@ -125,6 +140,7 @@ fn agree<const K: usize>(
     requires boxes { FitsIn (apart boxes.now.first boxes.now.second boxes.now.short) s.now }
 {
     let region = KBox::new(Point::filled(0), Point::filled(3));
+    let way = Way::new(0, true);
     for n in 0..9 * points {
         let c = numbered::<K>(n / 9);
         let o = ObjId((n % 3) as u16);
@@ -132,8 +148,8 @@ fn agree<const K: usize>(
         if !region.has(&c) {
             return false;
         }
-        let by_tree = forbid(tree, s, o, place, &c, &region);
-        let by_boxes = forbid(boxes, s, o, place, &c, &region);
+        let by_tree = tree.forbid(s, o, place, &c, &region, &way, steps);
+        let by_boxes = boxes.forbid(s, o, place, &c, &region, &way, steps);
         if !is_same(&by_tree, &by_boxes) {
             return false;
         }
@@ -142,10 +158,11 @@ fn agree<const K: usize>(
 }
 
 /// Whether they agree in K dimensions, where the second object has its second shape alone, and the condition is met by its boxes.
-fn agree_in<const K: usize>(
+fn agree_in<L: Ledger, const K: usize>(
     alloc: Global,
     points: usize,
     leaves: (bool, bool),
+    steps: &mut Steps<L>,
 ) -> Result<bool, AllocError>
     requires dimensions { (0 < K) × (K ≤ MAX_DIMS) }
     requires points { points ≤ 256 }
@@ -163,19 +180,40 @@ fn agree_in<const K: usize>(
     if s.objects() != 3 || !fits(&cond, &s) || !boxes.fits(&s) {
         return Ok(false);
     }
-    let same = agree(points, &s, &TreeIndexical::new(cond), &boxes);
+    let same = agree(points, &s, &TreeIndexical::new(cond), &boxes, steps);
     let any = AnyIndexical::<K>::from_cond(apart_tree(alloc, K, leaves)?);
     Ok(same && any.has_boxes())
+}
+
+/// Whether they agree in one to four dimensions.
+fn agree_with<L: Ledger>(
+    blank: Blank,
+    alloc: Global,
+    leaves: (bool, bool),
+) -> Result<bool, AllocError>
+    requires name { blank.name ≡ L.name }
+    requires parts { blank.parts ≡ L.parts }
+    requires some { 0 < blank.parts }
+{
+    let mut steps = Steps::<L>::new(blank);
+    Ok(
+        agree_in::<L, 1>(alloc, 4, leaves, &mut steps)?
+            && agree_in::<L, 2>(alloc, 16, leaves, &mut steps)?
+            && agree_in::<L, 3>(alloc, 64, leaves, &mut steps)?
+            && agree_in::<L, 4>(alloc, 256, leaves, &mut steps)?,
+    )
+}
+
+fn tree_agrees(alloc: Global, leaves: (bool, bool)) -> Result<bool, AllocError> {
+    agree_with::<Brand>(Blank::new(1), alloc, leaves)
 }
 
 /// Each condition is tried with and without leaves.
 #[test]
 fn tree_and_boxes_agree(rt: HostRuntime) -> Result<(), Fail> {
-    for leaves in [(false, false), (true, false), (false, true), (true, true)] {
-        assert!(rt; agree_in::<1>(rt.alloc(), 4, leaves)?);
-        assert!(rt; agree_in::<2>(rt.alloc(), 16, leaves)?);
-        assert!(rt; agree_in::<3>(rt.alloc(), 64, leaves)?);
-        assert!(rt; agree_in::<4>(rt.alloc(), 256, leaves)?);
-    }
+    assert!(rt; tree_agrees(rt.alloc(), (false, false))?);
+    assert!(rt; tree_agrees(rt.alloc(), (true, false))?);
+    assert!(rt; tree_agrees(rt.alloc(), (false, true))?);
+    assert!(rt; tree_agrees(rt.alloc(), (true, true))?);
     Ok(())
 }

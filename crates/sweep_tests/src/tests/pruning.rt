@@ -108,26 +108,26 @@ fn is_open(s: &State<1>, o: ObjId, range: (i64, i64), shapes: [bool; 3]) -> bool
         && s.has_shape(o, 3) == shapes[2]
 }
 
-/// An event of a pruning in numbers.
-fn numbers(e: Event) -> [i64; 4] {
-    match e {
-        Event::Drop(o, s) => [1, i64::from(o.0), i64::from(s), 0],
-        Event::Raise(o, d, v) => [2, i64::from(o.0), d as i64, v],
-        Event::Lower(o, d, v) => [3, i64::from(o.0), d as i64, v],
-        Event::Gone(o) => [4, i64::from(o.0), 0, 0],
-        Event::Cover(s) => [5, i64::from(s), 0, 0],
-        Event::EndCovers => [6, 0, 0, 0],
-        Event::By(i) => [7, i64::from(i), 0, 0],
-        Event::Cut(d, v) => [8, d as i64, v, 0],
-        Event::CutFrom(d, v) => [9, d as i64, v, 0],
-        _ => [0; 4],
+/// Whether both are the same event of a pruning.
+fn is_same(a: &Event, b: &Event) -> bool {
+    match (*a, *b) {
+        (Event::Drop(o, s), Event::Drop(u, r)) => o == u && s == r,
+        (Event::Raise(o, d, v), Event::Raise(u, e, w)) => o == u && d == e && v == w,
+        (Event::Lower(o, d, v), Event::Lower(u, e, w)) => o == u && d == e && v == w,
+        (Event::Gone(o), Event::Gone(u)) => o == u,
+        (Event::Cover(s), Event::Cover(r)) => s == r,
+        (Event::EndCovers, Event::EndCovers) => true,
+        (Event::By(i), Event::By(j)) => i == j,
+        (Event::Cut(d, v), Event::Cut(e, w)) => d == e && v == w,
+        (Event::CutFrom(d, v), Event::CutFrom(e, w)) => d == e && v == w,
+        _ => false,
     }
 }
 
 /// Whether the events are those that are wanted, and no others.
 fn are_same(events: &[Event], wanted: &[Event]) -> bool {
     for (event, other) in events.iter().zip(wanted) {
-        if numbers(*event) != numbers(*other) {
+        if !is_same(event, other) {
             return false;
         }
     }

@@ -1,6 +1,6 @@
 //! The sweep over conditions that are met by their trees.
 
-ghost use Rattle.std.specs.Prelude.{map, IfOk};
+ghost use Rattle.std.specs.Prelude.{◌≡◌, ◌<◌, map, IfOk};
 ghost use Rattle.geo_base.specs.Ways.{IsSmall};
 ghost use Rattle.geo_conditions.specs.Conditions.{AllFit};
 
@@ -8,10 +8,12 @@ use super::ask::swept;
 use super::literals::Literal::{AtLeast, AtMost, SumAtLeast};
 use super::literals::{Literal, one_object, some_of};
 use derivation::{Event, Log, NoRecord, Recorder};
-use geo_base::{KBox, Point, Way};
+use geo_base::{KBox, Point, Steps, Way};
 use geo_conditions::{Cond, State, fits};
 use indexical::TreeIndexical;
 use std::alloc::{AllocError, Global};
+use std::marker::Brand;
+use std::sync::ledger::{Blank, Ledger};
 use std::test::Fail;
 
 /// A corner within the limits.
@@ -55,22 +57,30 @@ fn pair(p: Option<Point<2>>) -> Option<(i64, i64)> {
     }
 }
 
-/// Whether a sweep of a region by those conditions finds that point, with a record of the events and without one.
-fn finds(
+fn finds_with<L: Ledger>(
+    blank: Blank,
     alloc: Global,
-    rows: &[&[Literal]],
-    (low, high): ((i8, i8), (i8, i8)),
-    up: bool,
-    point: Option<(i64, i64)>,
+    row: &Row,
     log: &mut Log,
-) -> Result<bool, AllocError> {
+) -> Result<bool, AllocError>
+    requires name { blank.name ≡ L.name }
+    requires parts { blank.parts ≡ L.parts }
+    requires some { 0 < blank.parts }
+{
+    let (rows, (low, high), up, point) = *row;
+    let mut steps = Steps::<L>::new(blank);
     let region = KBox::new(corner(low.0, low.1), corner(high.0, high.1));
     let s = one_object(alloc, region)?;
     let list = conditions(alloc, rows, &s)?;
     let way = Way::new(0, up);
-    let with_log = pair(swept(&s, &region, list.as_slice(), &way, log)?);
-    let without = pair(swept(&s, &region, list.as_slice(), &way, &mut NoRecord::new())?);
+    let with_log = pair(swept(&s, &region, &list, &way, log, &mut steps)?);
+    let without = pair(swept(&s, &region, &list, &way, &mut NoRecord::new(), &mut steps)?);
     Ok(list.len() == rows.len() && with_log == point && without == point)
+}
+
+/// Whether the sweep of a row finds its point, with a record of the events and without one.
+fn finds(alloc: Global, row: &Row, log: &mut Log) -> Result<bool, AllocError> {
+    finds_with::<Brand>(Blank::new(1), alloc, row, log)
 }
 
 const FLAT: ((i8, i8), (i8, i8)) = ((0, 0), (3, 1));
@@ -123,9 +133,8 @@ const ROWS: &[Row] = &[
 
 #[test]
 fn the_first_point(rt: HostRuntime) -> Result<(), Fail> {
-    for (rows, region, up, point) in ROWS {
-        let mut log = Log::new(rt.alloc());
-        assert!(rt; finds(rt.alloc(), rows, *region, *up, *point, &mut log)?);
+    for row in ROWS {
+        assert!(rt; finds(rt.alloc(), row, &mut Log::new(rt.alloc()))?);
     }
     Ok(())
 }
@@ -142,8 +151,8 @@ const EMPTY: &[Row] = &[
 fn one_event_covers_an_empty_part(rt: HostRuntime) -> Result<(), Fail> {
     let mut log = Log::new(rt.alloc());
     log.add(Event::Dead(7))?;
-    for (rows, region, up, point) in EMPTY {
-        assert!(rt; finds(rt.alloc(), rows, *region, *up, *point, &mut log)?);
+    for row in EMPTY {
+        assert!(rt; finds(rt.alloc(), row, &mut log)?);
         assert!(rt; matches!(log.events().last(), Some(Event::By(1))));
     }
     assert!(rt; log.events().len() == 4);

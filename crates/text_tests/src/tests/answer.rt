@@ -71,10 +71,13 @@ fn expression(alloc: Global, text: &[u8]) -> Result<String, TextFault> {
     Ok(format!(in alloc; "{expression:?} {behind}")?)
 }
 
-/// A text of bytes; nothing where it is none.
+/// A text of bytes that are all ASCII.
 fn text_of(alloc: Global, bytes: &[u8]) -> Result<String, TextFault> {
-    let text = str::from_utf8(bytes).unwrap_or("");
-    Ok(String::from_str(alloc, text)?)
+    let mut text = String::new(alloc);
+    for byte in bytes {
+        text.push(char::from(*byte))?;
+    }
+    Ok(text)
 }
 
 fn canonical(alloc: Global, text: &[u8]) -> Result<String, TextFault> {

@@ -3,6 +3,7 @@ use Rattle.std.proofs.lemmas.Bool.{false≢true}
 use Rattle.geo_conditions.specs.declared.cond.Cond.{Cond}
 use Rattle.trail_search.specs.Walker.{Position, SameWalk, Searches, IsReady}
 use Rattle.trail_search.proofs.Resuming.{walks_from, ready_before, ready_after, resumed_ended}
+use Rattle.derivation.proofs.Continuing.{growth_none}
 use Rattle.trail_search.proofs.walk.go_on.Goals as goal
 use Rattle.trail_search.proofs.walk.go_on.Goals.{else-found-via-then-found+else-not-retreat, else-found-via-else-found}
 
@@ -27,3 +28,12 @@ returns-clause-walks g c = λ r.
           (subst (SameWalk p) (sym w.walker-is) (record { first = refl; variables = refl; token = refl }), (t.0, t.1, subst (λ (q : Position). Searches cs q t.0) (sym w.walker-is) t.2))
     ] in
     (ready.1.0, ready.1.1, walks_from cs c.args.budget p c.else-found.walker ready.1.0 c.walk.result c.walk.new.walker ready.0 (c.walk.ensures.walks ready.1.0 ready.1.2))
+
+pub returns-then-is_bare-clause-grows : goal.returns-then-is_bare-clause-grows
+returns-then-is_bare-clause-grows g c = c.walk_empty.ensures.grows
+
+pub returns-then-not-retreat-clause-grows : goal.returns-then-not-retreat-clause-grows
+returns-then-not-retreat-clause-grows g c = growth_none _ _ _
+
+pub returns-clause-grows : goal.returns-clause-grows
+returns-clause-grows g c = c.walk.ensures.grows

@@ -5,7 +5,7 @@ use Rattle.std.proofs.lemmas.Bool.{false≢true}
 use Rattle.geo_conditions.specs.declared.cond.Cond.{Cond}
 use Rattle.geo_conditions.specs.Conditions.{FitsIn}
 use Rattle.geo_conditions.specs.Walk.{IsFirstValue, object_of}
-use Rattle.derivation.proofs.Continuing.{continues_same, continues_on}
+use Rattle.derivation.proofs.Continuing.{growth_none, growth_on, growth_err, growth_succeeded}
 use Rattle.geo_state.specs.declared.propagate.Settled.{Settled}
 use Rattle.geo_state.specs.declared.propagate.Settled.TheVariants.{Kept, Dead}
 use Rattle.geo_state.proofs.Numbers.{kept64}
@@ -17,7 +17,7 @@ use Rattle.trail_search.proofs.Loop.{loop_start, loop_dead, loop_ended, loop_bud
 use Rattle.trail_search.proofs.walk.walk.Goals as goal
 
 pub loop-walker-init : goal.loop-walker-init
-loop-walker-init g c = (loop_start g.row.K (g.P.Propagate.conditions c.args.prop.now) c.args.budget c.args.walker.now c.requires.well c.requires.count c.requires.open, refl, refl, omega arith, λ k. continues_same _ _ refl)
+loop-walker-init g c = (loop_start g.row.K (g.P.Propagate.conditions c.args.prop.now) c.args.budget c.args.walker.now c.requires.well c.requires.count c.requires.open, refl, refl, growth_none _ _ _)
 
 pub returns-then-not-retreat-clause-walks : goal.returns-then-not-retreat-clause-walks
 returns-then-not-retreat-clause-walks g c =
@@ -34,8 +34,7 @@ loop-walker-preserved-else-not-retreat g c =
       loop_dead g.row.K cs c.args.budget c.args.walker.now c.loop-walker.walker c.settle.new.self c.retreat.new.self i.0 d c.settle.ensures.same c.settle.ensures.walked c.settle.ensures.depth c.retreat.ensures.well c.retreat.ensures.same c.retreat.ensures.walked (c.retreat.ensures.depth c.if-not-retreat.false) (c.retreat.ensures.searches c.if-not-retreat.false),
       c.settle.ensures.conditions ∙ i.1,
       c.settle.ensures.number ∙ i.2,
-      omega (arith, i.3, c.settle.ensures.refusals),
-      λ k. continues_on _ _ _ (i.4 k) (c.settle.ensures.events k),
+      growth_on i.3 c.in-Ok-Dead.ensures.grows,
     )
 
 pub first_value-u-requires : goal.first_value-u-requires
@@ -62,9 +61,6 @@ record_split-requires g c =
     let o : object_of x < length s.trail.state = omega (arith, a, w.inside.objects) in
     (omega arith, (c.requires.k, (o, (fact_at (HasDimension g.row.K) s.variables (depth s) x w.dimensions n c.variable-x.ensures, subst (IsValueOf x) (sym (kept64 c.first_value-u.result c.first_value-u.type_inv)) c.first_value-u.ensures.fits))))
 
-pub returns-then-count-budget-clause-events : goal.returns-then-count-budget-clause-events
-returns-then-count-budget-clause-events g c = λ k. continues_on _ _ _ (c.loop-walker.invariant.4 k) (c.settle.ensures.events k)
-
 pub returns-then-count-budget-clause-walks : goal.returns-then-count-budget-clause-walks
 returns-then-count-budget-clause-walks g c =
     let i = c.loop-walker.invariant in
@@ -73,12 +69,6 @@ returns-then-count-budget-clause-walks g c =
     let d = kept_as (g.P.Propagate.conditions c.loop-walker.prop) cs c.loop-walker.walker s c.settle.result c.in-Ok-Kept.field-0 c.settle.ensures.settled c.in-Ok-Kept.is c.in-Ok-Kept.field-0-is i.1 in
     let n : depth s < length s.variables = omega (arith, c.settle.ensures.depth, i.0.below, ap length c.settle.ensures.same.variables) in
     loop_budget g.row.K cs c.args.budget c.args.walker.now c.loop-walker.walker s (variable_of c.variable-x.result) c.first_value-u.result i.0 d c.settle.ensures.same c.settle.ensures.well n c.variable-x.ensures c.first_value-u.ensures.first (sym c.count.ensures ∙ c.if-count-budget.true)
-
-pub returns-then-is_err-clause-events : goal.returns-then-is_err-clause-events
-returns-then-is_err-clause-events g c = λ k. continues_on _ _ _ (continues_on _ _ _ (c.loop-walker.invariant.4 k) (c.settle.ensures.events k)) (c.record_split.ensures.events k)
-
-pub returns-then-is_full-clause-events : goal.returns-then-is_full-clause-events
-returns-then-is_full-clause-events g c = λ k. continues_on _ _ _ (continues_on _ _ _ (c.loop-walker.invariant.4 k) (c.settle.ensures.events k)) (c.record_split.ensures.events k)
 
 pub returns-then-is_full-clause-walks : goal.returns-then-is_full-clause-walks
 returns-then-is_full-clause-walks g c =
@@ -104,6 +94,20 @@ loop-walker-preserved g c =
       loop_visit g.row.K cs c.args.budget c.args.walker.now c.loop-walker.walker s r _ i.0 d c.settle.ensures.same c.settle.ensures.walked (λ e. c.if-count-budget.false (c.count.ensures ∙ e)) c.descend.ensures.well c.descend.ensures.same c.descend.ensures.walked c.descend.ensures.path (λ e. false≢true (sym c.if-is_full.false ∙ c.is_full.ensures.1 e)) c.descend.ensures.searches,
       c.settle.ensures.conditions ∙ i.1,
       c.settle.ensures.number ∙ i.2,
-      omega (arith, i.3, c.settle.ensures.refusals, c.record_split.ensures.refusals),
-      λ k. continues_on _ _ _ (continues_on _ _ _ (i.4 k) (c.settle.ensures.events k)) (c.record_split.ensures.events k),
+      growth_on (growth_on i.3 c.in-Ok-Kept.ensures.grows) (growth_succeeded _ c.record_split.ensures.grows (sym c.is_err.ensures.value ∙ c.if-is_err.false)),
     )
+
+pub returns-in-Err-clause-grows : goal.returns-in-Err-clause-grows
+returns-in-Err-clause-grows g c = growth_on c.loop-walker.invariant.3 c.in-Err.ensures.grows
+
+pub returns-then-not-retreat-clause-grows : goal.returns-then-not-retreat-clause-grows
+returns-then-not-retreat-clause-grows g c = growth_on c.loop-walker.invariant.3 c.in-Ok-Dead.ensures.grows
+
+pub returns-then-count-budget-clause-grows : goal.returns-then-count-budget-clause-grows
+returns-then-count-budget-clause-grows g c = growth_on c.loop-walker.invariant.3 c.in-Ok-Kept.ensures.grows
+
+pub returns-then-is_err-clause-grows : goal.returns-then-is_err-clause-grows
+returns-then-is_err-clause-grows g c = growth_on (growth_on c.loop-walker.invariant.3 c.in-Ok-Kept.ensures.grows) (growth_err _ c.record_split.ensures.grows (sym c.is_err.ensures.value ∙ c.if-is_err.true))
+
+pub returns-then-is_full-clause-grows : goal.returns-then-is_full-clause-grows
+returns-then-is_full-clause-grows g c = growth_on (growth_on c.loop-walker.invariant.3 c.in-Ok-Kept.ensures.grows) (growth_succeeded _ c.record_split.ensures.grows (sym c.is_err.ensures.value ∙ c.if-is_err.false))

@@ -1,5 +1,5 @@
 use Rattle.std.proofs.Common.{◌≡◌, ◌+◌, ◌*◌, ◌-◌, ◌≤◌, true, length}
-use Rattle.derivation.specs.Events.{Continues}
+use Rattle.derivation.specs.Events.{HasGrown}
 use Rattle.trail_search.specs.Walker.{Walking, depth}
 use Rattle.trail_search.proofs.walk.walk.Given as goal
 
@@ -8,8 +8,7 @@ invariant-loop-walker g l =
     Walking g.row.K (g.P.Propagate.conditions l.fn.prop) l.budget l.fn.walker l.walker
     × (g.P.Propagate.conditions l.prop ≡ g.P.Propagate.conditions l.fn.prop)
     × (g.P.Propagate.objects l.prop ≡ g.P.Propagate.objects l.fn.prop)
-    × (g.R.Recorder.refusals l.fn.rec ≤ g.R.Recorder.refusals l.rec)
-    × (g.R.Recorder.keeps ≡ true → Continues (g.R.Recorder.list l.fn.rec) (g.R.Recorder.list l.rec))
+    × HasGrown g.R.Recorder.keeps g.R.Recorder.list g.R.Recorder.refusals l.fn.rec l.rec
 
 abbrev pub decreases-loop-walker : goal.decreases-loop-walker
 decreases-loop-walker g l = (l.budget - l.walker.walked) * (length l.walker.variables + 2) + depth l.walker

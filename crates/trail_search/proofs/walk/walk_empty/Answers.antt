@@ -11,6 +11,7 @@ use Rattle.trail_search.specs.Walker.{IsReady}
 use Rattle.trail_search.proofs.Walking.{same_trans}
 use Rattle.trail_search.proofs.Standing.{well_settled}
 use Rattle.trail_search.proofs.Bare.{settled_dead, settled_kept, no_token, bare_after_found, bare_after_token, bare_dead, bare_kept, bare_budget, bare_found}
+use Rattle.derivation.proofs.Continuing.{growth_none}
 use Rattle.trail_search.proofs.walk.walk_empty.Goals as goal
 
 pub returns-then-found-clause-walks : goal.returns-then-found-clause-walks
@@ -52,3 +53,21 @@ returns-else-count-budget-clause-walks g c = λ r.
     (well_settled g.row.K c.settle.new.self q c.settle.ensures.well c.visit_empty.ensures.same (ap (λ (t : Trail). t.levels) e) (ap (λ (t : Trail). t.restores) e) c.visit_empty.ensures.values (subst (λ (S : State). Inside S c.settle.new.self.trail.state) (sym (ap (λ (t : Trail). t.state) e)) (inside_self c.settle.new.self.trail.state)))
     (c.visit_empty.ensures.walked ∙ ap (λ (m : ℕ). m + 1) c.settle.ensures.walked)
     (omega (arith, c.requires.count, c.count.ensures, c.settle.ensures.walked, c.if-count-budget.false))
+
+pub returns-then-found-clause-grows : goal.returns-then-found-clause-grows
+returns-then-found-clause-grows g c = growth_none _ _ _
+
+pub returns-then-has_token-clause-grows : goal.returns-then-has_token-clause-grows
+returns-then-has_token-clause-grows g c = growth_none _ _ _
+
+pub returns-in-Err-clause-grows : goal.returns-in-Err-clause-grows
+returns-in-Err-clause-grows g c = c.in-Err.ensures.grows
+
+pub returns-in-Ok-Dead-clause-grows : goal.returns-in-Ok-Dead-clause-grows
+returns-in-Ok-Dead-clause-grows g c = c.in-Ok-Dead.ensures.grows
+
+pub returns-then-count-budget-clause-grows : goal.returns-then-count-budget-clause-grows
+returns-then-count-budget-clause-grows g c = c.in-Ok-Kept.ensures.grows
+
+pub returns-else-count-budget-clause-grows : goal.returns-else-count-budget-clause-grows
+returns-else-count-budget-clause-grows g c = c.in-Ok-Kept.ensures.grows

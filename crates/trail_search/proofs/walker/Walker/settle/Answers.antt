@@ -38,3 +38,6 @@ returns-clause-well g c =
     (c.settle.ensures.levels.1 ∙ ap (λ (q : Position). q.trail.restores) c.self.view_is)
     (ap (λ (q : Position). q.values) c.self.view_is)
     (settles_inside cs p.trail.state c.settle.new.t.state c.settle.result h)
+
+pub returns-clause-grows : goal.returns-clause-grows
+returns-clause-grows g c = c.settle.ensures.grows

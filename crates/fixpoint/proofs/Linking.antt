@@ -1,0 +1,425 @@
+-- The lists that link conditions and objects.
+use Rattle.std.proofs.Common.{◌≡◌, ◌≢◌, ◌⊎◌, ◌||◌, ◌&&◌, not, ℕ, zero, suc, ◌+◌, ◌-◌, ◌<◌, ◌≤◌, Bool, true, false, List, [], ◌∷◌, ◌++◌, length, set, get_or, refl, sym, ap, ◌∙◌, subst, inl, inr, arith, Some, slice_index, eq-eqb, eqb-true}
+use Rattle.std.specs.Prelude.{slice_get, nat_eq}
+use Rattle.std.specs.List.{All, list_any}
+use Rattle.std.proofs.lemmas.Bool.{false≢true, or_cases, cases_eq}
+use Rattle.std.proofs.lemmas.List.{get_or-set_same, get_or-set_other}
+use Rattle.std.proofs.Math.ListN.{length-set}
+use Rattle.std.proofs.lemmas.List.Folds.{list_any-append}
+use Rattle.std.proofs.lemmas.List.Elements.{All-append}
+use Rattle.std.proofs.lemmas.Option.{slice_get-get_or}
+use Rattle.geo_conditions.specs.declared.cond.Cond.{Cond}
+use Rattle.geo_conditions.specs.Reach.{State, reach}
+use Rattle.indexical.specs.Names.{names}
+use Rattle.sweep.specs.Picks.{ArePicks, picked}
+use Rattle.sweep.proofs.PickedConditions.{picked_at, pick_in}
+use Rattle.std.specs.declared.vec.Vec.{Vec}
+use Rattle.std.specs.declared.alloc.Global.{Global}
+use Rattle.geo_conditions.specs.declared.object.ObjId.{ObjId}
+use Rattle.fixpoint.specs.declared.links.Links.{Links}
+use Rattle.fixpoint.specs.Near.{AreApart}
+use Rattle.fixpoint.specs.Queue.{Marks, Touches, CatchesUp}
+use Rattle.fixpoint.specs.Links.{NumbersOf, PicksOf, names_none, is_among, NamedBy, row, AreLinks, put_where, Numbers}
+
+-- the place of a number that is there
+pub index_of : (i : ℕ) (xs : List ℕ) → list_any (nat_eq i) xs ≡ true → (k : ℕ) × (k < length xs) × (slice_index xs k ≡ i)
+index_of i [] e = absurd (false≢true e)
+index_of i (x ∷ xs) e = elim (or_cases (nat_eq i x) (list_any (nat_eq i) xs) e) [
+  | inl q ↦ (0, omega arith, sym (eqb-true i x q))
+  | inr r ↦ let w = index_of i xs r in (suc w.0, omega (arith, w.1), w.2)
+]
+
+-- what holds of all that is picked holds of each condition that meets the test
+pub numbers_all : (P : Cond → Type 0) (test : Cond → Bool) (cs : List Cond) (numbers : List ℕ) → NumbersOf test cs (length cs) numbers → All P (picked cs numbers) → All (λ c. test c ≡ true → P c) cs
+numbers_all P test cs numbers p a i d h n =
+    let w = index_of (suc i) numbers (p.each i d h ∙ n) in
+    let e : slice_index numbers w.0 - 1 ≡ i = omega (arith, w.2) in
+    picked_at P cs numbers w.0 (get_or cs i d) a (w.1, subst (λ (j : ℕ). slice_get cs j ≡ Some (get_or cs i d)) (sym e) (slice_get-get_or cs i d h))
+
+pub named_all : (P : Cond → Type 0) (cs : List Cond) (o : ℕ) (picks : List ℕ) → PicksOf cs o picks → All P (picked cs picks) → All (λ c. names o c ≡ true → P c) cs
+named_all P cs o picks p a = numbers_all P (names o) cs picks p a
+
+-- ---- lists of lists
+
+pub row_get : {X : Type 0} (vs : List (Vec X Global)) (i : ℕ) (d : Vec X Global) → i < length vs → row vs i ≡ (get_or vs i d).items
+row_get [] i d h = absurd (omega arith)
+row_get (v ∷ vs) zero d h = refl
+row_get (v ∷ vs) (suc i) d h = row_get vs i d (omega arith)
+
+pub row_before : {X : Type 0} (vs : List (Vec X Global)) (v : Vec X Global) (i : ℕ) → i < length vs → row (vs ++ v ∷ []) i ≡ row vs i
+row_before [] v i h = absurd (omega arith)
+row_before (w ∷ vs) v zero h = refl
+row_before (w ∷ vs) v (suc i) h = row_before vs v i (omega arith)
+
+pub row_last : {X : Type 0} (vs : List (Vec X Global)) (v : Vec X Global) → row (vs ++ v ∷ []) (length vs) ≡ v.items
+row_last [] v = refl
+row_last (w ∷ vs) v = row_last vs v
+
+-- one empty list more
+pub row_empty : {X : Type 0} (vs : List (Vec X Global)) (v : Vec X Global) → v.items ≡ [] → ((i : ℕ) → row vs i ≡ []) → (i : ℕ) → row (vs ++ v ∷ []) i ≡ []
+row_empty [] v e f zero = e
+row_empty [] v e f (suc i) = refl
+row_empty (w ∷ vs) v e f zero = f 0
+row_empty (w ∷ vs) v e f (suc i) = row_empty vs v e (λ j. f (suc j)) i
+
+pub row_set_same : {X : Type 0} (vs : List (Vec X Global)) (i : ℕ) (v : Vec X Global) → i < length vs → row (set vs i v) i ≡ v.items
+row_set_same [] i v h = absurd (omega arith)
+row_set_same (w ∷ vs) zero v h = refl
+row_set_same (w ∷ vs) (suc i) v h = row_set_same vs i v (omega arith)
+
+pub row_set_other : {X : Type 0} (vs : List (Vec X Global)) (i j : ℕ) (v : Vec X Global) → (j ≡ i → ⊥) → row (set vs i v) j ≡ row vs j
+row_set_other [] i j v n = refl
+row_set_other (w ∷ vs) zero zero v n = absurd (n refl)
+row_set_other (w ∷ vs) zero (suc j) v n = refl
+row_set_other (w ∷ vs) (suc i) zero v n = refl
+row_set_other (w ∷ vs) (suc i) (suc j) v n = row_set_other vs i j v (λ e. n (ap suc e))
+
+pub length_more : {X : Type 0} (xs : List X) (x : X) → length (xs ++ x ∷ []) ≡ length xs + 1
+length_more [] x = refl
+length_more (y ∷ xs) x = let e = length_more xs x in omega (arith, e)
+
+-- ---- numbers of conditions
+
+pub numbers_start : (test : Cond → Bool) (cs : List Cond) → NumbersOf test cs 0 []
+numbers_start test cs = record { within = λ k d h. absurd (omega arith); each = λ i d h. absurd (omega arith) }
+
+nat_eq_other : (a b : ℕ) → (a ≡ b → ⊥) → nat_eq a b ≡ false
+nat_eq_other a b n = by_test (nat_eq a b) refl
+  where
+    by_test : (t : Bool) → nat_eq a b ≡ t → nat_eq a b ≡ false
+    by_test true e = absurd (n (eqb-true a b e))
+    by_test false e = e
+
+-- a number past all picks is none of them
+past_picks : (n : ℕ) (picks : List ℕ) → ArePicks n picks → list_any (nat_eq (suc n)) picks ≡ false
+past_picks n [] a = refl
+past_picks n (x ∷ picks) a =
+    let h = a 0 0 (omega arith) in
+    let e : nat_eq (suc n) x ≡ false = nat_eq_other (suc n) x (λ q. absurd (omega (arith, h.0, h.1, q))) in
+    ap (λ (b : Bool). b || list_any (nat_eq (suc n)) picks) e ∙ past_picks n picks (λ k d b. a (suc k) d (omega (arith, b)))
+
+wider_picks : (n : ℕ) (picks : List ℕ) → ArePicks n picks → ArePicks (n + 1) picks
+wider_picks n picks a k d h = let b = a k d h in (b.0, omega (arith, b.1))
+
+or_false : (b : Bool) → (b || false) ≡ b
+or_false true = refl
+or_false false = refl
+
+numbers_skip : (test : Cond → Bool) (cs : List Cond) (n : ℕ) (numbers : List ℕ) → NumbersOf test cs n numbers → ((d : Cond) → test (get_or cs n d) ≡ false) → NumbersOf test cs (n + 1) numbers
+numbers_skip test cs n numbers p f = record {
+  within = wider_picks n numbers p.within;
+  each = λ i d h. elim (cases_eq i n) [
+    | inl e ↦ subst (λ (j : ℕ). list_any (nat_eq (suc j)) numbers ≡ test (get_or cs j d)) (sym e) (past_picks n numbers p.within ∙ sym (f d))
+    | inr ne ↦ p.each i d (omega arith)
+  ];
+}
+
+numbers_more : (test : Cond → Bool) (cs : List Cond) (n : ℕ) (numbers : List ℕ) → NumbersOf test cs n numbers → ((d : Cond) → test (get_or cs n d) ≡ true) → NumbersOf test cs (n + 1) (numbers ++ suc n ∷ [])
+numbers_more test cs n numbers p t = record {
+  within = All-append (λ i. (0 < i) × (i - 1 < n + 1)) numbers (suc n ∷ []) (wider_picks n numbers p.within) one;
+  each = λ i d h. elim (cases_eq i n) [
+    | inl e ↦ subst (λ (j : ℕ). list_any (nat_eq (suc j)) (numbers ++ suc n ∷ []) ≡ test (get_or cs j d)) (sym e)
+        (list_any-append (nat_eq (suc n)) numbers (suc n ∷ []) ∙ ap (λ (b : Bool). b || list_any (nat_eq (suc n)) (suc n ∷ [])) (past_picks n numbers p.within) ∙ or_false (nat_eq (suc n) (suc n)) ∙ eq-eqb (suc n) (suc n) refl ∙ sym (t d))
+    | inr ne ↦ list_any-append (nat_eq (suc i)) numbers (suc n ∷ []) ∙ ap (λ (b : Bool). list_any (nat_eq (suc i)) numbers || (b || false)) (nat_eq_other (suc i) (suc n) (λ q. ne (omega (arith, q)))) ∙ or_false (list_any (nat_eq (suc i)) numbers) ∙ p.each i d (omega arith)
+  ];
+}
+  where
+    one : All (λ i. (0 < i) × (i - 1 < n + 1)) (suc n ∷ [])
+    one zero d h = (omega arith, omega arith)
+    one (suc k) d h = absurd (omega arith)
+
+-- one condition more
+pub numbers_put : (test : Cond → Bool) (cs : List Cond) (n : ℕ) (numbers : List ℕ) (b : Bool) → NumbersOf test cs n numbers → ((d : Cond) → test (get_or cs n d) ≡ b) → NumbersOf test cs (n + 1) (put_where b (n + 1) numbers)
+numbers_put test cs n numbers false p f = numbers_skip test cs n numbers p f
+numbers_put test cs n numbers true p f =
+    let e : suc n ≡ n + 1 = omega arith in
+    subst (λ (m : ℕ). NumbersOf test cs (n + 1) (numbers ++ m ∷ [])) e (numbers_more test cs n numbers p f)
+
+-- ---- the objects that a condition names
+
+pub named_start : (c : Cond) → NamedBy c 0 []
+named_start c = record { below = λ k d h. absurd (omega arith); each = λ o h. absurd (omega arith) }
+
+past_named : (n : ℕ) (list : List ObjId) → All (λ u. u.0 < n) list → is_among n list ≡ false
+past_named n [] a = refl
+past_named n (u ∷ list) a =
+    let h : u.0 < n = a 0 u (omega arith) in
+    ap (λ (b : Bool). b || is_among n list) (nat_eq_other u.0 n (λ q. absurd (omega (arith, h, q)))) ∙ past_named n list (λ k d b. a (suc k) d (omega (arith, b)))
+
+wider_named : (n : ℕ) (list : List ObjId) → All (λ u. u.0 < n) list → All (λ u. u.0 < n + 1) list
+wider_named n list a k d h = let b = a k d h in omega (arith, b)
+
+pub named_skip : (c : Cond) (n : ℕ) (list : List ObjId) → NamedBy c n list → names n c ≡ false → NamedBy c (n + 1) list
+named_skip c n list p f = record {
+  below = wider_named n list p.below;
+  each = λ o h. elim (cases_eq o n) [
+    | inl e ↦ subst (λ (j : ℕ). is_among j list ≡ names j c) (sym e) (past_named n list p.below ∙ sym f)
+    | inr ne ↦ p.each o (omega arith)
+  ];
+}
+
+pub named_more : (c : Cond) (n : ℕ) (list : List ObjId) (u : ObjId) → u.0 ≡ n → NamedBy c n list → names n c ≡ true → NamedBy c (n + 1) (list ++ u ∷ [])
+named_more c n list u q p t = record {
+  below = All-append (λ v. v.0 < n + 1) list (u ∷ []) (wider_named n list p.below) one;
+  each = λ o h. elim (cases_eq o n) [
+    | inl e ↦ subst (λ (j : ℕ). is_among j (list ++ u ∷ []) ≡ names j c) (sym e)
+        (list_any-append (λ (v : ObjId). nat_eq v.0 n) list (u ∷ []) ∙ ap (λ (b : Bool). b || (nat_eq u.0 n || false)) (past_named n list p.below) ∙ or_false (nat_eq u.0 n) ∙ eq-eqb u.0 n q ∙ sym t)
+    | inr ne ↦ list_any-append (λ (v : ObjId). nat_eq v.0 o) list (u ∷ []) ∙ ap (λ (b : Bool). is_among o list || (b || false)) (nat_eq_other u.0 o (λ r. ne (sym r ∙ q))) ∙ or_false (is_among o list) ∙ p.each o (omega arith)
+  ];
+}
+  where
+    one : All (λ v. v.0 < n + 1) (u ∷ [])
+    one zero d h = omega (arith, q)
+    one (suc k) d h = absurd (omega arith)
+
+pub none_named : (c : Cond) (n : ℕ) → ((o : ℕ) → o < n → names o c ≡ false) → names_none n c ≡ true
+none_named c zero f = refl
+none_named c (suc n) f = ap (λ (b : Bool). not b && names_none n c) (f n (omega arith)) ∙ none_named c n (λ o h. f o (omega arith))
+
+and_false : (b : Bool) → (b && false) ≡ false
+and_false true = refl
+and_false false = refl
+
+one_named : (c : Cond) (n o : ℕ) → o < n → names o c ≡ true → names_none n c ≡ false
+one_named c zero o h e = absurd (omega arith)
+one_named c (suc n) o h e = elim (cases_eq o n) [
+  | inl q ↦ ap (λ (b : Bool). not b && names_none n c) (subst (λ (v : ℕ). names v c ≡ true) q e)
+  | inr ne ↦ ap (λ (b : Bool). not (names n c) && b) (one_named c n o (omega arith) e) ∙ and_false (not (names n c))
+]
+
+-- a condition that names no object, by its list
+pub named_empty : (c : Cond) (n : ℕ) (list : List ObjId) → NamedBy c n list → names_none n c ≡ nat_eq (length list) 0
+named_empty c n [] k = none_named c n (λ o h. sym (k.each o h))
+named_empty c n (u ∷ list) k =
+    let h : u.0 < n = k.below 0 u (omega arith) in
+    one_named c n u.0 h (sym (k.each u.0 h) ∙ ap (λ (b : Bool). b || is_among u.0 list) (eq-eqb u.0 u.0 refl)) ∙ sym (nat_eq_other (suc (length list)) 0 (λ e. absurd (omega arith)))
+
+-- ---- the loops that make the lists
+
+-- the objects below o are linked with the condition of the number k
+pub record LinkedBelow (c : Cond) (k o : ℕ) (list : List ObjId) (old new : List (Vec ℕ Global)) : Type 0 where
+  pub named : NamedBy c o list
+  pub objects : length new ≡ length old
+  pub done : (u : ℕ) → u < o → row new u ≡ put_where (names u c) k (row old u)
+  pub left : (u : ℕ) → o ≤ u → row new u ≡ row old u
+
+pub linked_start : (c : Cond) (k : ℕ) (old : List (Vec ℕ Global)) → LinkedBelow c k 0 [] old old
+linked_start c k old = record { named = named_start c; objects = refl; done = λ u h. absurd (omega arith); left = λ u h. refl }
+
+pub linked_skip : (c : Cond) (k o : ℕ) (named : List ObjId) (old new : List (Vec ℕ Global)) → LinkedBelow c k o named old new → names o c ≡ false → LinkedBelow c k (o + 1) named old new
+linked_skip c k o named old new l f = record {
+  named = named_skip c o named l.named f;
+  objects = l.objects;
+  done = λ u h. elim (cases_eq u o) [
+    | inl e ↦ l.left u (omega arith) ∙ sym (ap (λ (b : Bool). put_where b k (row old u)) (subst (λ (v : ℕ). names v c ≡ false) (sym e) f))
+    | inr ne ↦ l.done u (omega arith)
+  ];
+  left = λ u h. l.left u (omega arith);
+}
+
+-- the next objects are not named
+pub linked_on : (c : Cond) (k o m : ℕ) (named : List ObjId) (old new : List (Vec ℕ Global)) → LinkedBelow c k o named old new → ((u : ℕ) → o ≤ u → u < o + m → names u c ≡ false) → LinkedBelow c k (o + m) named old new
+linked_on c k o zero named old new l f = let e : o ≡ o + 0 = omega arith in subst (λ (n : ℕ). LinkedBelow c k n named old new) e l
+linked_on c k o (suc m) named old new l f =
+    let e : o + m + 1 ≡ o + suc m = omega arith in
+    subst (λ (n : ℕ). LinkedBelow c k n named old new) e (linked_skip c k (o + m) named old new (linked_on c k o m named old new l (λ u a b. f u a (omega (arith, b)))) (f (o + m) (omega arith) (omega arith)))
+
+pub linked_upto : (c : Cond) (k o n : ℕ) (named : List ObjId) (old new : List (Vec ℕ Global)) → LinkedBelow c k o named old new → o ≤ n → ((u : ℕ) → o ≤ u → u < n → names u c ≡ false) → LinkedBelow c k n named old new
+linked_upto c k o n named old new l h f =
+    let e : o + (n - o) ≡ n = omega (arith, h) in
+    subst (λ (m : ℕ). LinkedBelow c k m named old new) e (linked_on c k o (n - o) named old new l (λ u a b. f u a (omega (arith, b, h))))
+
+pub linked_more : (c : Cond) (k o : ℕ) (named : List ObjId) (old new : List (Vec ℕ Global)) (u : ObjId) (v : Vec ℕ Global) → LinkedBelow c k o named old new → names o c ≡ true → u.0 ≡ o → o < length new → v.items ≡ row new o ++ k ∷ [] → LinkedBelow c k (o + 1) (named ++ u ∷ []) old (set new o v)
+linked_more c k o named old new u v l t q h e = record {
+  named = named_more c o named u q l.named t;
+  objects = length-set new o v ∙ l.objects;
+  done = λ w b. elim (cases_eq w o) [
+    | inl m ↦ subst (λ (z : ℕ). row (set new o v) z ≡ put_where (names z c) k (row old z)) (sym m)
+        (row_set_same new o v h ∙ e ∙ ap (λ (x : List ℕ). x ++ k ∷ []) (l.left o (omega arith)) ∙ sym (ap (λ (b : Bool). put_where b k (row old o)) t))
+    | inr ne ↦ row_set_other new o w v ne ∙ l.done w (omega arith)
+  ];
+  left = λ w b. row_set_other new o w v (λ m. absurd (omega arith)) ∙ l.left w (omega arith);
+}
+
+-- the links of the first i conditions
+pub record LinksBelow (cs : List Cond) (n i : ℕ) (lists : List (Vec ObjId Global)) (numbers : List (Vec ℕ Global)) (without : List ℕ) : Type 0 where
+  pub conditions : length lists ≡ i
+  pub named : (j : ℕ) (d : Cond) → j < i → NamedBy (get_or cs j d) n (row lists j)
+  pub objects : length numbers ≡ n
+  pub picks : (o : ℕ) → o < n → NumbersOf (names o) cs i (row numbers o)
+  pub bare : NumbersOf (names_none n) cs i without
+
+pub links_start : (cs : List Cond) (n : ℕ) (picks : List (Vec ℕ Global)) → length picks ≡ n → ((o : ℕ) → row picks o ≡ []) → LinksBelow cs n 0 [] picks []
+links_start cs n picks e f = record {
+  conditions = refl;
+  named = λ j d h. absurd (omega arith);
+  objects = e;
+  picks = λ o h. subst (NumbersOf (names o) cs 0) (sym (f o)) (numbers_start (names o) cs);
+  bare = numbers_start (names_none n) cs;
+}
+
+pub links_more : (cs : List Cond) (n i : ℕ) (named : List (Vec ObjId Global)) (picks new : List (Vec ℕ Global)) (bare : List ℕ) (c : Cond) (v : Vec ObjId Global) → LinksBelow cs n i named picks bare → ((d : Cond) → get_or cs i d ≡ c) → NamedBy c n v.items → Numbers c (i + 1) picks new → length new ≡ length picks → LinksBelow cs n (i + 1) (named ++ v ∷ []) new (put_where (names_none n c) (i + 1) bare)
+links_more cs n i named picks new bare c v l at k m e = record {
+  conditions = length_more named v ∙ ap (λ (z : ℕ). z + 1) l.conditions;
+  named = λ j d h. elim (cases_eq j i) [
+    | inl q ↦ subst (λ (z : ℕ). NamedBy (get_or cs z d) n (row (named ++ v ∷ []) z)) (sym q)
+        (subst (λ (z : Cond). NamedBy z n (row (named ++ v ∷ []) i)) (sym (at d)) (subst (NamedBy c n) (sym (subst (λ (z : ℕ). row (named ++ v ∷ []) z ≡ v.items) l.conditions (row_last named v))) k))
+    | inr ne ↦ let b : j < i = omega arith in subst (NamedBy (get_or cs j d) n) (sym (row_before named v j (omega (arith, b, l.conditions)))) (l.named j d b)
+  ];
+  objects = e ∙ l.objects;
+  picks = λ o h. subst (NumbersOf (names o) cs (i + 1)) (sym (m o (omega (arith, h, l.objects)))) (numbers_put (names o) cs i (row picks o) (names o c) (l.picks o h) (λ d. ap (names o) (at d)));
+  bare = numbers_put (names_none n) cs i bare (names_none n c) l.bare (λ d. ap (names_none n) (at d));
+}
+
+pub links_end : (cs : List Cond) (n i : ℕ) (l : Links) → i ≡ length cs → LinksBelow cs n i l.named.items l.picks.items l.bare.items → AreLinks cs n l
+links_end cs n i l e b = record {
+  conditions = b.conditions ∙ e;
+  named = λ j d h. b.named j d (omega (arith, h, e));
+  objects = b.objects;
+  picks = λ o h. subst (λ (m : ℕ). NumbersOf (names o) cs m (row l.picks.items o)) e (b.picks o h);
+  bare = subst (λ (m : ℕ). NumbersOf (names_none n) cs m l.bare.items) e b.bare;
+}
+
+-- ---- what the links say
+
+some_of : {X : Type 0} (xs : List X) (i : ℕ) → i < length xs → X
+some_of [] i h = absurd (omega arith)
+some_of (x ∷ xs) i h = x
+
+-- a number of an object is that of a list
+pub number_in : (cs : List Cond) (n : ℕ) (l : Links) (u : ℕ) (numbers : List ℕ) (k : ℕ) → AreLinks cs n l → u < n → numbers ≡ row l.picks.items u → k < length numbers
+    → (0 < slice_index numbers k) × (slice_index numbers k - 1 < length l.named.items) × All (λ o. o.0 < n) (row l.named.items (slice_index numbers k - 1))
+number_in cs n l u numbers k a h e b =
+    let w = pick_in (length cs) numbers k (subst (ArePicks (length cs)) (sym e) (a.picks u h).within) b in
+    (w.0, omega (arith, w.1, a.conditions), (a.named (slice_index numbers k - 1) (some_of cs (slice_index numbers k - 1) w.1) w.1).below)
+
+-- an object that no list with u has is apart
+pub apart_of : (cs : List Cond) (n u o : ℕ) (l : Links) → AreLinks cs n l → u < n → o < n → ((k : ℕ) → k < length (row l.picks.items u) → is_among o (row l.named.items (slice_index (row l.picks.items u) k - 1)) ≡ false) → AreApart cs u o
+apart_of cs n u o l a hu ho f i d h t = by_test (names u (get_or cs i d)) refl
+  where
+    by_test : (b : Bool) → names u (get_or cs i d) ≡ b → names u (get_or cs i d) ≡ false
+    by_test false e = e
+    by_test true e =
+        let w = index_of (suc i) (row l.picks.items u) ((a.picks u hu).each i d h ∙ e) in
+        let q : slice_index (row l.picks.items u) w.0 - 1 ≡ i = omega (arith, w.2) in
+        let x : is_among o (row l.named.items i) ≡ false = subst (λ (j : ℕ). is_among o (row l.named.items j) ≡ false) q (f w.0 w.1) in
+        absurd (false≢true (sym x ∙ (a.named i d h).each o ho ∙ t))
+
+-- ---- the loops that queue objects
+
+pub among_more : (v : ℕ) (list : List ObjId) (o : ObjId) → is_among v (list ++ o ∷ []) ≡ (is_among v list || nat_eq o.0 v)
+among_more v list o = list_any-append (λ (u : ObjId). nat_eq u.0 v) list (o ∷ []) ∙ ap (λ (b : Bool). is_among v list || b) (or_false (nat_eq o.0 v))
+
+or_true : (a b : Bool) → (a || (b || true)) ≡ true
+or_true true b = refl
+or_true false true = refl
+or_true false false = refl
+
+pub marks_start : (u : ℕ) (q : List Bool) → Marks u [] q q
+marks_start u q = record { objects = refl; itself = refl; others = λ o n h. sym (or_false (get_or q o false)) }
+
+pub marks_put : (u : ℕ) (list : List ObjId) (o : ObjId) (old q : List Bool) → o.0 < length old → (o.0 ≡ u → ⊥) → Marks u list old q → Marks u (list ++ o ∷ []) old (set q o.0 true)
+marks_put u list o old q b n m = record {
+  objects = length-set q o.0 true ∙ m.objects;
+  itself = get_or-set_other q o.0 u true false (λ e. n (sym e)) ∙ m.itself;
+  others = λ v nv h. elim (cases_eq v o.0) [
+    | inl e ↦ subst (λ (z : ℕ). get_or (set q o.0 true) z false ≡ (get_or old z false || is_among z (list ++ o ∷ []))) (sym e)
+        (get_or-set_same q o.0 true false (omega (arith, b, m.objects)) ∙ sym (ap (λ (x : Bool). get_or old o.0 false || x) (among_more o.0 list o ∙ ap (λ (x : Bool). is_among o.0 list || x) (eq-eqb o.0 o.0 refl)) ∙ or_true (get_or old o.0 false) (is_among o.0 list)))
+    | inr ne ↦ get_or-set_other q o.0 v true false ne ∙ m.others v nv h ∙ sym (ap (λ (x : Bool). get_or old v false || x) (among_more v list o ∙ ap (λ (x : Bool). is_among v list || x) (nat_eq_other o.0 v (λ e. ne (sym e))) ∙ or_false (is_among v list)))
+  ];
+}
+
+pub marks_skip : (u : ℕ) (list : List ObjId) (o : ObjId) (old q : List Bool) → o.0 ≡ u → Marks u list old q → Marks u (list ++ o ∷ []) old q
+marks_skip u list o old q e m = record {
+  objects = m.objects;
+  itself = m.itself;
+  others = λ v nv h. m.others v nv h ∙ sym (ap (λ (x : Bool). get_or old v false || x) (among_more v list o ∙ ap (λ (x : Bool). is_among v list || x) (nat_eq_other o.0 v (λ q. nv (sym q ∙ e))) ∙ or_false (is_among v list)));
+}
+
+-- the objects of the first k lists that have u are queued too
+pub record TouchedBelow (l : Links) (u k : ℕ) (old new : List Bool) : Type 0 where
+  pub objects : length new ≡ length old
+  pub itself : get_or new u false ≡ get_or old u false
+  pub others : (o : ℕ) → (o ≡ u → ⊥) → o < length old → get_or new o false ≡ false
+      → (get_or old o false ≡ false) × ((j : ℕ) → j < k → is_among o (row l.named.items (slice_index (row l.picks.items u) j - 1)) ≡ false)
+
+pub touched_start : (l : Links) (u : ℕ) (q : List Bool) → TouchedBelow l u 0 q q
+touched_start l u q = record { objects = refl; itself = refl; others = λ o n h e. (e, λ j b. absurd (omega arith)) }
+
+or_first : (a b : Bool) → (a || b) ≡ false → a ≡ false
+or_first true b h = h
+or_first false b h = refl
+
+or_second : (a b : Bool) → (a || b) ≡ false → b ≡ false
+or_second true b h = absurd (false≢true (sym h))
+or_second false b h = h
+
+pub touched_more : (l : Links) (u k : ℕ) (old q new : List Bool) (list : List ObjId) → TouchedBelow l u k old q → list ≡ row l.named.items (slice_index (row l.picks.items u) k - 1) → Marks u list q new → TouchedBelow l u (k + 1) old new
+touched_more l u k old q new list t e m = record {
+  objects = m.objects ∙ t.objects;
+  itself = m.itself ∙ t.itself;
+  others = λ o n h f.
+      let both : (get_or q o false || is_among o list) ≡ false = sym (m.others o n (omega (arith, h, t.objects))) ∙ f in
+      let w = t.others o n h (or_first (get_or q o false) (is_among o list) both) in (
+        w.0,
+        λ j b. elim (cases_eq j k) [
+          | inl i ↦ subst (λ (z : ℕ). is_among o (row l.named.items (slice_index (row l.picks.items u) z - 1)) ≡ false) (sym i) (subst (λ (x : List ObjId). is_among o x ≡ false) e (or_second (get_or q o false) (is_among o list) both))
+          | inr ne ↦ w.1 j (omega arith)
+        ],
+      );
+}
+
+pub touched_end : (cs : List Cond) (l : Links) (u k : ℕ) (old new : List Bool) → AreLinks cs (length old) l → u < length old → length (row l.picks.items u) ≤ k → TouchedBelow l u k old new → Touches cs u old new
+touched_end cs l u k old new a h end t = record {
+  objects = t.objects;
+  itself = t.itself;
+  others = λ o n b f. let w = t.others o n b f in (w.0, apart_of cs (length old) u o l a h b (λ j i. w.1 j (omega (arith, i, end))));
+}
+
+-- ---- the loop over what differs
+
+-- of the objects below k each that differs is queued, with those near it
+pub record CaughtBelow (cs : List Cond) (k : ℕ) (S T : State) (old new : List Bool) : Type 0 where
+  pub objects : length new ≡ length old
+  pub before : (o : ℕ) → o < length old → get_or new o false ≡ false → get_or old o false ≡ false
+  pub same : (o : ℕ) → o < length old → o < k → get_or new o false ≡ false → reach S o ≡ reach T o
+  pub apart : (o u : ℕ) → o < length old → u < k → get_or new o false ≡ false → (reach S u ≡ reach T u) ⊎ AreApart cs u o
+
+pub caught_start : (cs : List Cond) (S T : State) (q : List Bool) → CaughtBelow cs 0 S T q q
+caught_start cs S T q = record { objects = refl; before = λ o h e. e; same = λ o h b e. absurd (omega arith); apart = λ o u h b e. absurd (omega arith) }
+
+-- an object that is the same
+pub caught_same : (cs : List Cond) (k : ℕ) (S T : State) (old q : List Bool) → CaughtBelow cs k S T old q → reach S k ≡ reach T k → CaughtBelow cs (k + 1) S T old q
+caught_same cs k S T old q c e = record {
+  objects = c.objects;
+  before = c.before;
+  same = λ o h b f. elim (cases_eq o k) [ inl i ↦ subst (λ (z : ℕ). reach S z ≡ reach T z) (sym i) e | inr ne ↦ c.same o h (omega arith) f ];
+  apart = λ o u h b f. elim (cases_eq u k) [ inl i ↦ inl (subst (λ (z : ℕ). reach S z ≡ reach T z) (sym i) e) | inr ne ↦ c.apart o u h (omega arith) f ];
+}
+
+-- an object that differs
+pub caught_more : (cs : List Cond) (k : ℕ) (S T : State) (old q new : List Bool) → CaughtBelow cs k S T old q → k < length q → Touches cs k (set q k true) new → CaughtBelow cs (k + 1) S T old new
+caught_more cs k S T old q new c h t = record {
+  objects = t.objects ∙ length-set q k true ∙ c.objects;
+  before = λ o b f. c.before o b (was o b f);
+  same = λ o b l f. c.same o b (omega (arith, l, other o f)) (was o b f);
+  apart = λ o u b l f. elim (cases_eq u k) [
+    | inl i ↦ inr (subst (λ (z : ℕ). AreApart cs z o) (sym i) (t.others o (other o f) (omega (arith, b, length-set q k true, c.objects)) f).1)
+    | inr ne ↦ c.apart o u b (omega arith) (was o b f)
+  ];
+}
+  where
+    there : get_or new k false ≡ true
+    there = t.itself ∙ get_or-set_same q k true false h
+
+    other : (o : ℕ) → get_or new o false ≡ false → o ≢ k
+    other o f e = false≢true (sym f ∙ subst (λ (z : ℕ). get_or new z false ≡ true) (sym e) there)
+
+    was : (o : ℕ) → o < length old → get_or new o false ≡ false → get_or q o false ≡ false
+    was o b f = sym (get_or-set_other q k o true false (other o f)) ∙ (t.others o (other o f) (omega (arith, b, length-set q k true, c.objects)) f).0
+
+pub caught_end : (cs : List Cond) (k : ℕ) (S T : State) (old new : List Bool) → length S ≡ length old → length old ≤ k → CaughtBelow cs k S T old new → CatchesUp cs S T old new
+caught_end cs k S T old new e h c = record {
+  objects = c.objects;
+  rest = λ o b f. (c.before o b f, record { itself = c.same o b (omega (arith, b, h)) f; others = λ u l. c.apart o u b (omega (arith, l, h, e)) f });
+}

@@ -1,0 +1,138 @@
+-- A condition that does not name an object does not see it.
+use Rattle.std.proofs.Common.{◌≡◌, ◌≢◌, ℕ, zero, suc, ◌+◌, ◌<◌, Bool, true, false, List, [], ◌∷◌, length, get_or, refl, sym, ap, ◌∙◌, subst, inl, inr, ◌⊎◌, arith, ℤ, pos, ◌+ℤ◌, eqb, eq-eqb, not}
+use lib.Signed.{le_z}
+use Rattle.std.specs.List.{list_any}
+use Rattle.std.proofs.lemmas.Bool.{cases_eq, cases_lt, false≢true, or_left, or_right}
+use Rattle.std.proofs.lemmas.List.{get_or_past}
+use Rattle.geo_base.specs.Boxes.{coordinate}
+use Rattle.geo_conditions.specs.declared.cond.Cond.{Cond, Lin, Shape, NotShape, AtLeast', Row_of-Cond, end_of-Cond, more_of-Cond}
+use Rattle.geo_conditions.specs.declared.form.Term.{Term}
+use Rattle.geo_conditions.specs.Reach.{State, Reach, Region, reach, nowhere, place_in, has, is_only, just, InBox, with_at, NotEmpty, HasNoEmpty, count}
+use Rattle.geo_conditions.specs.Conditions.{possible, how_many_possible, least_term, least_product, sum_of}
+use Rattle.geo_conditions.specs.Supported.{IsSupported, Supports, NoneRefuted}
+use Rattle.geo_conditions.proofs.Monotone.{possible_wider}
+use Rattle.geo_conditions.proofs.Points.{reach_same, reach_other, with_length, point_within, point_not_empty, place_from_1, put_inside, put_not_empty}
+use Rattle.indexical.specs.Names.{names, any_names}
+use Rattle.object_pruning.specs.Same.{SameBut}
+use Rattle.fixpoint.specs.Near.{AreApart, IsUntouched, NearSupports, IsFine, BarePossible}
+
+same_terms : (S T : State) (ts : List Term) → ((u : ℕ) → list_any (λ (t : Term). eqb t.object.0 u) ts ≡ true → reach S u ≡ reach T u) → sum_of (least_term S) ts ≡ sum_of (least_term T) ts
+same_terms S T [] b = refl
+same_terms S T (t ∷ ts) b =
+    let e : reach S t.object.0 ≡ reach T t.object.0 = b t.object.0 (or_left (eqb t.object.0 t.object.0) (list_any (λ (u : Term). eqb u.object.0 t.object.0) ts) (eq-eqb t.object.0 t.object.0 refl)) in
+    ap (λ (r : Reach). least_product t.factor (coordinate r.region.lo t.dimension) (coordinate r.region.hi t.dimension) +ℤ sum_of (least_term S) ts) e
+    ∙ ap (λ (z : ℤ). least_term T t +ℤ z) (same_terms S T ts (λ u n. b u (or_right (eqb t.object.0 u) (list_any (λ (v : Term). eqb v.object.0 u) ts) n)))
+
+abbrev place_of : Reach → ℕ → Bool
+place_of r s = place_in r.places s
+
+mutual
+  -- a condition has the same answer where the objects that it names are the same
+  pub same_answer : (c : Cond) (S T : State) → ((u : ℕ) → names u c ≡ true → reach S u ≡ reach T u) → possible c S ≡ possible c T
+  same_answer (Lin f) S T b = ap (λ (z : ℤ). le_z (f.constant +ℤ z) (pos 0)) (same_terms S T f.terms b)
+  same_answer (Shape u s) S T b = ap (λ (r : Reach). place_of r s) (b u.0 (eq-eqb u.0 u.0 refl))
+  same_answer (NotShape u s) S T b = ap (λ (r : Reach). not (is_only r.places s)) (b u.0 (eq-eqb u.0 u.0 refl))
+  same_answer (AtLeast' n shape cs) S T b = ap (λ (m : ℕ). le_z n (pos m)) (same_row cs S T b)
+
+  same_row : {m : _} → (cs : Row_of-Cond m) (S T : State) → ((u : ℕ) → any_names u cs ≡ true → reach S u ≡ reach T u) → how_many_possible cs S ≡ how_many_possible cs T
+  same_row end_of-Cond S T b = refl
+  same_row (more_of-Cond c cs) S T b =
+      ap (λ (a : Bool). count a + how_many_possible cs S) (same_answer c S T (λ u n. b u (or_left (names u c) (any_names u cs) n)))
+      ∙ ap (λ (m : ℕ). count (possible c T) + m) (same_row cs S T (λ u n. b u (or_right (names u c) (any_names u cs) n)))
+
+-- what a condition that does not name the object sees
+same_seen : (c : Cond) (S T : State) (o : ℕ) → SameBut o S T → names o c ≡ false → (u : ℕ) → names u c ≡ true → reach S u ≡ reach T u
+same_seen c S T o b h u n = b.each u (λ e. absurd (false≢true (sym h ∙ subst (λ (v : ℕ). names v c ≡ true) e n)))
+
+-- a condition that does not name the object keeps its answer
+pub same_without : (c : Cond) (S T : State) (o : ℕ) → SameBut o S T → names o c ≡ false → possible c S ≡ possible c T
+same_without c S T o b h = same_answer c S T (same_seen c S T o b h)
+
+-- an object that no condition names with the one that changed is untouched
+pub apart_untouched : (cs : List Cond) (S T : State) (o u : ℕ) → SameBut o S T → u ≢ o → AreApart cs o u → IsUntouched cs S T u
+apart_untouched cs S T o u e ne far = record {
+  itself = e.each u ne;
+  others = λ v h. elim (cases_eq v o) [
+    | inl q ↦ inr (subst (λ (z : ℕ). AreApart cs z u) (sym q) far)
+    | inr m ↦ inl (e.each v m)
+  ];
+}
+
+-- a condition that names an untouched object sees the same with that object put somewhere
+seen_untouched : (cs : List Cond) (S T : State) (o s : ℕ) (b : Region) (k : ℕ) (d : Cond) → length S ≡ length T → o < length S → IsUntouched cs S T o → k < length cs → names o (get_or cs k d) ≡ true → (w : ℕ) → names w (get_or cs k d) ≡ true → reach (with_at S o s b) w ≡ reach (with_at T o s b) w
+seen_untouched cs S T o s b k d same h y hk n w m = elim (cases_eq w o) [
+  | inl q ↦ subst (λ (v : ℕ). reach (with_at S o s b) v ≡ reach (with_at T o s b) v) (sym q) (reach_same S o s b h ∙ sym (reach_same T o s b (omega (arith, h, same))))
+  | inr ne ↦ reach_other S o s w b ne ∙ both ∙ sym (reach_other T o s w b ne)
+]
+  where
+    both : reach S w ≡ reach T w
+    both = elim (cases_lt w (length S)) [
+      | inl l ↦ elim (y.others w l) [ inl e ↦ e | inr apart ↦ absurd (false≢true (sym (apart k d hk n) ∙ m)) ]
+      | inr l ↦ get_or_past S w nowhere l ∙ sym (get_or_past T w nowhere (omega (arith, l, same)))
+    ]
+
+near_untouched : (cs : List Cond) (S T : State) (o s : ℕ) (p : List ℤ) → length S ≡ length T → o < length S → IsUntouched cs S T o → NearSupports cs S o s p → NearSupports cs T o s p
+near_untouched cs S T o s p same h u y = record {
+  place = ap (λ (r : Reach). place_of r s) (sym u.itself) ∙ y.place;
+  point = subst (λ (r : Reach). InBox p r.region) u.itself y.point;
+  unrefuted = λ k d b n. sym (same_answer (get_or cs k d) (with_at S o s (just p)) (with_at T o s (just p)) (seen_untouched cs S T o s (just p) k d same h u b n)) ∙ y.unrefuted k d b n;
+}
+
+-- an untouched object stays fine
+pub fine_untouched : (cs : List Cond) (S T : State) (o : ℕ) → length S ≡ length T → o < length S → IsUntouched cs S T o → IsFine cs S o → IsFine cs T o
+fine_untouched cs S T o same h u f =
+    let q = u.itself in
+    record {
+      full = subst NotEmpty q f.full;
+      places = λ s t. let y = f.places s (ap (λ (r : Reach). place_of r s) q ∙ t) in (y.0, near_untouched cs S T o s y.0 same h u y.1);
+      lows = λ d b. let y = f.lows d (subst (λ (r : Reach). d < length r.region.lo) (sym q) b) in (y.0, y.1, near_untouched cs S T o y.0 y.1 same h u y.2, y.3 ∙ ap (λ (r : Reach). coordinate r.region.lo d) q);
+      highs = λ d b. let y = f.highs d (subst (λ (r : Reach). d < length r.region.lo) (sym q) b) in (y.0, y.1, near_untouched cs S T o y.0 y.1 same h u y.2, y.3 ∙ ap (λ (r : Reach). coordinate r.region.hi d) q);
+    }
+
+-- ---- with an empty queue the state is supported
+
+put_but : (S : State) (o s : ℕ) (b : Region) → SameBut o (with_at S o s b) S
+put_but S o s b = record { objects = with_length S o s b; each = λ u ne. reach_other S o s u b ne }
+
+-- a point inside leaves the condition possible on the whole state
+widen : (c : Cond) (S : State) (o s : ℕ) (p : List ℤ) → o < length S → HasNoEmpty S → has S o s ≡ true → InBox p (reach S o).region → possible c (with_at S o s (just p)) ≡ true → possible c S ≡ true
+widen c S o s p h n t i y =
+    possible_wider c (with_at S o s (just p)) S (put_inside S o s (just p) h (point_within (reach S o) s p t i)) (put_not_empty S o s (just p) h n (point_not_empty s p (place_from_1 (reach S o).places s t))) y
+
+named_or_not : (c : Cond) (n : ℕ) → ((o : ℕ) × (o < n) × (names o c ≡ true)) ⊎ ((o : ℕ) → o < n → names o c ≡ false)
+named_or_not c zero = inr (λ o h. absurd (omega arith))
+named_or_not c (suc n) = elim (named_or_not c n) [
+  | inl y ↦ inl (y.0, omega (arith, y.1), y.2)
+  | inr none ↦ by_test (names n c) refl none
+]
+  where
+    by_test : (b : Bool) → names n c ≡ b → ((o : ℕ) → o < n → names o c ≡ false) → ((o : ℕ) × (o < suc n) × (names o c ≡ true)) ⊎ ((o : ℕ) → o < suc n → names o c ≡ false)
+    by_test true e none = inl (n, omega arith, e)
+    by_test false e none = inr (λ o h. elim (cases_eq o n) [ inl q ↦ subst (λ (z : ℕ). names z c ≡ false) (sym q) e | inr ne ↦ none o (omega arith) ])
+
+near_whole : (cs : List Cond) (S : State) (o s : ℕ) (p : List ℤ) → NoneRefuted cs S → NearSupports cs S o s p → Supports cs S o s p
+near_whole cs S o s p w y = record {
+  place = y.place;
+  point = y.point;
+  unrefuted = λ k d b. by_test (get_or cs k d) (names o (get_or cs k d)) refl (w k d b) (y.unrefuted k d b);
+}
+  where
+    by_test : (c : Cond) (b : Bool) → names o c ≡ b → possible c S ≡ true → (names o c ≡ true → possible c (with_at S o s (just p)) ≡ true) → possible c (with_at S o s (just p)) ≡ true
+    by_test c true e h k = k e
+    by_test c false e h k = same_without c (with_at S o s (just p)) S o (put_but S o s (just p)) e ∙ h
+
+pub all_fine : (cs : List Cond) (S : State) → ((o : ℕ) → o < length S → IsFine cs S o) → BarePossible cs S → IsSupported cs S
+all_fine cs S f bare =
+    let full : HasNoEmpty S = λ o h. (f o h).full in
+    let on_whole : NoneRefuted cs S = λ k d b. elim (named_or_not (get_or cs k d) (length S)) [
+      | inr none ↦ bare k d b none
+      | inl y ↦ let there = (f y.0 y.1).full.place in let p = (f y.0 y.1).places there.0 there.1 in
+          widen (get_or cs k d) S y.0 there.0 p.0 y.1 full there.1 p.1.point (p.1.unrefuted k d b y.2)
+    ] in
+    record {
+      nonempty = full;
+      unrefuted = on_whole;
+      places = λ o s h t. let y = (f o h).places s t in (y.0, near_whole cs S o s y.0 on_whole y.1);
+      lows = λ o d h b. let y = (f o h).lows d b in (y.0, y.1, near_whole cs S o y.0 y.1 on_whole y.2, y.3);
+      highs = λ o d h b. let y = (f o h).highs d b in (y.0, y.1, near_whole cs S o y.0 y.1 on_whole y.2, y.3);
+    }

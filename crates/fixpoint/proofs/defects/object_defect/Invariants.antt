@@ -1,6 +1,0 @@
-use Rattle.std.proofs.Common.{◌<◌, ℕ}
-use Rattle.fixpoint.specs.Defects.{EndsFine}
-use Rattle.fixpoint.proofs.defects.object_defect.Given as goal
-
-abbrev pub invariant-loop-d : goal.invariant-loop-d
-invariant-loop-d g l = (e : ℕ) → e < l.d → EndsFine l.cs l.s l.o.0 e

@@ -1,0 +1,50 @@
+use Rattle.std.proofs.Common.{◌≡◌, ◌+◌, [], ℕ, List, Bool, map, length, get_or, ap, sym, ◌∙◌, subst, arith, nat_eq}
+use Rattle.std.specs.declared.vec.Vec.{Vec}
+use Rattle.std.specs.declared.alloc.Global.{Global}
+use Rattle.std.proofs.lemmas.List.{length-map, get_or-map, with_items_is}
+use Rattle.std.specs.Vec.{with_items}
+use Rattle.geo_conditions.specs.declared.object.ObjId.{ObjId}
+use Rattle.geo_conditions.specs.declared.cond.Cond.{Cond}
+use Rattle.indexical.specs.declared.any.AnyIndexical.{AnyIndexical}
+use Rattle.fixpoint.specs.Links.{NamedBy, Numbers, names_none, put_where}
+use Rattle.fixpoint.proofs.Linking.{LinksBelow, links_start, links_more, links_end, named_empty}
+use Rattle.fixpoint.proofs.links.links_of.Goals as goal
+use Rattle.fixpoint.proofs.links.links_of.Goals.{then-is_empty+in_ok-push, else-is_empty}
+
+pub loop-i-init : goal.loop-i-init
+loop-i-init g c =
+    let cs = map (λ (x : AnyIndexical g.row.K). x.cond) c.args.list.now in
+    let n = c.args.objects in
+    let picks = c.in_ok-picks.picks.items in
+    subst (LinksBelow cs n 0 c.new-named.result.items picks) (sym c.new-bare.ensures.items)
+    (subst (λ (vs : List (Vec ObjId Global)). LinksBelow cs n 0 vs picks []) (sym c.new-named.ensures.items) (links_start cs n picks c.in_ok-picks.ensures.0 c.in_ok-picks.ensures.1))
+
+pub loop-i-preserved : goal.loop-i-preserved
+loop-i-preserved g c =
+    let cs = map (λ (x : AnyIndexical g.row.K). x.cond) c.args.list.now in
+    let n = c.args.objects in
+    let i = c.loop-i.i in
+    let x = c.index-list-i.result in
+    let old = c.loop-i.picks.items in
+    let new = c.link.new.picks in
+    let v = c.in_ok-those.those in
+    let l = c.loop-i.invariant in
+    let at : (d : Cond) → get_or cs i d ≡ x.cond = λ d. get_or-map (λ (y : AnyIndexical g.row.K). y.cond) c.args.list.now i x d c.loop-i-test.true ∙ ap (λ (y : AnyIndexical g.row.K). y.cond) (sym c.index-list-i.is) in
+    let value : c.deref_mut.result.now ≡ old = c.deref_mut.ensures.value in
+    let numbers : Numbers x.cond (i + 1) old new = subst (λ (vs : List (Vec ℕ Global)). Numbers x.cond (i + 1) vs new) value c.in_ok-those.ensures.numbers in
+    let named : NamedBy x.cond n v.items = subst (λ (m : ℕ). NamedBy x.cond m v.items) (ap length value ∙ l.objects) c.in_ok-those.ensures.named in
+    let long : length new ≡ length old = c.link.auto.picks ∙ ap length value in
+    let back = with_items_is c.loop-i.picks new (omega (arith, long, c.loop-i.picks.ok)) in
+    let none : names_none n x.cond ≡ c.is_empty.result = named_empty x.cond n v.items named ∙ ap (λ (m : ℕ). nat_eq m 0) (sym v.ok.0) ∙ sym c.is_empty.ensures in
+    let bare : c.if-is_empty.bare.items ≡ put_where (names_none n x.cond) (i + 1) c.loop-i.bare.items =
+    elim c.if-is_empty.branch [
+      | then-is_empty+in_ok-push w ↦ ap (λ (b : _). b.items) w.bare-is ∙ w.in_ok-push.ensures.items ∙ sym (ap (λ (b : Bool). put_where b (i + 1) c.loop-i.bare.items) (none ∙ w.if-is_empty.true))
+      | else-is_empty w ↦ ap (λ (b : _). b.items) w.bare-is ∙ sym (ap (λ (b : Bool). put_where b (i + 1) c.loop-i.bare.items) (none ∙ w.if-is_empty.false))
+    ] in
+    let k = links_more cs n i c.loop-i.named.items old new c.loop-i.bare.items x.cond v l at named numbers long in
+    subst (λ (b : List ℕ). LinksBelow cs n (i + 1) c.push-in-loop-i.new.self.items (with_items c.loop-i.picks new).items b) (sym bare)
+    (subst (λ (vs : List (Vec ℕ Global)). LinksBelow cs n (i + 1) c.push-in-loop-i.new.self.items vs (put_where (names_none n x.cond) (i + 1) c.loop-i.bare.items)) (sym back)
+    (subst (λ (vs : List (Vec ObjId Global)). LinksBelow cs n (i + 1) vs new (put_where (names_none n x.cond) (i + 1) c.loop-i.bare.items)) (sym c.in_ok-push-2.ensures.items) k))
+
+pub returns : goal.returns
+returns g c = links_end _ c.args.objects c.loop-i.i _ (omega (arith, c.loop-i-test.false, c.loop-i.auto.i-end, length-map c.args.list.now (λ x. x.cond))) c.loop-i.invariant

@@ -1,5 +1,0 @@
-use Rattle.fixpoint.proofs.PointSearch.{NoneUpTo}
-use Rattle.fixpoint.proofs.points.end_supported.Given as goal
-
-abbrev pub invariant-loop-place : goal.invariant-loop-place
-invariant-loop-place g l = NoneUpTo l.cs l.s l.o.0 l.d l.v l.place

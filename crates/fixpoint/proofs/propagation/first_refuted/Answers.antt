@@ -1,0 +1,49 @@
+use Rattle.std.proofs.Common.{◌≡◌, true, false, ℕ, map, ap, sym, ◌∙◌, subst, inl, inr, arith, rules}
+use Rattle.std.proofs.lemmas.Bool.{cases_eq, not-false, not-true}
+use Rattle.geo_conditions.specs.declared.cond.Cond.{Cond}
+use Rattle.geo_conditions.specs.Conditions.{possible, FitsIn}
+use Rattle.indexical.specs.declared.any.AnyIndexical.{AnyIndexical}
+use Rattle.sweep.specs.Picks.{PicksAt}
+use Rattle.sweep.proofs.PickedConditions.{picked_all, picks-map, one_pick, fits_at, mapped_picks}
+use Rattle.fixpoint.proofs.Record.{refutes_picked}
+use Rattle.fixpoint.proofs.propagation.first_refuted.Goals as goal
+
+pub refuted-requires : goal.refuted-requires
+refuted-requires g c =
+    let f = λ (x : AnyIndexical g.row.K). x.cond in
+    let y = c.index-list-pick.result in
+    let m = picks-map f c.args.list.now c.args.picks.now c.loop-pick.pick-index y c.requires.picks c.loop-pick-test.true in
+    let fits : FitsIn y.cond c.args.s.now = subst (λ (x : AnyIndexical g.row.K). FitsIn x.cond c.args.s.now) (sym c.index-list-pick.is)
+    (fits_at (map f c.args.list.now) c.args.s.now c.args.picks.now c.loop-pick.pick-index _ c.requires.fits m) in
+    search rules
+
+pub returns-then-refuted : goal.returns-then-refuted
+returns-then-refuted g c =
+    let f = λ (x : AnyIndexical g.row.K). x.cond in
+    let cs = map f c.args.list.now in
+    let S = c.args.s.now in
+    let y = c.index-list-pick.result in
+    let m = picks-map f c.args.list.now c.args.picks.now c.loop-pick.pick-index y c.requires.picks c.loop-pick-test.true in
+    let not_now : possible y.cond S ≡ false = not-true (possible y.cond S) (sym c.refuted.ensures ∙ c.if-refuted.true) in
+    refutes_picked cs c.args.picks.now c.loop-pick.pick-index _ S (mapped_picks f c.args.list.now c.args.picks.now c.requires.picks) m
+    (subst (λ (x : AnyIndexical g.row.K). possible x.cond S ≡ false) c.index-list-pick.is not_now)
+
+pub loop-pick-preserved : goal.loop-pick-preserved
+loop-pick-preserved g c =
+    let f = λ (x : AnyIndexical g.row.K). x.cond in
+    let cs = map f c.args.list.now in
+    let picks = c.args.picks.now in
+    let n = c.loop-pick.pick-index in
+    let S = c.args.s.now in
+    let y = c.index-list-pick.result in
+    let now : possible y.cond S ≡ true = not-false (possible y.cond S) (sym c.refuted.ensures ∙ c.if-refuted.false) in
+    let m = picks-map f c.args.list.now picks n y c.requires.picks c.loop-pick-test.true in
+    λ k x h p. elim (cases_eq k n) [
+      | inl e ↦
+          let q : x ≡ y.cond = one_pick cs picks n x _ (subst (λ (j : ℕ). PicksAt cs picks j x) e p) m ∙ ap f (sym c.index-list-pick.is) in
+          subst (λ (z : Cond). possible z S ≡ true) (sym q) now
+      | inr ne ↦ c.loop-pick.invariant k x (omega (arith, h, ne)) p
+    ]
+
+pub returns : goal.returns
+returns g c = picked_all (λ x. possible x c.args.s.now ≡ true) _ c.args.picks.now (λ k x p. c.loop-pick.invariant k x (omega (arith, p.0, c.loop-pick-test.false)) p)

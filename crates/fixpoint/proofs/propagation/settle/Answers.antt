@@ -1,0 +1,74 @@
+use Rattle.std.proofs.Common.{◌≡◌, ℕ, true, [], ◌∷◌, map, length, ap, sym, ◌∙◌, subst, rules}
+use Rattle.geo_conditions.specs.Conditions.{AllFit}
+use Rattle.geo_conditions.specs.Reach.{State}
+use Rattle.geo_conditions.specs.Supported.{NoneRefuted, NoneInside}
+use Rattle.geo_conditions.proofs.Points.{inside_self}
+use Rattle.indexical.specs.declared.any.AnyIndexical.{AnyIndexical}
+use Rattle.derivation.specs.declared.event.Event.TheVariants.{Dead}
+use Rattle.derivation.specs.Chains.{IsDead}
+use Rattle.derivation.specs.Covers.{refutes}
+use Rattle.derivation.proofs.Chains.{closes_end}
+use Rattle.sweep.specs.Picks.{picked}
+use Rattle.object_pruning.proofs.Cases.{from_none}
+use Rattle.fixpoint.specs.Links.{AreLinks, BareOf}
+use Rattle.fixpoint.specs.Kept.{AllStand}
+use Rattle.fixpoint.specs.Near.{BarePossible}
+use Rattle.fixpoint.specs.Queue.{RestFine, CatchesUp}
+use Rattle.fixpoint.proofs.Effect.{hopeless, bare_possible}
+use Rattle.fixpoint.proofs.Turns.{caught_up}
+use Rattle.derivation.proofs.Continuing.{growth_added, growth_refused}
+use Rattle.fixpoint.proofs.propagation.settle.Goals as goal
+
+pub returns-in-Ok-clause-settles : goal.returns-in-Ok-clause-settles
+returns-in-Ok-clause-settles g c =
+    let cs = map (λ (x : AnyIndexical g.row.K). x.cond) c.args.list.now in
+    (subst (NoneInside cs) c.state.ensures.value (hopeless cs c.state.result.now c.in-Some.i c.in-Some.ensures), inside_self c.args.t.now.state)
+
+pub returns-in-Ok-clause-record : goal.returns-in-Ok-clause-record
+returns-in-Ok-clause-record g c = λ kept.
+    let cs = map (λ (x : AnyIndexical g.row.K). x.cond) c.args.list.now in
+    let i = c.in-Some.i in
+    let refuted : refutes cs i c.args.t.now.state ≡ true = subst (λ (X : State). refutes cs i X ≡ true) c.state.ensures.value c.in-Some.ensures in
+    (Dead i ∷ [], c.in-Ok.ensures.ok kept, closes_end cs c.args.t.now.state (IsDead i) refuted)
+
+pub prune_queued-settled-requires : goal.prune_queued-settled-requires
+prune_queued-settled-requires g c =
+    let cs = map (λ (x : AnyIndexical g.row.K). x.cond) c.args.list.now in
+    let S = c.args.t.now.state in
+    let L = c.args.last.now in
+    let old = c.args.queued.now in
+    let new = c.queue_changed.new.queued in
+    let o = c.requires.objects in
+    let l = c.requires.links in
+    let without = c.deref.result.now in
+    let none : NoneRefuted (picked cs without) S = subst (NoneRefuted (picked cs without)) c.state.ensures.value (from_none _ _ c.first_refuted.result c.in_default.is c.first_refuted.ensures) in
+    let those : BareOf cs (length S) without = subst (BareOf cs (length S)) (sym c.deref.ensures.value) (subst (λ (n : ℕ). BareOf cs n c.args.links.now.bare.items) o.0 l.bare) in
+    let bare : BarePossible cs S = bare_possible cs S without those none in
+    let caught : CatchesUp cs L S old new = subst (λ (X : State). CatchesUp cs L X old new) c.state-2.ensures.value c.queue_changed.ensures.queued in
+    let fine : RestFine cs S new = caught_up cs L S old new o.1 o.0 c.requires.fine caught in
+    let objects : length new ≡ length S = caught.objects ∙ o.0 in
+    let links : AreLinks cs (length new) c.args.links.now = subst (λ (n : ℕ). AreLinks cs n c.args.links.now) (sym caught.objects) l in
+    let stand : AllStand cs S c.queue_changed.new.kept = subst (λ (X : State). AllStand cs X c.queue_changed.new.kept) c.state-2.ensures.value c.queue_changed.ensures.stand in
+    let slots : length c.queue_changed.new.kept ≡ length S = c.queue_changed.auto.kept ∙ o.2 in
+    search rules
+
+pub queue_changed-requires : goal.queue_changed-requires
+queue_changed-requires g c =
+    let cs = map (λ (x : AnyIndexical g.row.K). x.cond) c.args.list.now in
+    let S = c.args.t.now.state in
+    let X = c.state-2.result.now in
+    let o = c.requires.objects in
+    let value : S ≡ X = sym c.state-2.ensures.value in
+    let same : length S ≡ length X = ap length value in
+    let fits : AllFit cs X = subst (AllFit cs) value c.requires.fits in
+    let objects : (length c.args.last.now ≡ length X) × (length c.args.queued.now ≡ length X) × (length c.args.kept.now ≡ length X) = (o.1 ∙ same, o.0 ∙ same, o.2 ∙ same) in
+    search rules
+
+pub returns-in-Ok-clause-grows : goal.returns-in-Ok-clause-grows
+returns-in-Ok-clause-grows g c = growth_added _ c.in-Ok.ensures.ok c.add.ensures.refusals
+
+pub returns-in-Err-clause-grows : goal.returns-in-Err-clause-grows
+returns-in-Err-clause-grows g c = growth_refused c.in-Err.ensures.err c.add.ensures.refusals c.in-Err.ensures.refused c.in-Err.ensures.no_record
+
+pub returns-clause-grows : goal.returns-clause-grows
+returns-clause-grows g c = c.prune_queued-settled.ensures.grows

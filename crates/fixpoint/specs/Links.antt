@@ -1,0 +1,60 @@
+-- Which objects the conditions name, and which conditions name an object, as lists.
+use Rattle.std.specs.Prelude.{◌≡◌, ◌==◌, ◌&&◌, ℕ, zero, suc, nat_eq, ◌<◌, not, Bool, true, false, List, [], ◌∷◌, ◌++◌, length, slice_index_or}
+use Rattle.std.specs.List.{All, list_any}
+use Rattle.std.specs.declared.vec.Vec.{Vec}
+use Rattle.std.specs.declared.alloc.Global.{Global}
+use Rattle.geo_conditions.specs.declared.cond.Cond.{Cond}
+use Rattle.geo_conditions.specs.declared.object.ObjId.{ObjId}
+use Rattle.indexical.specs.Names.{names}
+use Rattle.sweep.specs.Picks.{ArePicks}
+use Rattle.fixpoint.specs.declared.links.Links.{Links}
+
+-- the numbers, from 1, are those of the first n conditions that meet the test
+pub record NumbersOf (test : Cond → Bool) (cs : List Cond) (n : ℕ) (numbers : List ℕ) : Type 0 where
+  pub within : ArePicks n numbers
+  pub each : (i : ℕ) (d : Cond) → i < n → list_any (nat_eq (suc i)) numbers ≡ test (slice_index_or cs i d)
+
+-- the numbers are those of the conditions that name the object
+abbrev pub PicksOf : List Cond → ℕ → List ℕ → Type 0
+PicksOf cs o numbers = NumbersOf (names o) cs (length cs) numbers
+
+-- the condition names no object below n
+abbrev pub names_none : ℕ → Cond → Bool
+names_none zero c = true
+names_none (suc n) c = not (names n c) && names_none n c
+
+-- the numbers are those of the conditions that name no object below n
+abbrev pub BareOf : List Cond → ℕ → List ℕ → Type 0
+BareOf cs n numbers = NumbersOf (names_none n) cs (length cs) numbers
+
+-- the object is in the list
+abbrev pub is_among : ℕ → List ObjId → Bool
+is_among o list = list_any (λ u. u.0 == o) list
+
+-- of the objects below n, the list has those that the condition names
+pub record NamedBy (c : Cond) (n : ℕ) (list : List ObjId) : Type 0 where
+  pub below : All (λ u. u.0 < n) list
+  pub each : (o : ℕ) → o < n → is_among o list ≡ names o c
+
+-- what the i-th of the lists has; nothing past the last one
+abbrev pub row : {X : Type 0} → List (Vec X Global) → ℕ → List X
+row [] i = []
+row (v ∷ vs) zero = v.items
+row (v ∷ vs) (suc i) = row vs i
+
+-- the links between the conditions and n objects
+pub record AreLinks (cs : List Cond) (n : ℕ) (l : Links) : Type 0 where
+  pub conditions : length l.named.items ≡ length cs
+  pub named : (i : ℕ) (d : Cond) → i < length cs → NamedBy (slice_index_or cs i d) n (row l.named.items i)
+  pub objects : length l.picks.items ≡ n
+  pub picks : (o : ℕ) → o < n → PicksOf cs o (row l.picks.items o)
+  pub bare : BareOf cs n l.bare.items
+
+-- the list, with the number at its end where the test is met
+abbrev pub put_where : Bool → ℕ → List ℕ → List ℕ
+put_where true k numbers = numbers ++ k ∷ []
+put_where false k numbers = numbers
+
+-- the objects that the condition names have its number in their lists too
+abbrev pub Numbers : Cond → ℕ → List (Vec ℕ Global) → List (Vec ℕ Global) → Type 0
+Numbers c k old new = (o : ℕ) → o < length old → row new o ≡ put_where (names o c) k (row old o)

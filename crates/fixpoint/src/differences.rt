@@ -1,0 +1,84 @@
+//! What differs in two states.
+
+ghost use Rattle.std.specs.Prelude.{◌≡◌, ◌<◌, ◌≤◌, ◌↔◌, IsTrue, length, map};
+ghost use Rattle.geo_conditions.specs.Conditions.{AllFit};
+ghost use Rattle.geo_conditions.specs.Reach.{reach};
+ghost use Rattle.fixpoint.specs.Links.{AreLinks};
+ghost use Rattle.fixpoint.specs.Kept.{AllStand};
+ghost use Rattle.fixpoint.specs.Queue.{CatchesUp};
+
+use super::kept::retry_near;
+use super::links::Links;
+use super::queue::touch;
+use geo_base::MAX_DIMS;
+use geo_conditions::{ObjId, State};
+use indexical::AnyIndexical;
+use object_pruning::Placed;
+
+// Whether the object has the same places in both states.
+fn has_same_places<const K: usize>(a: &State<K>, b: &State<K>, o: ObjId) -> bool
+    requires k { K ≤ MAX_DIMS }
+    requires first { o.0 < length a.now }
+    requires second { o.0 < length b.now }
+    ensures { IsTrue result ↔ ((reach a.now o.0).places ≡ (reach b.now o.0).places) }
+{
+    let _first = a.region(o);
+    let _second = b.region(o);
+    for before in 0..16u8 {
+        let place = before + 1;
+        if a.has_shape(o, place) != b.has_shape(o, place) {
+            return false;
+        }
+    }
+    true
+}
+
+// Whether the object has the same region in both states.
+fn has_same_region<const K: usize>(a: &State<K>, b: &State<K>, o: ObjId) -> bool
+    requires k { K ≤ MAX_DIMS }
+    requires first { o.0 < length a.now }
+    requires second { o.0 < length b.now }
+    ensures { IsTrue result ↔ ((reach a.now o.0).region ≡ (reach b.now o.0).region) }
+{
+    let first = a.region(o);
+    let second = b.region(o);
+    first.lo.coordinates == second.lo.coordinates && first.hi.coordinates == second.hi.coordinates
+}
+
+// Whether the object is the same in both states.
+fn is_same<const K: usize>(a: &State<K>, b: &State<K>, o: ObjId) -> bool
+    requires k { K ≤ MAX_DIMS }
+    requires first { o.0 < length a.now }
+    requires second { o.0 < length b.now }
+    ensures { IsTrue result ↔ (reach a.now o.0 ≡ reach b.now o.0) }
+{
+    has_same_region(a, b, o) && has_same_places(a, b, o)
+}
+
+/// Queues each object that differs in the two states, and each that a condition names with one. Of what is kept of the others
+/// it forgets where such a condition is refuted.
+pub fn queue_changed<const K: usize>(
+    list: &[AnyIndexical<K>],
+    links: &Links,
+    from: &State<K>,
+    to: &State<K>,
+    queued: &mut [bool],
+    kept: &mut [Vec<Option<Placed<K>>>],
+)
+    requires k { (0 < K) × (K ≤ MAX_DIMS) }
+    requires fits { AllFit (map (λ x. x.cond) list.now) to.now }
+    requires objects { (length from.now ≡ length to.now) × (length queued.old ≡ length to.now) × (length kept.old ≡ length to.now) }
+    requires links { AreLinks (map (λ x. x.cond) list.now) (length queued.old) links.now }
+    requires stand { AllStand (map (λ x. x.cond) list.now) from.now kept.old }
+    ensures queued { CatchesUp (map (λ x. x.cond) list.now) from.now to.now queued.old queued.new }
+    ensures stand { AllStand (map (λ x. x.cond) list.now) to.now kept.new }
+{
+    let _objects = from.objects();
+    for u in 0..queued.len() {
+        if !is_same(from, to, ObjId(u as u16)) {
+            queued[u] = true;
+            touch(links, u, queued);
+            retry_near(list, links, u, to, kept);
+        }
+    }
+}

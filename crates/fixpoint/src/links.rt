@@ -1,0 +1,78 @@
+//! Which objects the conditions name, and which conditions name an object.
+
+ghost use Rattle.std.specs.Prelude.{◌≡◌, ℕ, ◌<◌, ◌≤◌, [], length, map, IfOk};
+ghost use Rattle.fixpoint.specs.Links.{AreLinks, NamedBy, Numbers, row};
+
+use geo_conditions::{MAX_OBJECTS, ObjId};
+use indexical::AnyIndexical;
+use std::alloc::{AllocError, Global};
+
+/// The links between conditions and objects. The numbers of the conditions count from 1.
+#[derive(Drop)]
+pub struct Links {
+    /// For each condition the objects that it names.
+    pub named: Vec<Vec<ObjId>>,
+    /// For each object the numbers of the conditions that name it.
+    pub picks: Vec<Vec<u32>>,
+    /// The numbers of the conditions that name no object.
+    pub bare: Vec<u32>,
+}
+
+// The objects that the condition names. Each gets the number of the condition.
+fn link<const K: usize>(
+    alloc: Global,
+    x: &AnyIndexical<K>,
+    number: u32,
+    picks: &mut [Vec<u32>],
+) -> Result<Vec<ObjId>, AllocError>
+    requires { length picks.old ≤ MAX_OBJECTS }
+    ensures named { IfOk result (λ v. NamedBy x.now.cond (length picks.old) v.items) }
+    ensures numbers { IfOk result (λ v. Numbers x.now.cond number picks.old picks.new) }
+{
+    let objects = picks.len();
+    let mut named = Vec::new(alloc);
+    let mut next = 0;
+    while let Some(o) = x.first_named(next, objects) {
+        named.push(o)?;
+        let numbers = &mut picks[o.0 as usize];
+        numbers.push(number)?;
+        next = o.0 as usize + 1;
+    }
+    Ok(named)
+}
+
+// A list without numbers for each object.
+fn no_picks(alloc: Global, objects: usize) -> Result<Vec<Vec<u32>>, AllocError>
+    ensures { IfOk result (λ v. (length v.items ≡ objects) × ((o : ℕ) → row v.items o ≡ [])) }
+{
+    let mut picks = Vec::new(alloc);
+    for _ in 0..objects {
+        picks.push(Vec::new(alloc))?;
+    }
+    Ok(picks)
+}
+
+/// The links between the conditions and that number of objects. The answer is an error where memory
+/// runs out.
+pub fn links_of<const K: usize>(
+    alloc: Global,
+    list: &[AnyIndexical<K>],
+    objects: usize,
+) -> Result<Links, AllocError>
+    requires list { length list.now ≤ 1000000000 }
+    requires objects { objects ≤ MAX_OBJECTS }
+    ensures { IfOk result (λ l. AreLinks (map (λ x. x.cond) list.now) objects l) }
+{
+    let mut named = Vec::new(alloc);
+    let mut picks = no_picks(alloc, objects)?;
+    let mut bare = Vec::new(alloc);
+    for i in 0..list.len() {
+        let number = i as u32 + 1;
+        let those = link(alloc, &list[i], number, &mut picks)?;
+        if those.is_empty() {
+            bare.push(number)?;
+        }
+        named.push(those)?;
+    }
+    Ok(Links { named, picks, bare })
+}

@@ -1,0 +1,5 @@
+pub mod PointSearch
+pub mod Narrowed
+pub mod Finding
+pub mod Passing
+pub mod Recorded

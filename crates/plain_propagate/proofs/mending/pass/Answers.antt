@@ -1,0 +1,95 @@
+use Rattle.std.proofs.Common.{◌≡◌, ◌+◌, Bool, ap, ◌∙◌, subst, arith, length, Option, ℕ, true}
+use Rattle.std.specs.Prelude.{MatchOption}
+use Rattle.geo_conditions.specs.Reach.{State}
+use Rattle.geo_conditions.specs.Supported.{NoneInside, NoneRefuted}
+use Rattle.geo_conditions.proofs.Points.{inside_self}
+use Rattle.derivation.specs.Covers.{refutes}
+use Rattle.plain_propagate.specs.declared.mending.Outcome.{Outcome}
+use Rattle.plain_propagate.specs.Passes.{Repairs}
+use Rattle.derivation.specs.Chains.{IsLed}
+use Rattle.plain_propagate.specs.Recorded.{RecordsOutcome}
+use Rattle.derivation.proofs.Refuting.{some_refuted}
+use Rattle.derivation.proofs.Chains.{led_on, led_closed}
+use Rattle.derivation.proofs.Continuing.{growth_on, growth_failed}
+use Rattle.plain_propagate.proofs.Finding.{refuted_hopeless, all_supported}
+use Rattle.plain_propagate.proofs.Narrowed.{Unless, FineBelow}
+use Rattle.plain_propagate.proofs.Passing.{Along, along_changed, along_fine}
+use Rattle.plain_propagate.proofs.mending.pass.Goals as goal
+use Rattle.plain_propagate.proofs.mending.pass.Goals.{in-Changed, in-Fine}
+
+pub returns-in-Ok-clause-passes : goal.returns-in-Ok-clause-passes
+returns-in-Ok-clause-passes g c =
+    let cs = c.args.cs.now in (
+      subst (NoneInside cs) c.state.ensures.value (refuted_hopeless cs c.state.result.now (some_refuted cs c.in-Some.i c.state.result.now c.in-Some.ensures.found)),
+      inside_self c.args.t.now.state,
+    )
+
+pub returns-in-Dead-clause-record : goal.returns-in-Dead-clause-record
+returns-in-Dead-clause-record g c = λ kept.
+    let cs = c.args.cs.now in
+    let R = c.loop-o.t.state in
+    let mid = g.R.Recorder.list c.loop-o.rec in
+    let end = g.R.Recorder.list c.repair.new.rec in
+    led_closed cs c.args.t.now.state R (g.R.Recorder.list c.args.rec.now) mid end (c.loop-o.invariant.recorded kept) (subst (λ (a : Outcome). RecordsOutcome cs R a c.repair.new.t.state mid end) c.in-Dead.is (c.in_ok-outcome.ensures.record kept))
+
+pub loop-o-preserved : goal.loop-o-preserved
+loop-o-preserved g c =
+    let cs = c.args.cs.now in
+    let S = c.args.t.now.state in
+    let R = c.loop-o.t.state in
+    let Q = c.repair.new.t.state in
+    let old = g.R.Recorder.list c.args.rec.now in
+    let mid = g.R.Recorder.list c.loop-o.rec in
+    let end = g.R.Recorder.list c.repair.new.rec in
+    let i = c.loop-o.invariant in
+    let a : Along cs S R c.loop-o.changed c.loop-o.o = (i.going, i.unless, i.fine) in
+    let b : Along cs S Q c.match-outcome.changed (c.loop-o.o + 1) × (g.R.Recorder.keeps ≡ true → IsLed cs R Q mid end) = elim c.match-outcome.branch [
+      | in-Changed w ↦ (
+        along_changed cs S R Q c.loop-o.changed c.match-outcome.changed c.loop-o.o a (subst (λ (x : Outcome). Repairs cs R c.loop-o.o x Q) w.in-Changed.is c.in_ok-outcome.ensures.repairs) w.changed-is,
+        λ kept. subst (λ (x : Outcome). RecordsOutcome cs R x Q mid end) w.in-Changed.is (c.in_ok-outcome.ensures.record kept),
+      )
+      | in-Fine w ↦ let f = subst (λ (x : Outcome). Repairs cs R c.loop-o.o x Q) w.in-Fine.is c.in_ok-outcome.ensures.repairs in (
+        along_fine cs S R Q c.loop-o.changed c.match-outcome.changed c.loop-o.o a f.0 f.1 w.changed-is,
+        λ kept. subst (λ (x : Outcome). RecordsOutcome cs R x Q mid end) w.in-Fine.is (c.in_ok-outcome.ensures.record kept),
+      )
+    ] in
+    record {
+      going = b.0.0;
+      unless = b.0.1;
+      fine = b.0.2;
+      levels = (c.repair.ensures.levels.0 ∙ i.levels.0, c.repair.ensures.levels.1 ∙ i.levels.1);
+      recorded = λ kept. led_on cs S R Q old mid end (i.recorded kept) (b.1 kept);
+      grows = growth_on i.grows c.in_ok-outcome.ensures.grows;
+    }
+
+pub returns-else-changed-clause-passes : goal.returns-else-changed-clause-passes
+returns-else-changed-clause-passes g c =
+    let cs = c.args.cs.now in
+    let S = c.args.t.now.state in
+    let i = c.loop-o.invariant in
+    let none : NoneRefuted cs c.state.result.now = subst (λ (a : Option ℕ). MatchOption a (NoneRefuted cs c.state.result.now) (λ n. refutes cs n c.state.result.now ≡ true)) c.in_default.is c.first_refuted.ensures.found in
+    let same : c.loop-o.t.state ≡ S = subst (λ (b : Bool). Unless b cs S c.loop-o.t.state) c.if-changed.false i.unless in
+    let fine : FineBelow c.loop-o.changed cs S c.loop-o.o = subst (λ (T : State). FineBelow c.loop-o.changed cs T c.loop-o.o) same i.fine in
+    let all = subst (λ (b : Bool). FineBelow b cs S c.loop-o.o) c.if-changed.false fine in (
+      same,
+      all_supported cs S (subst (NoneRefuted cs) c.state.ensures.value none)
+          (λ o h. all o (omega (arith, h, c.objects-objects.ensures.number, ap length c.state-2.ensures.value, c.loop-o-test.false))),
+    )
+
+pub returns-in-Err-clause-grows : goal.returns-in-Err-clause-grows
+returns-in-Err-clause-grows g c = c.in-Err.ensures.grows
+
+pub returns-in-Ok-clause-grows : goal.returns-in-Ok-clause-grows
+returns-in-Ok-clause-grows g c = c.in-Ok.ensures.grows
+
+pub returns-in_err-outcome-clause-grows : goal.returns-in_err-outcome-clause-grows
+returns-in_err-outcome-clause-grows g c = growth_failed (growth_on c.loop-o.invariant.grows c.in_err-outcome.ensures.grows) _ c.from_residual.ensures.0
+
+pub returns-in-Dead-clause-grows : goal.returns-in-Dead-clause-grows
+returns-in-Dead-clause-grows g c = growth_on c.loop-o.invariant.grows c.in_ok-outcome.ensures.grows
+
+pub returns-then-changed-clause-grows : goal.returns-then-changed-clause-grows
+returns-then-changed-clause-grows g c = c.loop-o.invariant.grows
+
+pub returns-else-changed-clause-grows : goal.returns-else-changed-clause-grows
+returns-else-changed-clause-grows g c = c.loop-o.invariant.grows

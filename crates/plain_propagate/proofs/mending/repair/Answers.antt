@@ -1,0 +1,60 @@
+use Rattle.std.proofs.Common.{◌≡◌, Bool, ◌∙◌, subst, arith, Option}
+use Rattle.std.specs.Prelude.{MatchBool, MatchOption}
+use Rattle.geo_conditions.specs.Reach.{State}
+use Rattle.geo_conditions.specs.Supported.{NoneInside}
+use Rattle.plain_propagate.specs.declared.defects.Defect.{Defect}
+use Rattle.plain_propagate.specs.Defects.{ObjectFine, IsDefect}
+use Rattle.plain_propagate.specs.Passes.{IsNarrower}
+use Rattle.derivation.specs.Chains.{IsLed, IsClosed}
+use Rattle.plain_propagate.proofs.Narrowed.{Mended, Unless, going_on, unless_on}
+use Rattle.derivation.proofs.Chains.{led_on, led_closed}
+use Rattle.derivation.proofs.Continuing.{growth_on}
+use Rattle.plain_propagate.proofs.mending.repair.Goals as goal
+
+pub loop-defect-preserved : goal.loop-defect-preserved
+loop-defect-preserved g c =
+    let cs = c.args.cs.now in
+    let S = c.args.t.now.state in
+    let R = c.loop-defect.t.state in
+    let Q = c.mend.new.t.state in
+    let i = c.loop-defect.invariant in
+    let m : Mended cs R Q = subst (λ (b : Bool). MatchBool b (IsNarrower cs R Q) (NoneInside cs R × (Q ≡ R))) c.in-Ok-true.field-0-test c.in-Ok-true.ensures.mended in
+    record {
+      going = going_on cs S R Q i.going m.0;
+      unless = unless_on c.loop-defect.changed cs S R Q i.unless m;
+      levels = (c.mend.ensures.levels.0 ∙ i.levels.0, c.mend.ensures.levels.1 ∙ i.levels.1);
+      recorded = λ kept.
+          let old = g.R.Recorder.list c.args.rec.now in
+          let mid = g.R.Recorder.list c.loop-defect.rec in
+          let end = g.R.Recorder.list c.mend.new.rec in
+          led_on cs S R Q old mid end (i.recorded kept) (subst (λ (b : Bool). MatchBool b (IsLed cs R Q mid end) (IsClosed cs R mid end)) c.in-Ok-true.field-0-test (c.in-Ok-true.ensures.record kept));
+      grows = growth_on i.grows c.in-Ok-true.ensures.grows;
+    }
+
+pub returns-in-Ok-false-clause-record : goal.returns-in-Ok-false-clause-record
+returns-in-Ok-false-clause-record g c = λ kept.
+    let cs = c.args.cs.now in
+    let R = c.loop-defect.t.state in
+    let old = g.R.Recorder.list c.args.rec.now in
+    let mid = g.R.Recorder.list c.loop-defect.rec in
+    let end = g.R.Recorder.list c.mend.new.rec in
+    led_closed cs c.args.t.now.state R old mid end (c.loop-defect.invariant.recorded kept) (subst (λ (b : Bool). MatchBool b (IsLed cs R c.mend.new.t.state mid end) (IsClosed cs R mid end)) c.in-Ok-false.field-0-test (c.in-Ok-false.ensures.record kept))
+
+pub returns-else-changed-clause-repairs : goal.returns-else-changed-clause-repairs
+returns-else-changed-clause-repairs g c =
+    let cs = c.args.cs.now in
+    let same : c.loop-defect.t.state ≡ c.args.t.now.state = subst (λ (b : Bool). Unless b cs c.args.t.now.state c.loop-defect.t.state) c.if-changed.false c.loop-defect.invariant.unless in
+    let fine : ObjectFine cs c.state.result.now c.args.o.0 = subst (λ (a : Option Defect). MatchOption a (ObjectFine cs c.state.result.now c.args.o.0) (IsDefect cs c.state.result.now)) c.in_default.is c.object_defect.ensures in
+    (same, subst (λ (S : State). ObjectFine cs S c.args.o.0) (c.state.ensures.value ∙ same) fine)
+
+pub returns-in-Err-clause-grows : goal.returns-in-Err-clause-grows
+returns-in-Err-clause-grows g c = growth_on c.loop-defect.invariant.grows c.in-Err.ensures.grows
+
+pub returns-in-Ok-false-clause-grows : goal.returns-in-Ok-false-clause-grows
+returns-in-Ok-false-clause-grows g c = growth_on c.loop-defect.invariant.grows c.in-Ok-false.ensures.grows
+
+pub returns-then-changed-clause-grows : goal.returns-then-changed-clause-grows
+returns-then-changed-clause-grows g c = c.loop-defect.invariant.grows
+
+pub returns-else-changed-clause-grows : goal.returns-else-changed-clause-grows
+returns-else-changed-clause-grows g c = c.loop-defect.invariant.grows

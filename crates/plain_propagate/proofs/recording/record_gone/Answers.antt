@@ -1,0 +1,30 @@
+use Rattle.std.proofs.Common.{rules, ◌≡◌, ℕ, true, subst}
+use Rattle.geo_conditions.specs.Reach.{Region, has}
+use Rattle.geo_conditions.specs.Regions.{region_of}
+use Rattle.geo_conditions.specs.Supported.{HasNoPoint}
+use Rattle.derivation.specs.PlaceCovers.{RecordedCovers}
+use Rattle.derivation.proofs.Listings.{gone_closed}
+use Rattle.plain_propagate.specs.Points.{IsSmallRegion}
+use Rattle.plain_propagate.proofs.Recorded.{gone_none, small_region}
+use Rattle.derivation.proofs.Continuing.{growth_on}
+use Rattle.plain_propagate.proofs.recording.record_gone.Goals as goal
+
+pub record_places-requires : goal.record_places-requires
+record_places-requires g c =
+    let none : (n : ℕ) → has c.args.s.now c.args.o.0 n ≡ true → HasNoPoint c.args.cs.now c.args.s.now c.args.o.0 n (region_of c.region-region.result) = gone_none c.args.cs.now c.args.s.now c.args.o.0 (region_of c.region-region.result) c.region-region.ensures.value c.requires.lacks in
+    let small : IsSmallRegion (region_of c.region-region.result) = small_region c.args.s.now c.args.o.0 _ c.requires.small c.region-region.ensures.value in
+    search rules
+
+pub returns-in-Ok-record_places-clause-closed : goal.returns-in-Ok-record_places-clause-closed
+returns-in-Ok-record_places-clause-closed g c = λ kept.
+    gone_closed c.args.cs.now c.args.s.now c.args.o.0 (g.R.Recorder.list c.args.rec.now) (g.R.Recorder.list c.record_event.new.rec) (g.R.Recorder.list c.record_places.new.rec) c.requires.lacks.object (c.in-Ok.ensures.added kept)
+    (subst (λ (b : Region). RecordedCovers c.args.cs.now c.args.s.now c.args.o.0 b (g.R.Recorder.list c.record_event.new.rec) (g.R.Recorder.list c.record_places.new.rec)) c.region-region.ensures.value (c.in-Ok-record_places.ensures.covers kept))
+
+pub returns-in-Err-clause-grows : goal.returns-in-Err-clause-grows
+returns-in-Err-clause-grows g c = c.in-Err.ensures.grows
+
+pub returns-in-Err-record_places-clause-grows : goal.returns-in-Err-record_places-clause-grows
+returns-in-Err-record_places-clause-grows g c = growth_on c.in-Ok.ensures.grows c.in-Err-record_places.ensures.grows
+
+pub returns-in-Ok-record_places-clause-grows : goal.returns-in-Ok-record_places-clause-grows
+returns-in-Ok-record_places-clause-grows g c = growth_on c.in-Ok.ensures.grows c.in-Ok-record_places.ensures.grows

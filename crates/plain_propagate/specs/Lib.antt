@@ -1,0 +1,4 @@
+pub mod Points
+pub mod Defects
+pub mod Passes
+pub mod Recorded

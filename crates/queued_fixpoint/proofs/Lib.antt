@@ -1,7 +1,0 @@
-pub mod Names
-pub mod Turns
-pub mod Linking
-pub mod Effect
-pub mod Stable
-pub mod Standing
-pub mod Record

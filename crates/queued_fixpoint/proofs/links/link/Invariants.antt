@@ -1,9 +1,0 @@
-use Rattle.std.proofs.Common.{ℕ, ◌-◌, ◌≤◌}
-use Rattle.queued_fixpoint.proofs.Linking.{LinkedBelow}
-use Rattle.queued_fixpoint.proofs.links.link.Given as goal
-
-abbrev pub invariant-loop-o : goal.invariant-loop-o
-invariant-loop-o g l = LinkedBelow l.x.cond l.number l.next l.named.items l.fn.picks l.picks × (l.next ≤ l.objects)
-
-abbrev pub decreases-loop-o : goal.decreases-loop-o
-decreases-loop-o g l = l.objects - l.next

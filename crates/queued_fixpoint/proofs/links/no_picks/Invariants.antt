@@ -1,6 +1,0 @@
-use Rattle.std.proofs.Common.{◌≡◌, ℕ, [], length}
-use Rattle.queued_fixpoint.specs.Links.{row}
-use Rattle.queued_fixpoint.proofs.links.no_picks.Given as goal
-
-abbrev pub invariant-loop : goal.invariant-loop
-invariant-loop l = (length l.picks.items ≡ l.counter) × ((o : ℕ) → row l.picks.items o ≡ [])

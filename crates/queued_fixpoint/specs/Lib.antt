@@ -1,5 +1,0 @@
-pub mod Near
-pub mod Links
-pub mod Queue
-pub mod Kept
-pub mod Record

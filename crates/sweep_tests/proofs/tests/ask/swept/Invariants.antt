@@ -1,4 +1,0 @@
-use Rattle.sweep_tests.proofs.tests.ask.swept.Given as goal
-
-abbrev pub ghosts-sweep_with : goal.ghosts-sweep_with
-ghosts-sweep_with g a = record { name = a.blank.name; parts = a.blank.parts }
