@@ -6,9 +6,11 @@
 
 mod checker;
 mod cuts;
+mod fitting;
 mod open_box;
 mod progress;
 mod saved;
 
 pub use checker::{Checker, check};
+pub use fitting::{all_fit, fits};
 pub use progress::Checked;
