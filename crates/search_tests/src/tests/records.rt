@@ -3,9 +3,9 @@
 use super::lines::Rules::{False, ThreeApart};
 use super::lines::{B, C, Rules, conditions, indexicals, line};
 use derivation::{Event, Log};
+use fixpoint::Fixpoint;
 use geo_conditions::all_fit;
 use geo_state::{Propagate, Settled, Trailed, is_small};
-use fixpoint::Fixpoint;
 use std::alloc::{AllocError, Global};
 use std::test::Fail;
 

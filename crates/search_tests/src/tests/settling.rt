@@ -8,10 +8,10 @@ ghost use Rattle.geo_state.specs.Trail.{IsSmall};
 use super::lines::Rules::{Chain, Cycle, False, Free, Slot, Sum, ThreeApart, TwoApart};
 use super::lines::{A, Rules, conditions, indexicals, line, plane};
 use derivation::NoRecord;
-use plain_propagate::PlainPropagate;
+use fixpoint::Fixpoint;
 use geo_conditions::{ObjId, State, all_fit};
 use geo_state::{Propagate, Settled, Trailed, is_small};
-use fixpoint::Fixpoint;
+use plain_propagate::PlainPropagate;
 use std::alloc::{AllocError, Global};
 use std::test::Fail;
 

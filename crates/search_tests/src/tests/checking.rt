@@ -1,0 +1,216 @@
+//! Derivations, and what the check says of them.
+
+use super::lines::Rules::{Chain, False, Free, TwoApart};
+use super::lines::{A, B, C, Rules, conditions, line};
+use derivation::{Event, Log, Recorder};
+use derivation_check::{Checked, all_fit as events_fit, check};
+use geo_conditions::all_fit;
+use std::alloc::{AllocError, Global};
+use std::test::Fail;
+
+/// What the check says of the events, on objects in those ranges: 0 where they are valid, else the number of the first node that
+/// fails; none where they cannot be given.
+fn checked(
+    alloc: Global,
+    ranges: &[(i64, i64)],
+    rules: Rules,
+    events: &[Event],
+) -> Result<Option<u64>, AllocError> {
+    let s = line(alloc, ranges)?;
+    let list = conditions(alloc, rules)?;
+    let mut log = Log::new(alloc);
+    for event in events {
+        log.add(*event)?;
+    }
+    let can_be_given = all_fit(&list, &s)
+        && events_fit::<1>(log.events(), s.objects())
+        && log.events().len() < 1_000_000_000;
+    if !can_be_given {
+        return Ok(None);
+    }
+    match check(alloc, &list, &s, &log)? {
+        Checked::Yes => Ok(Some(0)),
+        Checked::No(n) => Ok(Some(n)),
+    }
+}
+
+/// Each row: the ranges of the objects, what has to hold of them, the events, and the answer.
+const DERIVATIONS: &[(&[(i64, i64)], Rules, &[Event], u64)] = &[
+    // a condition that never holds, and none
+    (&[(0, 4)], False, &[Event::Dead(1)], 0),
+    (&[(0, 4)], Free, &[Event::Dead(1)], 1),
+    (&[(0, 4)], False, &[Event::Dead(2)], 1),
+    // both parts of a split, and the first node that fails
+    (
+        &[(0, 4)],
+        False,
+        &[Event::SplitUpto(A, 0, 2), Event::Dead(1), Event::Dead(1)],
+        0,
+    ),
+    (
+        &[(0, 4)],
+        False,
+        &[Event::SplitUpto(A, 0, 2), Event::Dead(1), Event::Dead(2)],
+        3,
+    ),
+    (
+        &[(0, 4)],
+        False,
+        &[Event::SplitUpto(A, 0, 2), Event::Dead(2), Event::Dead(2)],
+        2,
+    ),
+    // two boxes of length 2 have no room where both begin at 0 or 1; where the first may begin at 2 they have
+    (&[(0, 1), (0, 1)], TwoApart, &[Event::Dead(1)], 0),
+    (&[(0, 2), (0, 1)], TwoApart, &[Event::Dead(1)], 1),
+    (
+        &[(0, 2), (0, 1)],
+        TwoApart,
+        &[Event::SplitUpto(A, 0, 1), Event::Dead(1), Event::Dead(1)],
+        3,
+    ),
+    // what a first part cut is put back for the second one, of another object too
+    (
+        &[(0, 2), (0, 1)],
+        TwoApart,
+        &[
+            Event::SplitFrom(A, 0, 2),
+            Event::SplitUpto(B, 0, 0),
+            Event::Dead(1),
+            Event::Dead(1),
+            Event::Dead(1),
+        ],
+        3,
+    ),
+    // one behind the other in 0 to 2: the second begins at 1 or later, as a cover of what is below it shows
+    (
+        &[(0, 2), (0, 2), (0, 2)],
+        Chain,
+        &[
+            Event::Raise(B, 0, 1),
+            Event::Cover(1),
+            Event::By(1),
+            Event::EndCovers,
+            Event::Dead(1),
+        ],
+        2,
+    ),
+    // the cover is missing, names another place, or names a condition that is not refuted there
+    (
+        &[(0, 2), (0, 2), (0, 2)],
+        Chain,
+        &[Event::Raise(B, 0, 1), Event::EndCovers, Event::Dead(1)],
+        1,
+    ),
+    (
+        &[(0, 2), (0, 2), (0, 2)],
+        Chain,
+        &[
+            Event::Raise(B, 0, 1),
+            Event::Cover(2),
+            Event::By(1),
+            Event::EndCovers,
+            Event::Dead(1),
+        ],
+        1,
+    ),
+    (
+        &[(0, 2), (0, 2), (0, 2)],
+        Chain,
+        &[
+            Event::Raise(B, 0, 1),
+            Event::Cover(1),
+            Event::By(2),
+            Event::EndCovers,
+            Event::Dead(1),
+        ],
+        1,
+    ),
+    // three in 0 to 1 do not fit one behind the other: the second and then the third move up, and the third has no point left
+    (
+        &[(0, 1), (0, 1), (0, 1)],
+        Chain,
+        &[
+            Event::Raise(B, 0, 1),
+            Event::Cover(1),
+            Event::By(1),
+            Event::EndCovers,
+            Event::Gone(C),
+            Event::Cover(1),
+            Event::Cut(0, 0),
+            Event::By(2),
+            Event::By(2),
+            Event::EndCovers,
+        ],
+        0,
+    ),
+    // a place is dropped with a cover of two boxes; with the leaves exchanged neither is refuted
+    (
+        &[(0, 1), (0, 2), (0, 1)],
+        Chain,
+        &[
+            Event::Drop(B, 1),
+            Event::CutFrom(0, 1),
+            Event::By(2),
+            Event::By(1),
+            Event::Gone(B),
+            Event::EndCovers,
+        ],
+        0,
+    ),
+    (
+        &[(0, 1), (0, 2), (0, 1)],
+        Chain,
+        &[
+            Event::Drop(B, 1),
+            Event::CutFrom(0, 1),
+            Event::By(1),
+            Event::By(2),
+            Event::Gone(B),
+            Event::EndCovers,
+        ],
+        1,
+    ),
+];
+
+#[test]
+fn the_first_node_that_fails_is_named(rt: HostRuntime) -> Result<(), Fail> {
+    let alloc = rt.alloc();
+    for (ranges, rules, events, wanted) in DERIVATIONS {
+        let answer = checked(alloc, ranges, *rules, events)?;
+        assert!(rt; answer == Some(*wanted));
+    }
+    Ok(())
+}
+
+/// So many splits inside each other, each with an end for its first part, and the end of the last second part.
+fn many_splits(alloc: Global, number: usize, last: u32) -> Result<Log, AllocError> {
+    let mut log = Log::new(alloc);
+    for _ in 0..number {
+        log.add(Event::SplitUpto(A, 0, 9))?;
+    }
+    for _ in 0..number {
+        log.add(Event::Dead(1))?;
+    }
+    log.add(Event::Dead(last))?;
+    Ok(log)
+}
+
+#[test]
+fn a_derivation_may_be_as_deep_as_it_is_long(rt: HostRuntime) -> Result<(), Fail> {
+    let alloc = rt.alloc();
+    let s = line(alloc, &[(0, 9)])?;
+    let list = conditions(alloc, False)?;
+    for (last, wanted) in [(1, None), (2, Some(200_001))] {
+        let log = many_splits(alloc, 100_000, last)?;
+        let can_be_given = all_fit(&list, &s)
+            && events_fit::<1>(log.events(), s.objects())
+            && log.events().len() < 1_000_000_000;
+        assert!(rt; can_be_given);
+        let found = match check(alloc, &list, &s, &log)? {
+            Checked::Yes => None,
+            Checked::No(n) => Some(n),
+        };
+        assert!(rt; found == wanted);
+    }
+    Ok(())
+}
