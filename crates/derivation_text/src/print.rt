@@ -27,6 +27,7 @@ fn shape_name(names: &Names, o: ObjId, place: u8) -> &[u8]
 }
 
 // A coordinate of an object, and a number.
+#[derive(Clone, Copy)]
 struct Coordinate<'a> {
     word: &'a [u8],
     name: &'a [u8],
@@ -53,11 +54,11 @@ fn write_coordinate<W: Sink>(c: &Coordinate<'_>, sink: &mut W) -> Result<(), Put
     write_pieces(sink, &pieces)
 }
 
-fn write_shape<W: Sink>(
-    word: &[u8],
-    name: &[u8],
-    between: &[u8],
-    shape: &[u8],
+fn write_shape<'a, W: Sink>(
+    word: &'a [u8],
+    name: &'a [u8],
+    between: &'a [u8],
+    shape: &'a [u8],
     sink: &mut W,
 ) -> Result<(), PutFault>
     ensures { Writes (W.written sink.old) (W.written sink.new) (W.faults sink.old) (W.faults sink.new) (W.quiet sink.old) (W.quiet sink.new) result
