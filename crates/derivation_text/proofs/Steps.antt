@@ -1,5 +1,5 @@
 -- The lines of events, one event after another.
-use Rattle.std.proofs.Common.{◌≡◌, ℕ, ◌+◌, ◌<◌, List, ◌∷◌, ◌++◌, length, drop, get_or, ap, subst, drop-cons, add-one, ◌∙◌, sym, arith}
+use Rattle.std.proofs.Common.{◌≡◌, ℕ, ◌+◌, ◌<◌, List, ◌∷◌, ◌++◌, length, drop, get_or, ap, subst, drop-cons, add-one}
 use Rattle.geo_tokens.specs.Names.{NameTable}
 use Rattle.derivation.specs.declared.event.Event.{Event}
 use Rattle.derivation_text.specs.Lines.{line_of, lines_of, listed, IsNamed, AreNamed}

@@ -40,6 +40,13 @@ cut_line word d v = joined (word ∷ dimension d ∷ codes " " ∷ signed_decima
 abbrev pub number_line : List ℕ → ℕ → List ℕ
 number_line word n = joined (word ∷ number n ∷ codes "\n" ∷ [])
 
+-- a line that begins a list of covers of an object; one that names the shape of a cover
+abbrev pub gone_line : List ℕ → List ℕ
+gone_line name = joined (codes "gone " ∷ name ∷ codes " [\n" ∷ [])
+
+abbrev pub cover_line : List ℕ → List ℕ
+cover_line shape = joined (shape ∷ codes "\n" ∷ [])
+
 -- the line of an event, where o is the object whose covers are listed
 abbrev pub line_of : NameTable → ℕ → Event → List ℕ
 line_of n o (SplitShape u s) = shape_line (codes "split ") (object_name n u.0) (codes " shape ") (shape_name n u.0 s)
@@ -48,9 +55,9 @@ line_of n o (SplitFrom u d v) = coordinate_line (codes "split ") (object_name n 
 line_of n o (Drop u s) = shape_line (codes "drop ") (object_name n u.0) (codes " ") (shape_name n u.0 s)
 line_of n o (Raise u d v) = coordinate_line (codes "raise ") (object_name n u.0) d (codes " ") v (codes " [\n")
 line_of n o (Lower u d v) = coordinate_line (codes "lower ") (object_name n u.0) d (codes " ") v (codes " [\n")
-line_of n o (Gone u) = joined (codes "gone " ∷ object_name n u.0 ∷ codes " [\n" ∷ [])
+line_of n o (Gone u) = gone_line (object_name n u.0)
 line_of n o (Dead i) = number_line (codes "dead ") i
-line_of n o (Cover s) = joined (shape_name n o s ∷ codes "\n" ∷ [])
+line_of n o (Cover s) = cover_line (shape_name n o s)
 line_of n o EndCovers = codes "]\n"
 line_of n o (By i) = number_line (codes "by ") i
 line_of n o (Cut d v) = cut_line (codes "cut ") d v

@@ -2,7 +2,7 @@
 
 ghost use Rattle.std.specs.Prelude.{◌≡◌, ◌+◌, ◌≤◌, ◌<◌, ℤ, pos, codes, length};
 ghost use Rattle.geo_chan.specs.Written.{Writes};
-ghost use Rattle.derivation_text.specs.Lines.{object_name as object_name_of, shape_name as shape_name_of, coordinate_line, shape_line, cut_line, number_line, line_of, lines_of, listed, derivation_text, HasShape, IsNamed, AreNamed};
+ghost use Rattle.derivation_text.specs.Lines.{object_name as object_name_of, shape_name as shape_name_of, coordinate_line, shape_line, cut_line, number_line, gone_line, cover_line, line_of, lines_of, listed, derivation_text, HasShape, IsNamed, AreNamed};
 
 use derivation::{Event, Log};
 use geo_chan::{Piece, PutFault, Sink, write_all_bytes, write_pieces};
@@ -26,30 +26,66 @@ fn shape_name(names: &Names, o: ObjId, place: u8) -> &[u8]
     names.shapes()[number as usize].as_bytes()
 }
 
-// A coordinate of an object, and a number.
+// What stands before the name of an object, between a dimension and a number, and at the end.
 #[derive(Clone, Copy)]
-struct Coordinate<'a> {
-    word: &'a [u8],
-    name: &'a [u8],
-    dimension: usize,
-    between: &'a [u8],
-    number: i64,
-    end: &'a [u8],
+struct Marks {
+    word: &'static [u8],
+    between: &'static [u8],
+    end: &'static [u8],
 }
 
-fn write_coordinate<W: Sink>(c: &Coordinate<'_>, sink: &mut W) -> Result<(), PutFault>
-    requires dimension { c.now.dimension < 1000000000 }
+const UPTO: Marks = Marks {
+    word: b"split ",
+    between: b" upto ",
+    end: b"\n",
+};
+
+const FROM: Marks = Marks {
+    word: b"split ",
+    between: b" from ",
+    end: b"\n",
+};
+
+const RAISE: Marks = Marks {
+    word: b"raise ",
+    between: b" ",
+    end: b" [\n",
+};
+
+const LOWER: Marks = Marks {
+    word: b"lower ",
+    between: b" ",
+    end: b" [\n",
+};
+
+// A text counts dimensions from 1.
+fn counted(d: usize) -> i128
+    requires dimension { d < 1000000000 }
+    ensures { result ≡ pos (d + 1) }
+{
+    d as i128 + 1
+}
+
+// Writes a line with a coordinate of an object and a number.
+fn write_coordinate<W: Sink>(
+    name: &[u8],
+    d: usize,
+    v: i64,
+    marks: Marks,
+    sink: &mut W,
+) -> Result<(), PutFault>
+    requires dimension { d < 1000000000 }
     ensures { Writes (W.written sink.old) (W.written sink.new) (W.faults sink.old) (W.faults sink.new) (W.quiet sink.old) (W.quiet sink.new) result
-        (coordinate_line c.now.word.now c.now.name.now c.now.dimension c.now.between.now c.now.number c.now.end.now) }
+        (coordinate_line marks.word.now name.now d marks.between.now v marks.end.now) }
 {
     let pieces = [
-        Piece::Bytes(c.word),
-        Piece::Bytes(c.name),
+        Piece::Bytes(marks.word),
+        Piece::Bytes(name),
         Piece::Bytes(b" "),
-        Piece::Number(c.dimension as i128 + 1),
-        Piece::Bytes(c.between),
-        Piece::Number(c.number as i128),
-        Piece::Bytes(c.end),
+        Piece::Number(counted(d)),
+        Piece::Bytes(marks.between),
+        Piece::Number(v as i128),
+        Piece::Bytes(marks.end),
     ];
     write_pieces(sink, &pieces)
 }
@@ -81,7 +117,7 @@ fn write_cut<W: Sink>(word: &[u8], d: usize, v: i64, sink: &mut W) -> Result<(),
 {
     let pieces = [
         Piece::Bytes(word),
-        Piece::Number(d as i128 + 1),
+        Piece::Number(counted(d)),
         Piece::Bytes(b" "),
         Piece::Number(v as i128),
         Piece::Bytes(b"\n"),
@@ -101,6 +137,26 @@ fn write_number_line<W: Sink>(word: &[u8], n: u32, sink: &mut W) -> Result<(), P
     write_pieces(sink, &pieces)
 }
 
+fn write_head<W: Sink>(name: &[u8], sink: &mut W) -> Result<(), PutFault>
+    ensures { Writes (W.written sink.old) (W.written sink.new) (W.faults sink.old) (W.faults sink.new) (W.quiet sink.old) (W.quiet sink.new) result
+        (gone_line name.now) }
+{
+    let pieces = [
+        Piece::Bytes(b"gone "),
+        Piece::Bytes(name),
+        Piece::Bytes(b" [\n"),
+    ];
+    write_pieces(sink, &pieces)
+}
+
+fn write_name<W: Sink>(name: &[u8], sink: &mut W) -> Result<(), PutFault>
+    ensures { Writes (W.written sink.old) (W.written sink.new) (W.faults sink.old) (W.faults sink.new) (W.quiet sink.old) (W.quiet sink.new) result
+        (cover_line name.now) }
+{
+    let pieces = [Piece::Bytes(name), Piece::Bytes(b"\n")];
+    write_pieces(sink, &pieces)
+}
+
 // Writes the line of an event, where `o` is the object whose covers are listed.
 fn write_line<W: Sink>(names: &Names, o: ObjId, e: Event, sink: &mut W) -> Result<(), PutFault>
     requires named { IsNamed names.now o.0 e }
@@ -110,83 +166,19 @@ fn write_line<W: Sink>(names: &Names, o: ObjId, e: Event, sink: &mut W) -> Resul
     let _dims = names.dims();
     match e {
         Event::SplitShape(u, s) => {
-            write_shape(
-                b"split ",
-                object_name(names, u),
-                b" shape ",
-                shape_name(names, u, s),
-                sink,
-            )
+            let shape = shape_name(names, u, s);
+            write_shape(b"split ", object_name(names, u), b" shape ", shape, sink)
         }
         Event::Drop(u, s) => {
-            write_shape(
-                b"drop ",
-                object_name(names, u),
-                b" ",
-                shape_name(names, u, s),
-                sink,
-            )
+            let shape = shape_name(names, u, s);
+            write_shape(b"drop ", object_name(names, u), b" ", shape, sink)
         }
-        Event::SplitUpto(u, d, v) => {
-            let name = object_name(names, u);
-            let line = Coordinate {
-                word: b"split ",
-                name,
-                dimension: d,
-                between: b" upto ",
-                number: v,
-                end: b"\n",
-            };
-            write_coordinate(&line, sink)
-        }
-        Event::SplitFrom(u, d, v) => {
-            let name = object_name(names, u);
-            let line = Coordinate {
-                word: b"split ",
-                name,
-                dimension: d,
-                between: b" from ",
-                number: v,
-                end: b"\n",
-            };
-            write_coordinate(&line, sink)
-        }
-        Event::Raise(u, d, v) => {
-            let name = object_name(names, u);
-            let line = Coordinate {
-                word: b"raise ",
-                name,
-                dimension: d,
-                between: b" ",
-                number: v,
-                end: b" [\n",
-            };
-            write_coordinate(&line, sink)
-        }
-        Event::Lower(u, d, v) => {
-            let name = object_name(names, u);
-            let line = Coordinate {
-                word: b"lower ",
-                name,
-                dimension: d,
-                between: b" ",
-                number: v,
-                end: b" [\n",
-            };
-            write_coordinate(&line, sink)
-        }
-        Event::Gone(u) => {
-            let pieces = [
-                Piece::Bytes(b"gone "),
-                Piece::Bytes(object_name(names, u)),
-                Piece::Bytes(b" [\n"),
-            ];
-            write_pieces(sink, &pieces)
-        }
-        Event::Cover(s) => {
-            let pieces = [Piece::Bytes(shape_name(names, o, s)), Piece::Bytes(b"\n")];
-            write_pieces(sink, &pieces)
-        }
+        Event::SplitUpto(u, d, v) => write_coordinate(object_name(names, u), d, v, UPTO, sink),
+        Event::SplitFrom(u, d, v) => write_coordinate(object_name(names, u), d, v, FROM, sink),
+        Event::Raise(u, d, v) => write_coordinate(object_name(names, u), d, v, RAISE, sink),
+        Event::Lower(u, d, v) => write_coordinate(object_name(names, u), d, v, LOWER, sink),
+        Event::Gone(u) => write_head(object_name(names, u), sink),
+        Event::Cover(s) => write_name(shape_name(names, o, s), sink),
         Event::EndCovers => write_all_bytes(sink, b"]\n"),
         Event::Dead(i) => write_number_line(b"dead ", i, sink),
         Event::By(i) => write_number_line(b"by ", i, sink),

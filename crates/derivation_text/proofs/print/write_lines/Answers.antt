@@ -1,6 +1,6 @@
 use Rattle.std.proofs.Common.{◌≡◌, ◌+◌, ◌++◌, ℕ, List, drop, get_or, ap, sym, subst, ◌∙◌, arith, refl, append_assoc}
 use Rattle.std.proofs.lemmas.Result.{err_from_is_err_and}
-use Rattle.geo_chan.proofs.Appending.{wrote_none, wrote_ok, wrote_err, wrote_all}
+use Rattle.geo_chan.proofs.Appending.{wrote_ok, wrote_err}
 use Rattle.derivation.specs.declared.event.Event.{Event}
 use Rattle.derivation.specs.declared.event.Event.TheVariants.{SplitShape}
 use Rattle.derivation_text.specs.Lines.{line_of, lines_of, listed, AreNamed}
