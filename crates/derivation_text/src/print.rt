@@ -1,8 +1,8 @@
 //! Printing a derivation.
 
 ghost use Rattle.std.specs.Prelude.{◌≡◌, ◌+◌, ◌≤◌, ◌<◌, ℤ, pos, codes, length};
-ghost use Rattle.geo_chan.specs.Written.{Writes};
 ghost use Rattle.derivation_text.specs.Lines.{object_name as object_name_of, shape_name as shape_name_of, coordinate_line, shape_line, cut_line, number_line, gone_line, cover_line, line_of, lines_of, listed, derivation_text, HasShape, IsNamed, AreNamed};
+ghost use Rattle.derivation_text.specs.Prints.{Prints};
 
 use derivation::{Event, Log};
 use geo_chan::{Piece, PutFault, Sink, write_all_bytes, write_pieces};
@@ -75,7 +75,7 @@ fn write_coordinate<W: Sink>(
     sink: &mut W,
 ) -> Result<(), PutFault>
     requires dimension { d < 1000000000 }
-    ensures { Writes (W.written sink.old) (W.written sink.new) (W.faults sink.old) (W.faults sink.new) (W.quiet sink.old) (W.quiet sink.new) result
+    ensures { Prints W.written W.faults W.quiet sink.old sink.new result
         (coordinate_line marks.word.now name.now d marks.between.now v marks.end.now) }
 {
     let pieces = [
@@ -97,7 +97,7 @@ fn write_shape<'a, W: Sink>(
     shape: &'a [u8],
     sink: &mut W,
 ) -> Result<(), PutFault>
-    ensures { Writes (W.written sink.old) (W.written sink.new) (W.faults sink.old) (W.faults sink.new) (W.quiet sink.old) (W.quiet sink.new) result
+    ensures { Prints W.written W.faults W.quiet sink.old sink.new result
         (shape_line word.now name.now between.now shape.now) }
 {
     let pieces = [
@@ -112,7 +112,7 @@ fn write_shape<'a, W: Sink>(
 
 fn write_cut<W: Sink>(word: &[u8], d: usize, v: i64, sink: &mut W) -> Result<(), PutFault>
     requires dimension { d < 1000000000 }
-    ensures { Writes (W.written sink.old) (W.written sink.new) (W.faults sink.old) (W.faults sink.new) (W.quiet sink.old) (W.quiet sink.new) result
+    ensures { Prints W.written W.faults W.quiet sink.old sink.new result
         (cut_line word.now d v) }
 {
     let pieces = [
@@ -126,7 +126,7 @@ fn write_cut<W: Sink>(word: &[u8], d: usize, v: i64, sink: &mut W) -> Result<(),
 }
 
 fn write_number_line<W: Sink>(word: &[u8], n: u32, sink: &mut W) -> Result<(), PutFault>
-    ensures { Writes (W.written sink.old) (W.written sink.new) (W.faults sink.old) (W.faults sink.new) (W.quiet sink.old) (W.quiet sink.new) result
+    ensures { Prints W.written W.faults W.quiet sink.old sink.new result
         (number_line word.now n) }
 {
     let pieces = [
@@ -138,7 +138,7 @@ fn write_number_line<W: Sink>(word: &[u8], n: u32, sink: &mut W) -> Result<(), P
 }
 
 fn write_head<W: Sink>(name: &[u8], sink: &mut W) -> Result<(), PutFault>
-    ensures { Writes (W.written sink.old) (W.written sink.new) (W.faults sink.old) (W.faults sink.new) (W.quiet sink.old) (W.quiet sink.new) result
+    ensures { Prints W.written W.faults W.quiet sink.old sink.new result
         (gone_line name.now) }
 {
     let pieces = [
@@ -150,7 +150,7 @@ fn write_head<W: Sink>(name: &[u8], sink: &mut W) -> Result<(), PutFault>
 }
 
 fn write_name<W: Sink>(name: &[u8], sink: &mut W) -> Result<(), PutFault>
-    ensures { Writes (W.written sink.old) (W.written sink.new) (W.faults sink.old) (W.faults sink.new) (W.quiet sink.old) (W.quiet sink.new) result
+    ensures { Prints W.written W.faults W.quiet sink.old sink.new result
         (cover_line name.now) }
 {
     let pieces = [Piece::Bytes(name), Piece::Bytes(b"\n")];
@@ -160,7 +160,7 @@ fn write_name<W: Sink>(name: &[u8], sink: &mut W) -> Result<(), PutFault>
 // Writes the line of an event, where `o` is the object whose covers are listed.
 fn write_line<W: Sink>(names: &Names, o: ObjId, e: Event, sink: &mut W) -> Result<(), PutFault>
     requires named { IsNamed names.now o.0 e }
-    ensures { Writes (W.written sink.old) (W.written sink.new) (W.faults sink.old) (W.faults sink.new) (W.quiet sink.old) (W.quiet sink.new) result
+    ensures { Prints W.written W.faults W.quiet sink.old sink.new result
         (line_of names.now o.0 e) }
 {
     let _dims = names.dims();
@@ -203,7 +203,7 @@ fn listed(o: ObjId, e: Event) -> ObjId
 /// memory.
 pub fn print_derivation<W: Sink>(names: &Names, log: &Log, sink: &mut W) -> Result<(), PutFault>
     requires named { AreNamed names.now 0 log.now.events }
-    ensures { Writes (W.written sink.old) (W.written sink.new) (W.faults sink.old) (W.faults sink.new) (W.quiet sink.old) (W.quiet sink.new) result
+    ensures { Prints W.written W.faults W.quiet sink.old sink.new result
         (derivation_text names.now log.now.events) }
 {
     write_lines(names, log.events(), sink)?;
@@ -212,7 +212,7 @@ pub fn print_derivation<W: Sink>(names: &Names, log: &Log, sink: &mut W) -> Resu
 
 fn write_lines<W: Sink>(names: &Names, events: &[Event], sink: &mut W) -> Result<(), PutFault>
     requires named { AreNamed names.now 0 events.now }
-    ensures { Writes (W.written sink.old) (W.written sink.new) (W.faults sink.old) (W.faults sink.new) (W.quiet sink.old) (W.quiet sink.new) result
+    ensures { Prints W.written W.faults W.quiet sink.old sink.new result
         (lines_of names.now 0 events.now) }
 {
     let mut o = ObjId(0);
