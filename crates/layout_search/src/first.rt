@@ -10,12 +10,12 @@ ghost use Rattle.layout_search.specs.FirstLayout.{AreConditionsOf, Finds, Lists}
 ghost use Rattle.layout_search.specs.Found.{HasFoundIn};
 
 use derivation::NoRecord;
+use fixpoint::Fixpoint;
 use geo_base::MAX_DIMS;
 use geo_conditions::{Cond, Layout, MAX_OBJECTS, ObjId};
 use geo_state::Propagate;
 use indexical::AnyIndexical;
 use problem_data::problem::Problem;
-use fixpoint::Fixpoint;
 use rule_ground::order::search_order;
 use rule_ground::start::start_state;
 use std::alloc::{AllocError, Global};

@@ -1,4 +1,3 @@
-mod answer;
 mod expansion;
 mod grounding;
 mod judging;

@@ -1,14 +1,16 @@
 //! Comparisons worked by hand, of rules that are read.
 
-use super::answer::{Part, say};
 use geo_conditions::{Cond, Form};
 use linear_conditions::compare::compare;
 use linear_conditions::counter::Counter;
 use linear_conditions::fixings::Fixings;
 use problem_data::problem::Problem;
+use problem_text::read::read_problem;
 use rule_expand::plain::{PlainBody, PlainFormula, PlainRule};
+use rule_expand::rules::expand_all;
 use rule_values::env::Env;
 use std::alloc::{AllocError, Global};
+use std::process::Abort;
 use std::test::Fail;
 
 const FRONT: &[u8] =
@@ -44,7 +46,7 @@ fn shown(alloc: Global, c: &Cond) -> Result<String, AllocError> {
 }
 
 /// The condition of a rule that is one comparison, or its fault.
-pub fn condition(
+fn condition(
     alloc: Global,
     problem: &Problem,
     rule: &PlainRule,
@@ -69,43 +71,56 @@ pub fn condition(
     }
 }
 
-/// Comparisons with their forms.
-const COMPARISONS: &[(&[u8], &str)] = &[
-    (b"a.x1 >= 3 ; end", "3 -1*x0"),
-    (b"a.x1 < b.x1 ; end", "1 1*x0 -1*x1"),
-    (
-        b"b.x1 - a.x1 = 2 ; end",
-        "2 of [-2 -1*x0 1*x1] [2 1*x0 -1*x1]",
-    ),
-    (b"a.x1 != b.x1 ; end", "1 of [1 1*x0 -1*x1] [1 -1*x0 1*x1]"),
-    (b"a.x1 - a.x1 < 1 ; end", "0 of"),
-    (b"a.x1 - a.x1 > 0 ; end", "1 of"),
-    (b"(0 - 7) div 2 = 0 - 4 ; end", "0 of"),
-    (b"min(2, 5) * a.x1 <= max(2, 5) ; end", "-5 2*x0"),
-    (b"0 * a.x1 >= 1 ; end", "1 of"),
-    // forms are tested where they are complete
-    (b"1000000000 * 1000001 >= a.x1 ; end", "Overflow"),
-    (
-        b"1000000000 * 1000000 >= a.x1 ; end",
-        "-1000000000000000 1*x0",
-    ),
-    (b"1000000000 * 1000000 < a.x1 ; end", "Overflow"),
-    (b"1000000000 * 1000000 < 0 ; end", "1 of"),
-    (
-        b"1000000000 * 1000000 + 1000000000 * 1000000 - 1000000000 * 1000000 >= a.x1 ; end",
-        "-1000000000000000 1*x0",
-    ),
-];
-
-/// The number of a shape is that of the fixed place.
-const FIXED: &[(&[u8], &str)] = &[(b"a.sid <= 1 ; end", "0 of")];
-
-/// Where none is fixed there is no number of a shape.
-const FREE: &[(&[u8], &str)] = &[(b"a.sid <= 1 ; end", "1 of")];
+/// The condition of the text's one rule.
+fn grounded(alloc: Global, rule: &[u8], fixings: &Fixings) -> Result<String, Fail> {
+    let mut text = Vec::from_slice(alloc, FRONT)?;
+    text.extend_from_slice(rule)?;
+    text.extend_from_slice(b" ; end")?;
+    let problem = read_problem(alloc, &text)?;
+    let rules = expand_all(alloc, &problem)?;
+    let Some(rule) = rules.first() else {
+        return Ok(format!(in alloc; "no rule")?);
+    };
+    Ok(condition(alloc, &problem, rule, &*fixings)?)
+}
 
 #[test]
 fn comparisons_give_their_leaves(rt: HostRuntime) -> Result<(), Fail> {
-    say(&rt, rt.alloc(), (FRONT, Part::Comparison), COMPARISONS)?;
-    say(&rt, rt.alloc(), (FRONT, Part::FixedComparison), FIXED)?;
-    say(&rt, rt.alloc(), (FRONT, Part::Comparison), FREE)
+    let alloc = rt.alloc();
+    let rules: [(&[u8], &str); 14] = [
+        (b"a.x1 >= 3", "3 -1*x0"),
+        (b"a.x1 < b.x1", "1 1*x0 -1*x1"),
+        (b"b.x1 - a.x1 = 2", "2 of [-2 -1*x0 1*x1] [2 1*x0 -1*x1]"),
+        (b"a.x1 != b.x1", "1 of [1 1*x0 -1*x1] [1 -1*x0 1*x1]"),
+        (b"a.x1 - a.x1 < 1", "0 of"),
+        (b"a.x1 - a.x1 > 0", "1 of"),
+        (b"(0 - 7) div 2 = 0 - 4", "0 of"),
+        (b"min(2, 5) * a.x1 <= max(2, 5)", "-5 2*x0"),
+        (b"0 * a.x1 >= 1", "1 of"),
+        // forms are tested where they are complete
+        (b"1000000000 * 1000001 >= a.x1", "Overflow"),
+        (b"1000000000 * 1000000 >= a.x1", "-1000000000000000 1*x0"),
+        (b"1000000000 * 1000000 < a.x1", "Overflow"),
+        (b"1000000000 * 1000000 < 0", "1 of"),
+        (
+            b"1000000000 * 1000000 + 1000000000 * 1000000 - 1000000000 * 1000000 >= a.x1",
+            "-1000000000000000 1*x0",
+        ),
+    ];
+    for (rule, wanted) in &rules {
+        let made = grounded(alloc, rule, &Fixings::Nothing)?;
+        assert_eq!(rt; made.as_str(), *wanted);
+    }
+    Ok(())
+}
+
+#[test]
+fn the_number_of_a_shape_is_that_of_the_fixed_place(rt: HostRuntime) -> Result<(), Fail> {
+    let alloc = rt.alloc();
+    let second = Fixings::More(&Fixings::Nothing, 0, 2);
+    for (fixings, wanted) in [(&second, "0 of"), (&Fixings::Nothing, "1 of")] {
+        let made = grounded(alloc, b"a.sid <= 1", fixings)?;
+        assert_eq!(rt; made.as_str(), wanted);
+    }
+    Ok(())
 }
