@@ -1,5 +1,5 @@
 -- What exists: objects below a number of them, dimensions below K, the places 1 to 16, and numbers within the limit of a derivation.
-use Rattle.std.specs.Prelude.{◌<◌, ◌≤◌, ◌^◌, ℕ, ℤ, pos, negsuc, ◌≤ℤ◌}
+use Rattle.std.specs.Prelude.{◌<◌, ◌≤◌, ℕ, ℤ, pos, negsuc, ◌≤ℤ◌}
 use Rattle.geo_conditions.specs.declared.object.TheConstants.{MAX_SHAPES}
 use Rattle.derivation.specs.declared.event.Event.{Event}
 use Rattle.derivation.specs.declared.event.Event.TheVariants.{SplitShape, SplitUpto, SplitFrom, Drop, Raise, Lower, Gone, Dead, Cover, EndCovers, By, Cut, CutFrom}
@@ -7,6 +7,7 @@ use Rattle.derivation.specs.declared.side.Side.{Side}
 use Rattle.derivation.specs.declared.side.Side.TheVariants.{Upto, From}
 use Rattle.derivation.specs.declared.half.Half.{Half}
 use Rattle.derivation.specs.declared.half.Half.TheVariants.{OfPlace, OfSide}
+use Rattle.derivation.specs.Covers.{IsCut}
 use Rattle.derivation_check.specs.declared.saved.Saved.{Saved}
 use Rattle.derivation_check.specs.declared.saved.Saved.TheVariants.{Places, Ends}
 use Rattle.derivation_check.specs.declared.progress.Task.{Task}
@@ -16,21 +17,17 @@ use Rattle.derivation_check.specs.declared.progress.Owner.TheVariants as owners
 use Rattle.derivation_check.specs.declared.progress.Work.{Work}
 use Rattle.derivation_check.specs.declared.progress.Work.TheVariants.{AtNode, OfDrop, OfList}
 
-pub record IsLimited (v : ℤ) : Type 0 where
-  pub least : negsuc 999999999 ≤ℤ v
-  pub most : v ≤ℤ pos (10 ^ 9)
+-- of the number of a cut
+abbrev pub IsLimited : ℤ → Type 0
+IsLimited v = (negsuc 999999999 ≤ℤ v) × (v ≤ℤ pos 1000000000)
 
 pub record IsPlace (s : ℕ) : Type 0 where
   pub least : 1 ≤ s
   pub most : s ≤ MAX_SHAPES
 
-abbrev pub SideFits : ℕ → Side → Type 0
-SideFits K (Upto d v) = (d < K) × IsLimited v
-SideFits K (From d v) = (d < K) × IsLimited v
-
 abbrev pub HalfFits : ℕ → Half → Type 0
 HalfFits K (OfPlace s) = IsPlace s
-HalfFits K (OfSide side) = SideFits K side
+HalfFits K (OfSide side) = IsCut K side
 
 abbrev pub SavedFits : ℕ → ℕ → Saved → Type 0
 SavedFits n K (Places o ps) = o.0 < n
@@ -42,7 +39,7 @@ TaskFits n K (Last old) = SavedFits n K old
 
 abbrev pub OwnerFits : ℕ → Owner → Type 0
 OwnerFits K owners.Gone = Unit {0}
-OwnerFits K (owners.Bound side) = SideFits K side
+OwnerFits K (owners.Bound side) = IsCut K side
 
 abbrev pub WorkFits : ℕ → ℕ → Work → Type 0
 WorkFits n K AtNode = Unit {0}
@@ -52,15 +49,15 @@ WorkFits n K (OfList o c next s) = (o.0 < n) × OwnerFits K c × (1 ≤ next)
 -- the objects, places and dimensions of the event exist
 abbrev pub EventFits : ℕ → ℕ → Event → Type 0
 EventFits n K (SplitShape o s) = (o.0 < n) × IsPlace s
-EventFits n K (SplitUpto o d v) = (o.0 < n) × (d < K) × IsLimited v
-EventFits n K (SplitFrom o d v) = (o.0 < n) × (d < K) × IsLimited v
+EventFits n K (SplitUpto o d v) = (o.0 < n) × IsCut K (Upto d v)
+EventFits n K (SplitFrom o d v) = (o.0 < n) × IsCut K (From d v)
 EventFits n K (Drop o s) = (o.0 < n) × IsPlace s
-EventFits n K (Raise o d v) = (o.0 < n) × (d < K) × IsLimited v
-EventFits n K (Lower o d v) = (o.0 < n) × (d < K) × IsLimited v
+EventFits n K (Raise o d v) = (o.0 < n) × IsCut K (From d v)
+EventFits n K (Lower o d v) = (o.0 < n) × IsCut K (Upto d v)
 EventFits n K (Gone o) = o.0 < n
 EventFits n K (Dead i) = Unit {0}
 EventFits n K (Cover s) = IsPlace s
 EventFits n K EndCovers = Unit {0}
 EventFits n K (By i) = Unit {0}
-EventFits n K (Cut d v) = (d < K) × IsLimited v
-EventFits n K (CutFrom d v) = (d < K) × IsLimited v
+EventFits n K (Cut d v) = IsCut K (Upto d v)
+EventFits n K (CutFrom d v) = IsCut K (From d v)

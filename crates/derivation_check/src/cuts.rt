@@ -2,9 +2,10 @@
 
 ghost use Rattle.std.specs.Prelude.{◌≡◌, ◌≤◌, ◌<◌, length};
 ghost use Rattle.derivation.specs.declared.half.Half.TheVariants.{OfSide};
+ghost use Rattle.derivation.specs.Covers.{IsCut};
 ghost use Rattle.derivation.specs.PlaceCovers.{next_place};
 ghost use Rattle.derivation.specs.Valid.{alone, first_part, second_part, change};
-ghost use Rattle.derivation_check.specs.Fits.{IsPlace, SideFits, HalfFits};
+ghost use Rattle.derivation_check.specs.Fits.{IsPlace, HalfFits};
 
 use derivation::{Half, Side};
 use geo_base::MAX_DIMS;
@@ -27,7 +28,7 @@ pub fn next_there(places: &ShapeSet, from: u8) -> Option<u8>
     requires whole { length places.now ≡ MAX_SHAPES }
     ensures { result ≡ next_place from places.now }
 {
-    for place in from..17u8 {
+    for place in from..MAX_SHAPES as u8 + 1 {
         if places.has(place) {
             return Some(place);
         }
@@ -38,7 +39,7 @@ pub fn next_there(places: &ShapeSet, from: u8) -> Option<u8>
 fn keep_near<const K: usize>(s: &mut State<K>, o: ObjId, side: Side)
     requires k { K ≤ MAX_DIMS }
     requires object { o.0 < length s.old }
-    requires side { SideFits K side }
+    requires side { IsCut K side }
     ensures { s.new ≡ change (first_part (OfSide side)) s.old o.0 }
 {
     match side {
@@ -56,7 +57,7 @@ fn keep_near<const K: usize>(s: &mut State<K>, o: ObjId, side: Side)
 fn keep_far<const K: usize>(s: &mut State<K>, o: ObjId, side: Side)
     requires k { K ≤ MAX_DIMS }
     requires object { o.0 < length s.old }
-    requires side { SideFits K side }
+    requires side { IsCut K side }
     ensures { s.new ≡ change (second_part (OfSide side)) s.old o.0 }
 {
     match side {

@@ -33,7 +33,7 @@ fn is_coordinate<const K: usize>(o: ObjId, d: usize, v: i64, objects: usize) -> 
 
 /// Whether the object, the dimension and the place of an event exist in a state of so many objects, and its number is within the
 /// limits of a derivation.
-pub fn fits<const K: usize>(e: Event, objects: usize) -> bool
+fn fits<const K: usize>(e: Event, objects: usize) -> bool
     ensures { IsTrue result ↔ EventFits objects K e }
 {
     match e {

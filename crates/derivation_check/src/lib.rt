@@ -12,5 +12,5 @@ mod progress;
 mod saved;
 
 pub use checker::{Checker, check};
-pub use fitting::{all_fit, fits};
+pub use fitting::all_fit;
 pub use progress::Checked;

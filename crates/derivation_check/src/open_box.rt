@@ -3,7 +3,8 @@
 ghost use Rattle.std.specs.Prelude.{◌≡◌, ◌+ℤ◌, ◌≤◌, pos, negsuc};
 ghost use Rattle.geo_conditions.specs.Regions.{region_of};
 ghost use Rattle.derivation.specs.Cuts.{near, far, is_empty};
-ghost use Rattle.derivation_check.specs.Fits.{IsLimited, SideFits};
+ghost use Rattle.derivation.specs.Covers.{IsCut};
+ghost use Rattle.derivation_check.specs.Fits.{IsLimited};
 
 use derivation::Side;
 use geo_base::{KBox, MAX_DIMS};
@@ -66,7 +67,7 @@ impl<const K: usize> OpenBox<K> {
     /// The part of it on a side.
     pub fn near(&self, side: Side) -> OpenBox<K>
         requires k { K ≤ MAX_DIMS }
-        requires side { SideFits K side }
+        requires side { IsCut K side }
         ensures { result ≡ near side self.now }
     {
         let lo = self.ends.lo();
@@ -81,7 +82,7 @@ impl<const K: usize> OpenBox<K> {
     /// The rest of it.
     pub fn far(&self, side: Side) -> OpenBox<K>
         requires k { K ≤ MAX_DIMS }
-        requires side { SideFits K side }
+        requires side { IsCut K side }
         ensures { result ≡ far side self.now }
     {
         let lo = self.ends.lo();

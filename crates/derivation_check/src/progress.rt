@@ -7,10 +7,10 @@ ghost use Rattle.derivation.specs.Cuts.{far};
 ghost use Rattle.derivation.specs.declared.event.Event.TheVariants.{Dead};
 ghost use Rattle.derivation_check.specs.declared.progress.Owner.TheVariants as owners;
 ghost use Rattle.geo_conditions.specs.Conditions.{AllFit};
-ghost use Rattle.derivation.specs.Covers.{refutes};
+ghost use Rattle.derivation.specs.Covers.{IsCut, refutes};
 ghost use Rattle.derivation_check.specs.Machine.{back, left, start, noted, finish, split, go_first, go_second, drop_from, list_from, with_boxes, copied, forked, rest, named, closed, leaf, by_leaf, step};
 ghost use Rattle.derivation_check.specs.Judges.{answer};
-ghost use Rattle.derivation_check.specs.Fits.{IsPlace, SideFits, HalfFits, TaskFits, OwnerFits, EventFits};
+ghost use Rattle.derivation_check.specs.Fits.{IsPlace, HalfFits, TaskFits, OwnerFits, EventFits};
 
 use crate::cuts::{keep_first, keep_second, next_there};
 use crate::open_box::OpenBox;
@@ -278,7 +278,7 @@ impl<const K: usize> Progress<K> {
     // The box that is to be covered gives way to its two parts.
     fn fork(&mut self, side: Side) -> Result<(), AllocError>
         requires k { K ≤ MAX_DIMS }
-        requires side { SideFits K side }
+        requires side { IsCut K side }
         ensures ok { OnOk result (self.new ≡ with_boxes self.old (forked side self.old.boxes)) }
         ensures err { OnErr result (self.new ≡ self.old) }
     {
@@ -392,7 +392,7 @@ impl<const K: usize> Progress<K> {
     fn bound(&mut self, o: ObjId, side: Side) -> Result<(), AllocError>
         requires k { K ≤ MAX_DIMS }
         requires object { o.0 < length self.old.state }
-        requires side { SideFits K side }
+        requires side { IsCut K side }
         requires count { self.old.nodes < 2 ^ 64 - 1 }
         ensures ok { OnOk result (self.new ≡ list_from self.old o (owners.Bound side)
             (far side (reach self.old.state o.0).region)) }
