@@ -6,7 +6,6 @@ use std::alloc::{AllocError, Global};
 
 /// A condition on a tuple. A shape is named by its place, from 1, in the object's list of shapes.
 #[cycle(cond)]
-#[derive(Drop)]
 pub enum Cond {
     /// The form is at most 0.
     Lin(Form),
@@ -16,6 +15,19 @@ pub enum Cond {
     NotShape(ObjId, u8),
     /// At least so many of the conditions are true.
     AtLeast(i64, Conds),
+}
+
+/// Written out, since a derived one is made and proved anew in each crate that drops a condition.
+impl Drop for Cond {
+    #[cycle(cond_drop)]
+    fn drop(self) {
+        match self {
+            Cond::Lin(_form) => {}
+            Cond::Shape(_object, _place) => {}
+            Cond::NotShape(_object, _place) => {}
+            Cond::AtLeast(_least, _conditions) => {}
+        }
+    }
 }
 
 /// A list of conditions.
