@@ -116,7 +116,10 @@ impl Layout {
         requires object { o.0 < length self.old }
         requires dimension { d < length (spot self.old o.0).origin }
         ensures { self.new ≡ slice_set self.old o.0
-            (record { place = (spot self.old o.0).place; origin = slice_set (spot self.old o.0).origin d v }) }
+            (record {
+              place = (spot self.old o.0).place;
+              origin = slice_set (spot self.old o.0).origin d v;
+            }) }
     {
         let placed = &mut self.spots[o.0 as usize];
         placed.origin.as_mut_slice()[d] = v;

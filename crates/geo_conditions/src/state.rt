@@ -31,7 +31,10 @@ impl<const K: usize> Model for Held<K> {
 
     ghost inverse = { λ r. record {
       places = r.places;
-      region = record { lo = record { coordinates = r.region.lo }; hi = record { coordinates = r.region.hi } };
+      region = record {
+        lo = record { coordinates = r.region.lo };
+        hi = record { coordinates = r.region.hi };
+      };
     } };
 }
 
