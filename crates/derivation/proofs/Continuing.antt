@@ -36,6 +36,10 @@ growth_on {k = k} {done = done} {a = a} {b = b} {c = c} {m = m} {n = n} {o = o} 
   no_record = h.no_record;
 }
 
+-- the same behind a call that refused no more than it counted
+pub growth_later : {k done : Bool} {a b : List Event} {m n o : ℕ} → m ≤ n → Growth k a b n o done → Growth k a b m o done
+growth_later {a = a} h g = growth_on (growth_done (λ q. continues_same a a refl) h) g
+
 -- a failure handed on
 pub growth_failed : {T E : Type 0} {k : Bool} {a b : List Event} {m n : ℕ} → Growth k a b m n false → (r : Result T E) → IsErr r → Growth k a b m n (is_ok r)
 growth_failed g (Ok x) e = absurd (cc)

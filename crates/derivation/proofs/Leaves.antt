@@ -2,10 +2,10 @@
 -- cuts leave.
 use Rattle.std.proofs.Common.{◌≡◌, ℕ, zero, suc, ◌<◌, ◌≤◌, Bool, true, false, ◌&&◌, List, length, refl, sym, ap, ◌∙◌, subst, inl, inr, arith, ℤ, ◌≤ℤ◌, Option, Some, None}
 use Rattle.std.specs.Prelude.{slice_get, Contains}
+use Rattle.std.specs.List.{All}
 use Rattle.std.proofs.lemmas.Int.{ints}
 use Rattle.std.proofs.lemmas.Bool.{cases_Bool, or_left, or_right, not-true, not_from_false}
-use Rattle.std.proofs.lemmas.List.Elements.{All-get_or}
-use Rattle.std.proofs.lemmas.Option.{slice_get_cases}
+use Rattle.std.proofs.lemmas.Option.{slice_get_within, get_or_from_slice_get}
 use Rattle.geo_base.specs.Boxes.{Has, coordinate}
 use Rattle.geo_conditions.specs.declared.cond.Cond.{Cond}
 use Rattle.geo_conditions.specs.Reach.{State, Region, dims, with_at}
@@ -23,19 +23,14 @@ refuted_inside : (f : Option Cond) (S : State) (o s : ℕ) (inner b : Region) �
 refuted_inside None S o s inner b a there r h = h
 refuted_inside (Some c) S o s inner b a there r h = not_from_false (possible c (with_at S o s inner)) (refuted_smaller_box c S o s inner b (a c refl) there r (not-true (possible c (with_at S o s b)) h))
 
-some_same : {a b : Cond} → Some a ≡ Some b → a ≡ b
-some_same e = cc
-
-fits_at : (cs : List Cond) (S : State) (i : ℕ) → AllFit cs S → (c : Cond) → slice_get cs i ≡ Some c → FitsIn c S
-fits_at cs S i a c e = elim (slice_get_cases cs i).1 [
-  | inl h ↦ subst (λ (x : Cond). FitsIn x S) (some_same (sym h.2 ∙ e)) (subst (λ (x : Cond). FitsIn x S) h.3 (All-get_or (λ x. FitsIn x S) cs i h.0 h.1 a))
-  | inr h ↦ let x : Some c ≡ None = sym e ∙ h.1 in absurd (cc)
-]
+-- what is true of each is true of the one at an index
+pub all_at : {X : Type 0} (P : X → Type 0) (xs : List X) (i : ℕ) (x : X) → All P xs → slice_get xs i ≡ Some x → P x
+all_at P xs i x all e = subst P (get_or_from_slice_get xs i x x e) (all i x (slice_get_within xs i x e))
 
 pub refutes_inside : (cs : List Cond) (i : ℕ) (S : State) (o s : ℕ) (inner b : Region) → AllFit cs S → o < length S → ((d : ℕ) → d < dims S o → (coordinate b.lo d ≤ℤ coordinate inner.lo d) × (coordinate inner.hi d ≤ℤ coordinate b.hi d))
     → refutes cs i (with_at S o s b) ≡ true → refutes cs i (with_at S o s inner) ≡ true
 refutes_inside cs zero S o s inner b a there r h = h
-refutes_inside cs (suc i) S o s inner b a there r h = refuted_inside (slice_get cs i) S o s inner b (fits_at cs S i a) there r h
+refutes_inside cs (suc i) S o s inner b a there r h = refuted_inside (slice_get cs i) S o s inner b (λ c e. all_at (λ x. FitsIn x S) cs i c a e) there r h
 
 -- a test that is true only where the condition exists and is refuted with the object in the box
 abbrev pub IsSound : (ℕ → List ℤ → List ℤ → Bool) → List Cond → State → ℕ → ℕ → Type 0

@@ -26,3 +26,7 @@ HasGrown keeps list refusals old new = Growth keeps (list old) (list new) (refus
 -- and behind a call with that result
 abbrev pub Grows : {R T E : Type 0} → Bool → (R → List Event) → (R → ℕ) → R → R → Result T E → Type 0
 Grows keeps list refusals old new result = Growth keeps (list old) (list new) (refusals old) (refusals new) (is_ok result)
+
+-- the same of a call that keeps only the events of base, and may change what stands behind them
+abbrev pub GrowsFrom : {R T E : Type 0} → Bool → (R → List Event) → (R → ℕ) → List Event → R → R → Result T E → Type 0
+GrowsFrom keeps list refusals base old new result = Growth keeps base (list new) (refusals old) (refusals new) (is_ok result)

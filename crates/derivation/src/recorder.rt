@@ -51,7 +51,11 @@ pub struct NoRecord;
 
 impl NoRecord {
     /// A recorder that keeps nothing.
-    pub fn new() -> NoRecord {
+    pub fn new() -> NoRecord
+        ensures keeps { ⟦<NoRecord as Recorder>⟧.keeps ≡ false }
+        ensures list { ⟦<NoRecord as Recorder>⟧.list result ≡ [] }
+        ensures refusals { ⟦<NoRecord as Recorder>⟧.refusals result ≡ 0 }
+    {
         NoRecord
     }
 }
