@@ -43,6 +43,16 @@ impl<const K: usize> AnyIndexical<K> {
         self.boxes.is_some()
     }
 
+    /// Whether the condition names the object.
+    pub fn names(&self, o: ObjId) -> bool
+        ensures { result ≡ names o.0 self.now.cond }
+    {
+        match &self.boxes {
+            Some(boxes) => boxes.is_of(o),
+            None => is_named(&self.cond, o),
+        }
+    }
+
     /// The first object that the condition names, of those from `from` on and before `end`.
     pub fn first_named(&self, from: usize, end: usize) -> Option<ObjId>
         requires { end ≤ MAX_OBJECTS }
@@ -61,14 +71,15 @@ impl<const K: usize> AnyIndexical<K> {
         }
     }
 
-    /// Whether the object u, as the state has it, leaves the others free: the condition is possible wherever one of the others that it
-    /// names is put. It is told of conditions that are met by two boxes, and is false for each other one.
-    pub fn leaves_free(&self, s: &State<K>, u: ObjId) -> bool
+    /// Whether the object u, as the state has it, surely leaves the others free: the condition is
+    /// possible wherever one of the others that it names is put. It is told of conditions that are
+    /// met by two boxes, one of them u's, and is false for each other one.
+    pub fn surely_leaves_free(&self, s: &State<K>, u: ObjId) -> bool
         requires fits { FitsIn self.now.cond s.now }
         ensures { IsTrue result → LeavesFree self.now.cond s.now u.0 }
     {
         match &self.boxes {
-            Some(boxes) => boxes.leaves_free(s, u),
+            Some(boxes) => boxes.surely_leaves_free(s, u),
             None => false,
         }
     }

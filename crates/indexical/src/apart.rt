@@ -39,7 +39,8 @@ impl<const K: usize> ApartIndexical<K> {
             ≡ (if nat_lt a.entry.object.0 b.entry.object.0 then a.entry else b.entry) }
         ensures second { result.second
             ≡ (if nat_lt a.entry.object.0 b.entry.object.0 then b.entry else a.entry) }
-        ensures disjunction { (o : ℕ) → IsDisjunction o (apart result.first result.second result.short) }
+        ensures disjunction { (o : ℕ)
+            → IsDisjunction o (apart result.first result.second result.short) }
     {
         if a.object().0 < b.object().0 {
             return ApartIndexical {
@@ -55,7 +56,8 @@ impl<const K: usize> ApartIndexical<K> {
 
     /// Whether the condition fits the state: both objects are there.
     pub fn fits(&self, s: &State<K>) -> bool
-        ensures { IsTrue result ↔ FitsIn (apart self.now.first self.now.second self.now.short) s.now }
+        ensures { IsTrue result
+            ↔ FitsIn (apart self.now.first self.now.second self.now.short) s.now }
     {
         let objects = s.objects();
         let first = usize::from(self.first.object().0);
@@ -63,9 +65,18 @@ impl<const K: usize> ApartIndexical<K> {
         first < objects && second < objects
     }
 
+    /// Whether the condition names the object.
+    pub fn is_of(&self, o: ObjId) -> bool
+        ensures { result
+            ≡ (self.now.first.object.0 == o.0) || (self.now.second.object.0 == o.0) }
+    {
+        self.first.object().0 == o.0 || self.second.object().0 == o.0
+    }
+
     /// The first of the two objects, of those from `from` on.
     pub fn first_from(&self, from: usize) -> Option<ObjId>
-        ensures { IsFirst (λ o. (self.now.first.object.0 == o) || (self.now.second.object.0 == o)) from result }
+        ensures { IsFirst (λ o. (self.now.first.object.0 == o)
+            || (self.now.second.object.0 == o)) from result }
     {
         let first = self.first.object();
         let second = self.second.object();
@@ -78,9 +89,9 @@ impl<const K: usize> ApartIndexical<K> {
         }
     }
 
-    /// Whether the object u, as the state has it, leaves the other object free: the boxes need not overlap wherever that one is
-    /// put. It is false where neither box is u's.
-    pub fn leaves_free(&self, s: &State<K>, u: ObjId) -> bool
+    /// Whether the object u, as the state has it, surely leaves the other object free: the boxes
+    /// need not overlap wherever that one is put. It is false where neither box is u's.
+    pub fn surely_leaves_free(&self, s: &State<K>, u: ObjId) -> bool
         requires first { self.now.first.object.0 < length s.now }
         requires second { self.now.second.object.0 < length s.now }
         ensures { IsTrue result → (o place : ℕ) (p : List ℤ) → o ≢ u.0

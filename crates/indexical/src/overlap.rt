@@ -123,9 +123,11 @@ fn cut<const K: usize>(
 ) -> KBox<K>
     requires { Clashes a.now b.now (region_of held.now) c.now.coordinates c.now.coordinates }
     ensures lo { (d : ℕ) → d < K → coordinate result.lo.coordinates d
-        ≡ int_max (coordinate region.now.lo.coordinates d) (first a.now b.now (region_of held.now) d) }
+        ≡ int_max (coordinate region.now.lo.coordinates d)
+        (first a.now b.now (region_of held.now) d) }
     ensures hi { (d : ℕ) → d < K → coordinate result.hi.coordinates d
-        ≡ int_min (coordinate region.now.hi.coordinates d) (last a.now b.now (region_of held.now) d) }
+        ≡ int_min (coordinate region.now.hi.coordinates d)
+        (last a.now b.now (region_of held.now) d) }
 {
     let mut lo = region.lo;
     let mut hi = region.hi;
@@ -165,7 +167,8 @@ fn clashes_somewhere<const K: usize>(
     d: usize,
 ) -> bool
     requires { d < K }
-    ensures { IsTrue result ↔ (first a.now b.now (region_of held.now) d ≤ℤ last a.now b.now (region_of held.now) d) }
+    ensures { let held = region_of held.now in
+        IsTrue result ↔ (first a.now b.now held d ≤ℤ last a.now b.now held d) }
 {
     at_most(first_at(a, b, held, d), last_at(a, b, held, d))
 }

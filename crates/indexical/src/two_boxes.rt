@@ -50,8 +50,14 @@ fn constant_of(c: &Cond, first: &Term, second: &Term) -> Option<i64>
 /// The lengths of both boxes in the dimension d, where the two literals are those of the dimension.
 fn lengths_at(first: &Cond, second: &Cond, a: ObjId, b: ObjId, d: usize) -> Option<(i64, i64)>
     ensures form { IfSome result (λ r. (first.now ∷ second.now ∷ []) ≡ (
-        Cond.Lin (record { terms = term_of (a, d, pos 1) ∷ term_of (b, d, negsuc 0) ∷ []; constant = r.0 })
-        ∷ Cond.Lin (record { terms = term_of (a, d, negsuc 0) ∷ term_of (b, d, pos 1) ∷ []; constant = r.1 })
+        Cond.Lin (record {
+          terms = term_of (a, d, pos 1) ∷ term_of (b, d, negsuc 0) ∷ [];
+          constant = r.0;
+        })
+        ∷ Cond.Lin (record {
+          terms = term_of (a, d, negsuc 0) ∷ term_of (b, d, pos 1) ∷ [];
+          constant = r.1;
+        })
         ∷ [])) }
     ensures limit { IfSome result (λ r. (negsuc (10 ^ 14 - 1) ≤ℤ r.0) × (r.0 ≤ℤ pos (10 ^ 14))
         × (negsuc (10 ^ 14 - 1) ≤ℤ r.1) × (r.1 ≤ℤ pos (10 ^ 14))) }
