@@ -6,7 +6,7 @@ use Rattle.std.specs.List.{All, list_any, cons_option}
 use Rattle.std.proofs.lemmas.Bool.{false≢true, true≢false, and_parts, or_left, or_right, or_cases, not_from_false}
 use Rattle.std.proofs.lemmas.List.{length-map}
 use Rattle.std.proofs.lemmas.List.Elements.{All-get_or, All-head, All-tail, All-cons}
-use Rattle.std.proofs.lemmas.Option.{slice_get_cases, slice_get-map, slice_get-get_or}
+use Rattle.std.proofs.lemmas.Option.{slice_get-map, slice_get-get_or}
 use Rattle.geo_base.specs.Boxes.{Has}
 use Rattle.geo_conditions.specs.declared.cond.Cond.{Cond}
 use Rattle.geo_conditions.specs.Reach.{State, dims, just, with_at}
@@ -14,7 +14,7 @@ use Rattle.geo_conditions.specs.Conditions.{possible, FitsIn, AllFit, IsRefuted}
 use Rattle.geo_conditions.specs.Supported.{NoneRefuted}
 use Rattle.geo_conditions.proofs.SmallerBoxes.{refuted_smaller_box}
 use Rattle.derivation.specs.Covers.{refutes}
-use Rattle.derivation.proofs.Leaves.{IsSound}
+use Rattle.derivation.proofs.Leaves.{IsSound, all_at}
 use Rattle.sweep.specs.Picks.{ArePicks, PicksAt, picked}
 use Rattle.sweep.specs.Sweep.{refutes_pick}
 
@@ -73,10 +73,7 @@ picked_at P list (i ∷ picks) (suc k) x a p = picked_at P list picks k x (cons_
 
 -- a condition that is picked names only what is there
 pub fits_at : (cs : List Cond) (S : State) (picks : List ℕ) (k : ℕ) (x : Cond) → AllFit cs S → PicksAt cs picks k x → FitsIn x S
-fits_at cs S picks k x a p = elim (slice_get_cases cs (slice_index picks k - 1)).1 [
-  | inl h ↦ subst (λ (y : Cond). FitsIn y S) (some_same (sym h.2 ∙ p.1)) (subst (λ (y : Cond). FitsIn y S) h.3 (All-get_or (λ y. FitsIn y S) cs (slice_index picks k - 1) h.0 h.1 a))
-  | inr h ↦ let e : Some x ≡ None = sym p.1 ∙ h.1 in absurd (cc)
-]
+fits_at cs S picks k x a p = all_at (λ c. FitsIn c S) cs (slice_index picks k - 1) x a p.1
 
 any_here : (xs : List ℕ) (k : ℕ) → k < length xs → list_any (nat_eq (slice_index xs k)) xs ≡ true
 any_here [] k h = absurd (omega arith)

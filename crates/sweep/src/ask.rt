@@ -42,7 +42,8 @@ fn ask_pick<const K: usize, I: Indexical<K>, L: Ledger>(
     ensures whole { IfSome result (λ b. (x : Cond) → PicksAt (map I.cond list.now) picks.now k x
         → IsDisjunction o.0 x → (q : List ℤ)
         → Has K region.now.lo.coordinates region.now.hi.coordinates q
-        → IsRefuted x (with_at s.now o.0 place (just q)) → Has K b.lo.coordinates b.hi.coordinates q) }
+        → IsRefuted x (with_at s.now o.0 place (just q))
+        → Has K b.lo.coordinates b.hi.coordinates q) }
     ensures none { IfNone result ((x : Cond) → PicksAt (map I.cond list.now) picks.now k x
         → possible x (with_at s.now o.0 place (just c.now.coordinates)) ≡ true) }
     ensures asked { steps.new ≡ steps.old + 1 }

@@ -1,10 +1,10 @@
-ghost use Rattle.std.specs.Prelude.{◌≡◌, ℕ, ◌+◌, ◌-◌, ◌*◌, ◌^◌, ◌<◌, ◌≤◌, true, false, length, map, OnErr, IfOk, IsOk, MatchOption, min};
+ghost use Rattle.std.specs.Prelude.{◌≡◌, ℕ, ◌+◌, ◌-◌, ◌*◌, ◌^◌, ◌<◌, ◌≤◌, true, length, map, IfOk, MatchOption};
 ghost use Rattle.std.specs.List.{All};
 ghost use Rattle.geo_base.specs.Ways.{IsSmall};
 ghost use Rattle.geo_conditions.specs.Conditions.{AllFit};
 ghost use Rattle.geo_conditions.specs.Regions.{region_of};
 ghost use Rattle.geo_conditions.specs.Supported.{IsFirstPoint, HasNoPoint};
-ghost use Rattle.derivation.specs.Events.{Continues};
+ghost use Rattle.derivation.specs.Events.{Grows};
 ghost use Rattle.indexical.specs.Disjunctions.{IsDisjunction};
 ghost use Rattle.sweep.specs.Picks.{ArePicks, picked};
 ghost use Rattle.sweep.specs.Sweep.{part_before, IsCovered};
@@ -32,7 +32,7 @@ use std::sync::ledger::Ledger;
 ///
 /// Where each picked condition is a disjunction of literals that name at most one coordinate of the
 /// object each, m picks are asked at most m * (m + 1)^K questions in K dimensions, and at most
-/// 2 * K * (m + 1)^K + 1 events are added.
+/// 2 * K * (m + 1)^K + 1 events are added, after want of memory too.
 ///
 /// The method is the sweep over forbidden boxes of Beldiceanu, Carlsson, Poder, Sadek and Truchet
 /// for the constraint geost (2007).
@@ -63,15 +63,11 @@ pub fn sweep<const K: usize, I: Indexical<K>, R: Recorder, L: Ledger>(
         (part_before way.now.lead way.now.up p.coordinates b) (R.list rec.old) (R.list rec.new))) }
     ensures asked { All (IsDisjunction o.0) (picked (map I.cond list.now) picks.now)
         → steps.new ≤ steps.old + length picks.now * (length picks.now + 1) ^ K }
-    ensures events { IfOk result (λ r. R.keeps ≡ true
+    ensures events { R.keeps ≡ true
         → All (IsDisjunction o.0) (picked (map I.cond list.now) picks.now)
         → length (R.list rec.new)
-        ≤ length (R.list rec.old) + 2 * K * (length picks.now + 1) ^ K + 1) }
-    ensures err { OnErr result (R.keeps ≡ true → Continues (R.list rec.old) (R.list rec.new)) }
-    ensures refused { OnErr result
-        (min (R.refusals rec.old + 1) (2 ^ 64 - 1) ≤ R.refusals rec.new) }
-    ensures refusals { R.refusals rec.old ≤ R.refusals rec.new }
-    ensures no_record { R.keeps ≡ false → IsOk result }
+        ≤ length (R.list rec.old) + 2 * K * (length picks.now + 1) ^ K + 1 }
+    ensures grows { Grows R.keeps R.list R.refusals rec.old rec.new result }
 {
     // The state has K dimensions, and so have the corners.
     let _objects = s.objects();

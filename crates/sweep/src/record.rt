@@ -2,11 +2,11 @@
 //! its end. Between two chains stands a cut that holds a place; its number is set when the chain
 //! behind it is complete.
 
-ghost use Rattle.std.specs.Prelude.{◌≡◌, ◌≢◌, ℕ, ◌+◌, ◌-◌, ◌^◌, ◌<◌, ◌≤◌, pos, ℤ, ◌+ℤ◌, ◌≤ℤ◌, Bool, true, false, List, [], ◌∷◌, ◌++◌, length, OnOk, OnErr, IfOk, IsOk, min};
+ghost use Rattle.std.specs.Prelude.{◌≡◌, ◌≢◌, ℕ, ◌+◌, ◌-◌, ◌<◌, ◌≤◌, pos, ℤ, ◌+ℤ◌, ◌≤ℤ◌, Bool, true, List, [], ◌∷◌, ◌++◌, length, OnOk, IfOk};
 ghost use Rattle.geo_base.specs.Boxes.{Has};
 ghost use Rattle.geo_base.specs.Ways.{dimension, key, end};
 ghost use Rattle.derivation.specs.declared.event.Event.{Event};
-ghost use Rattle.derivation.specs.Events.{Continues};
+ghost use Rattle.derivation.specs.Events.{Grows, GrowsFrom};
 ghost use Rattle.sweep.specs.Chains.{IsCutBefore, IsOpen, IsOpenAtJump, SomeOpenAtJump, SomeOpenBy};
 ghost use Rattle.sweep.specs.Jump.{IsSmallJump};
 
@@ -43,13 +43,11 @@ fn record_found<const K: usize, R: Recorder>(
     requires { IsSmallJump K n.now.coordinates }
     ensures ok { let k = key K way.now.lead way.now.up in
         OnOk result (R.keeps ≡ true → (e : Event)
-        × IsCutBefore K way.now.up (dimension K way.now.lead (K - 1)) (k n.now.coordinates (K - 1)) e
+        × IsCutBefore K way.now.up (dimension K way.now.lead (K - 1))
+        (k n.now.coordinates (K - 1)) e
         × (R.list rec.new ≡ R.list rec.old ++ (e ∷ Event.By number ∷ []))) }
-    ensures err { OnErr result (R.keeps ≡ true → Continues (R.list rec.old) (R.list rec.new)) }
-    ensures refused { OnErr result
-        (min (R.refusals rec.old + 1) (2 ^ 64 - 1) ≤ R.refusals rec.new) }
-    ensures refusals { R.refusals rec.old ≤ R.refusals rec.new }
-    ensures no_record { R.keeps ≡ false → IsOk result }
+    ensures few { R.keeps ≡ true → length (R.list rec.new) ≤ length (R.list rec.old) + 2 }
+    ensures grows { Grows R.keeps R.list R.refusals rec.old rec.new result }
 {
     rec.add(cut_before(way, n, K - 1))?;
     rec.add(Event::By(number))?;
@@ -86,24 +84,18 @@ fn close_chains<const K: usize, R: Recorder>(
         marks.now.places base (R.list rec.new)) }
     ensures length { IfOk result (λ j. R.keeps ≡ true
         → length (R.list rec.new) + j ≡ length (R.list rec.old) + (K - 1)) }
-    ensures err { let k = key K way.now.lead way.now.up in
+    ensures few { R.keeps ≡ true
+        → length (R.list rec.new) ≤ length (R.list rec.old) + (K - 1) }
+    ensures grows { let k = key K way.now.lead way.now.up in
         let first = k first.now.coordinates in let past = k past.now.coordinates in
-        OnErr result (R.keeps ≡ true
-        → (T : ℕ → List ℤ → List ℤ → Bool) (base : List Event) (c : ℕ → ℤ)
+        (T : ℕ → List ℤ → List ℤ → Bool) (base : List Event) (c : ℕ → ℤ) → (R.keeps ≡ true
         → IsOpenAtJump K way.now.lead way.now.up T first past (K - 1) c (k n.now.coordinates)
-        marks.now.places base (R.list rec.old)
-        → Continues base (R.list rec.new)) }
-    ensures refused { OnErr result
-        (min (R.refusals rec.old + 1) (2 ^ 64 - 1) ≤ R.refusals rec.new) }
-    ensures refusals { R.refusals rec.old ≤ R.refusals rec.new }
-    ensures no_record { R.keeps ≡ false → IsOk result }
+        marks.now.places base (R.list rec.old))
+        → GrowsFrom R.keeps R.list R.refusals base rec.old rec.new result }
 {
     let mut j = K - 1;
     while j > 0 && way.same_at(n, past, j) {
-        match rec.add(Event::By(1)) {
-            Err(e) => return Err(e),
-            Ok(()) => {}
-        }
+        rec.add(Event::By(1))?;
         j -= 1;
         rec.set(marks.get(j), cut_before(way, n, j));
     }
@@ -134,23 +126,13 @@ pub fn open_chains<const K: usize, R: Recorder>(
         (k n.now.coordinates) marks.new.places base (R.list rec.new)) }
     ensures length { OnOk result (R.keeps ≡ true
         → length (R.list rec.new) + j ≡ length (R.list rec.old) + (K - 1)) }
-    ensures err { let k = key K way.now.lead way.now.up in
-        let first = k first.now.coordinates in let past = k past.now.coordinates in
-        OnErr result (R.keeps ≡ true → (T : ℕ → List ℤ → List ℤ → Bool) (base : List Event)
-        → IsOpen K way.now.lead way.now.up T first past j (k c.now.coordinates)
-        (k n.now.coordinates) marks.old.places base (R.list rec.old)
-        → Continues base (R.list rec.new)) }
-    ensures refused { OnErr result
-        (min (R.refusals rec.old + 1) (2 ^ 64 - 1) ≤ R.refusals rec.new) }
-    ensures refusals { R.refusals rec.old ≤ R.refusals rec.new }
-    ensures no_record { R.keeps ≡ false → IsOk result }
+    ensures few { R.keeps ≡ true
+        → length (R.list rec.new) + j ≤ length (R.list rec.old) + (K - 1) }
+    ensures grows { Grows R.keeps R.list R.refusals rec.old rec.new result }
 {
     for p in j..K - 1 {
         marks.set(p, rec.mark());
-        match rec.add(cut_before(way, n, p)) {
-            Err(e) => return Err(e),
-            Ok(()) => {}
-        }
+        rec.add(cut_before(way, n, p))?;
     }
     Ok(())
 }
@@ -194,23 +176,19 @@ pub fn record_turn<const K: usize, R: Recorder>(
         (k n.now.coordinates) marks.now.places base (R.list rec.new)) }
     ensures length { IfOk result (λ j. R.keeps ≡ true
         → length (R.list rec.new) + j ≡ length (R.list rec.old) + (K + 1)) }
-    ensures err { let k = key K way.now.lead way.now.up in
+    ensures few { R.keeps ≡ true
+        → length (R.list rec.new) ≤ length (R.list rec.old) + (K + 1) }
+    ensures grows { let k = key K way.now.lead way.now.up in
         let first = k first.now.coordinates in let past = k past.now.coordinates in
-        OnErr result (R.keeps ≡ true → (T : ℕ → List ℤ → List ℤ → Bool) (base : List Event)
-        → T number b.now.lo.coordinates b.now.hi.coordinates ≡ true
-        → IsOpen K way.now.lead way.now.up T first past (K - 1) (k c.now.coordinates)
-        (k n.now.coordinates) marks.now.places base (R.list rec.old)
-        → Continues base (R.list rec.new)) }
-    ensures refused { OnErr result
-        (min (R.refusals rec.old + 1) (2 ^ 64 - 1) ≤ R.refusals rec.new) }
-    ensures refusals { R.refusals rec.old ≤ R.refusals rec.new }
-    ensures no_record { R.keeps ≡ false → IsOk result }
+        (T : ℕ → List ℤ → List ℤ → Bool) (base : List Event) → (R.keeps ≡ true
+        → (T number b.now.lo.coordinates b.now.hi.coordinates ≡ true)
+        × IsOpen K way.now.lead way.now.up T first past (K - 1) (k c.now.coordinates)
+        (k n.now.coordinates) marks.now.places base (R.list rec.old))
+        → GrowsFrom R.keeps R.list R.refusals base rec.old rec.new result }
 {
-    match record_found(way, n, number, rec) {
+    record_found(way, n, number, rec)?;
+    match close_chains(way, first, past, n, marks, rec) {
         Err(e) => Err(e),
-        Ok(()) => match close_chains(way, first, past, n, marks, rec) {
-            Err(e) => Err(e),
-            Ok(j) => Ok(j),
-        },
+        Ok(j) => Ok(j),
     }
 }

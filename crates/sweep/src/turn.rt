@@ -1,8 +1,8 @@
-ghost use Rattle.std.specs.Prelude.{◌≡◌, ◌≢◌, ℕ, ◌+◌, ◌-◌, ◌*◌, ◌^◌, ◌<◌, ◌≤◌, ℤ, ◌<ℤ◌, Bool, true, false, List, length, if◌then◌else◌, OnOk, OnErr, IfOk, IsOk, MatchBool, min};
+ghost use Rattle.std.specs.Prelude.{◌≡◌, ◌⊎◌, ℕ, ◌+◌, ◌-◌, ◌*◌, ◌≤◌, ℤ, ◌<ℤ◌, Bool, true, List, length, if◌then◌else◌, OnOk, OnErr, IfOk, MatchBool};
 ghost use Rattle.geo_base.specs.Boxes.{Has};
 ghost use Rattle.geo_base.specs.Ways.{IsSmall, key, start};
 ghost use Rattle.derivation.specs.declared.event.Event.{Event};
-ghost use Rattle.derivation.specs.Events.{Continues};
+ghost use Rattle.derivation.specs.Events.{GrowsFrom};
 ghost use Rattle.sweep.specs.Chains.{IsOpen, IsRecordOf, SomeOpen, SomeOpenBy};
 ghost use Rattle.sweep.specs.Jump.{IsPlaced, IsPast, JumpsOn, IsUsedUp};
 
@@ -59,18 +59,20 @@ pub fn turn<const K: usize, R: Recorder>(
         (Has K region.now.lo.coordinates region.now.hi.coordinates))) }
     ensures length { IfOk result (λ more. R.keeps ≡ true → length (R.list rec.new)
         ≤ length (R.list rec.old) + (if more then 2 * K else K + 2)) }
-    ensures err { let k = key K way.now.lead way.now.up in
+    ensures few { OnErr result (R.keeps ≡ true
+        → (length (R.list rec.new) ≤ length (R.list rec.old) + (K + 2))
+        ⊎ (JumpsOn K way.now.lead way.now.up region.now.lo.coordinates region.now.hi.coordinates
+        b.now.lo.coordinates b.now.hi.coordinates past.now.coordinates
+        c.old.coordinates n.old.coordinates c.new.coordinates n.new.coordinates
+        × (length (R.list rec.new) ≤ length (R.list rec.old) + 2 * K))) }
+    ensures grows { let k = key K way.now.lead way.now.up in
         let first = k (start way.now.up region.now.lo.coordinates region.now.hi.coordinates) in
         let past = k past.now.coordinates in
-        OnErr result (R.keeps ≡ true → (T : ℕ → List ℤ → List ℤ → Bool) (base : List Event)
-        → T number b.now.lo.coordinates b.now.hi.coordinates ≡ true
-        → IsOpen K way.now.lead way.now.up T first past (K - 1) (k c.old.coordinates)
-        (k n.old.coordinates) marks.old.places base (R.list rec.old)
-        → Continues base (R.list rec.new)) }
-    ensures refused { OnErr result
-        (min (R.refusals rec.old + 1) (2 ^ 64 - 1) ≤ R.refusals rec.new) }
-    ensures refusals { R.refusals rec.old ≤ R.refusals rec.new }
-    ensures no_record { R.keeps ≡ false → IsOk result }
+        (T : ℕ → List ℤ → List ℤ → Bool) (base : List Event) → (R.keeps ≡ true
+        → (T number b.now.lo.coordinates b.now.hi.coordinates ≡ true)
+        × IsOpen K way.now.lead way.now.up T first past (K - 1) (k c.old.coordinates)
+        (k n.old.coordinates) marks.old.places base (R.list rec.old))
+        → GrowsFrom R.keeps R.list R.refusals base rec.old rec.new result }
 {
     let first = way.start(region);
     way.draw_in(way.end(b), n);
@@ -120,18 +122,13 @@ pub fn stop<const K: usize, R: Recorder>(
         → IsRecordOf K T base (R.list rec.new)
         (λ q. Has K region.now.lo.coordinates region.now.hi.coordinates q
         × (k q 0 <ℤ k c.now.coordinates 0))) }
-    ensures length { OnOk result (R.keeps ≡ true
-        → length (R.list rec.new) ≤ length (R.list rec.old) + 1) }
-    ensures err { let k = key K way.now.lead way.now.up in
+    ensures few { R.keeps ≡ true → length (R.list rec.new) ≤ length (R.list rec.old) + 1 }
+    ensures grows { let k = key K way.now.lead way.now.up in
         let first = k (start way.now.up region.now.lo.coordinates region.now.hi.coordinates) in
-        OnErr result (R.keeps ≡ true → (T : ℕ → List ℤ → List ℤ → Bool) (base : List Event)
+        (T : ℕ → List ℤ → List ℤ → Bool) (base : List Event) → (R.keeps ≡ true
         → IsOpen K way.now.lead way.now.up T first (k past.now.coordinates) (K - 1)
-        (k c.now.coordinates) (k n.now.coordinates) marks.now.places base (R.list rec.old)
-        → Continues base (R.list rec.new)) }
-    ensures refused { OnErr result
-        (min (R.refusals rec.old + 1) (2 ^ 64 - 1) ≤ R.refusals rec.new) }
-    ensures refusals { R.refusals rec.old ≤ R.refusals rec.new }
-    ensures no_record { R.keeps ≡ false → IsOk result }
+        (k c.now.coordinates) (k n.now.coordinates) marks.now.places base (R.list rec.old))
+        → GrowsFrom R.keeps R.list R.refusals base rec.old rec.new result }
 {
     if K > 1 {
         rec.cut_back(marks.get(0));

@@ -5,6 +5,7 @@ use Rattle.geo_base.specs.Ways.{IsSmall, key, start}
 use Rattle.geo_conditions.specs.Regions.{region_of}
 use Rattle.geo_conditions.proofs.Few.{dims_are}
 use Rattle.derivation.specs.Covers.{Leaf}
+use Rattle.derivation.proofs.Continuing.{growth_added, growth_refused, growth_later}
 use Rattle.indexical.specs.Disjunctions.{IsDisjunction}
 use Rattle.sweep.specs.Chains.{SomeOpenBy}
 use Rattle.sweep.specs.Sweep.{part_before, refutes_pick}
@@ -22,12 +23,6 @@ returns-in-Ok-clause-covered g c = λ kept.
     covered g.row.K cs c.args.picks.now c.args.s.now c.args.o.0 c.args.place (region_of c.args.region.now) (g.R.Recorder.list c.args.rec.now) (g.R.Recorder.list c.add.new.self) (Has g.row.K c.args.region.now.lo.coordinates c.args.region.now.hi.coordinates)
     c.requires.fits c.requires.object (dims_are g.row.K c.args.s.now c.args.o.0 c.objects-objects.ensures.shape c.requires.object) c.dimensions-low.ensures.list c.dimensions-high.ensures.list (λ q h. h)
     (Leaf 1, c.in-Ok.ensures.ok kept, inl (refl, λ q h. absurd (omega (arith, ints, e.2, (h e.0 e.1).0, (h e.0 e.1).1))))
-
-pub returns-in-Err-open_chains-clause-err : goal.returns-in-Err-open_chains-clause-err
-returns-in-Err-open_chains-clause-err g c = λ kept.
-    let k = key g.row.K c.args.way.now.lead c.args.way.now.up in
-    let T = refutes_pick (map g.I.Indexical.cond c.args.list.now) c.args.picks.now c.args.s.now c.args.o.0 c.args.place in
-    c.in-Err-open_chains.ensures.err kept T (g.R.Recorder.list c.args.rec.now) (IsOpen-start g.row.K c.args.way.now.lead c.args.way.now.up T (k c.start-first.result.now.coordinates) (k c.one_past-past.result.coordinates) (g.R.Recorder.list c.args.rec.now) (k c.start-first.result.now.coordinates) (k c.one_past-past.result.coordinates) c.new-marks.result.places (omega arith) refl)
 
 pub turns-init : goal.turns-init
 turns-init g c =
@@ -49,7 +44,7 @@ turns-init g c =
           subst (λ (x : ℕ). IsCounted (RefutedIn c.args.s.now c.args.o.0 c.args.place) cs c.args.picks.now g.row.K way.lead way.up lo hi past (start way.up lo hi) past (2 * g.row.K) (length (g.R.Recorder.list c.open_chains.new.rec)) x) e
           (IsCounted-first (RefutedIn c.args.s.now c.args.o.0 c.args.place) cs c.args.picks.now g.row.K way.lead way.up lo hi past way.lead_in (start way.up lo hi) (2 * g.row.K) (length (g.R.Recorder.list c.open_chains.new.rec)));
       recorded = λ kept. rw c.start-first.ensures at (recorded kept);
-      refusals = omega (arith, c.open_chains.ensures.refusals);
+      refusals = c.in-Ok-open_chains.ensures.grows.refusals;
     })
 
 pub ask-requires : goal.ask-requires
@@ -108,14 +103,6 @@ returns-then-not-more-clause-covered g c = λ kept.
     c.requires.fits c.requires.object (dims_are g.row.K c.args.s.now c.args.o.0 c.objects-objects.ensures.shape c.requires.object) c.dimensions-low.ensures.list c.dimensions-high.ensures.list (λ q h. h)
     (rw c.if-not-more.true at (c.in-Ok-turn.ensures.recorded kept T (g.R.Recorder.list c.args.rec.now) true_of (c.turns.invariant.recorded kept)))
 
-pub returns-in-Err-turn-clause-err : goal.returns-in-Err-turn-clause-err
-returns-in-Err-turn-clause-err g c = λ kept.
-    let cs = map g.I.Indexical.cond c.args.list.now in
-    let T = refutes_pick cs c.args.picks.now c.args.s.now c.args.o.0 c.args.place in
-    let r = c.in-Some.ensures.refuted in
-    let true_of = refutes_pick_true cs c.args.picks.now c.args.s.now c.args.o.0 c.args.place c.in-Some.k r.0 c.in-Some.b.lo.coordinates c.in-Some.b.hi.coordinates (mapped_picks g.I.Indexical.cond c.args.list.now c.args.picks.now c.requires.picks) r.1 r.2 in
-    c.in-Err-turn.ensures.err kept T (g.R.Recorder.list c.args.rec.now) true_of (c.turns.invariant.recorded kept)
-
 pub turns-smaller : goal.turns-smaller
 turns-smaller g c =
     let way = c.args.way.now in
@@ -162,7 +149,7 @@ turns-preserved g c =
           (c.in-Some.ensures.whole r.0 r.1 (picked_at (IsDisjunction o) cs c.args.picks.now c.in-Some.k r.0 premise r.1)))
           (rw c.if-not-more.false at (c.in-Ok-turn.ensures.length kept)) jump (c.turns.invariant.events kept premise);
       recorded = λ kept. rw c.if-not-more.false at (c.in-Ok-turn.ensures.recorded kept T (g.R.Recorder.list c.args.rec.now) true_of (c.turns.invariant.recorded kept));
-      refusals = omega (arith, c.turns.invariant.refusals, c.turn.ensures.refusals);
+      refusals = omega (arith, c.turns.invariant.refusals, (c.in-Ok-turn.ensures.grows T (g.R.Recorder.list c.args.rec.now) (λ kept. (true_of, c.turns.invariant.recorded kept))).refusals);
     }
 
 pub turn-requires : goal.turn-requires
@@ -205,7 +192,7 @@ returns-in-Ok-stop-clause-events g c = λ kept premise.
     let way = c.args.way.now in
     let spent = bound_at_end (RefutedIn c.args.s.now c.args.o.0 c.args.place) (map g.I.Indexical.cond c.args.list.now) c.args.picks.now g.row.K way.lead way.up c.args.region.now.lo.coordinates c.args.region.now.hi.coordinates c.one_past-past.result.coordinates way.lead_in c.turns.c.coordinates c.turns.n.coordinates (2 * g.row.K) (length (g.R.Recorder.list c.turns.rec)) (length (g.R.Recorder.list c.turns.rec) + 2 * g.row.K) (length (g.R.Recorder.list c.args.rec.now) + (g.row.K - 1)) (omega arith) (c.turns.invariant.events kept premise) in
     let lead = way.lead_in in
-    omega (arith, spent, lead, c.in-Ok-stop.ensures.length kept)
+    omega (arith, spent, lead, c.in-Ok-stop.ensures.few kept)
 
 pub returns-then-not-more-clause-events : goal.returns-then-not-more-clause-events
 returns-then-not-more-clause-events g c = λ kept premise.
@@ -214,3 +201,83 @@ returns-then-not-more-clause-events g c = λ kept premise.
     let lead = way.lead_in in
     let more = rw c.if-not-more.true at (c.in-Ok-turn.ensures.length kept) in
     omega (arith, spent, lead, more)
+
+pub returns-in-Err-open_chains-clause-events : goal.returns-in-Err-open_chains-clause-events
+returns-in-Err-open_chains-clause-events g c = λ kept premise.
+    let way = c.args.way.now in
+    let some = bound_at_end (RefutedIn c.args.s.now c.args.o.0 c.args.place) (map g.I.Indexical.cond c.args.list.now) c.args.picks.now g.row.K way.lead way.up c.args.region.now.lo.coordinates c.args.region.now.hi.coordinates c.one_past-past.result.coordinates way.lead_in c.start-first.result.now.coordinates c.one_past-past.result.coordinates (2 * g.row.K) 0 (2 * g.row.K) 0 (omega arith)
+    (IsCounted-first (RefutedIn c.args.s.now c.args.o.0 c.args.place) (map g.I.Indexical.cond c.args.list.now) c.args.picks.now g.row.K way.lead way.up c.args.region.now.lo.coordinates c.args.region.now.hi.coordinates c.one_past-past.result.coordinates way.lead_in c.start-first.result.now.coordinates (2 * g.row.K) 0) in
+    let lead = way.lead_in in
+    omega (arith, some, lead, c.in-Err-open_chains.ensures.few kept)
+
+pub returns-in-Err-stop-clause-events : goal.returns-in-Err-stop-clause-events
+returns-in-Err-stop-clause-events g c = λ kept premise.
+    let way = c.args.way.now in
+    let spent = bound_at_end (RefutedIn c.args.s.now c.args.o.0 c.args.place) (map g.I.Indexical.cond c.args.list.now) c.args.picks.now g.row.K way.lead way.up c.args.region.now.lo.coordinates c.args.region.now.hi.coordinates c.one_past-past.result.coordinates way.lead_in c.turns.c.coordinates c.turns.n.coordinates (2 * g.row.K) (length (g.R.Recorder.list c.turns.rec)) (length (g.R.Recorder.list c.turns.rec) + 2 * g.row.K) (length (g.R.Recorder.list c.args.rec.now) + (g.row.K - 1)) (omega arith) (c.turns.invariant.events kept premise) in
+    let lead = way.lead_in in
+    omega (arith, spent, lead, c.in-Err-stop.ensures.few kept)
+
+pub returns-in-Err-turn-clause-events : goal.returns-in-Err-turn-clause-events
+returns-in-Err-turn-clause-events g c = λ kept premise.
+    let way = c.args.way.now in
+    let lo = c.args.region.now.lo.coordinates in
+    let hi = c.args.region.now.hi.coordinates in
+    let past = c.one_past-past.result.coordinates in
+    let cs = map g.I.Indexical.cond c.args.list.now in
+    let S = c.args.s.now in
+    let o = c.args.o.0 in
+    let s = c.args.place in
+    let b = c.in-Some.b in
+    let r = c.in-Some.ensures.refuted in
+    let dim = dims_are g.row.K S o c.objects-objects.ensures.shape c.requires.object in
+    let fits = fits_at cs S c.args.picks.now c.in-Some.k r.0 c.requires.fits r.1 in
+    let now = length (g.R.Recorder.list c.turn.new.rec) in
+    let begun = length (g.R.Recorder.list c.args.rec.now) + (g.row.K - 1) in
+    let lead = way.lead_in in
+    elim (c.in-Err-turn.ensures.few kept) [
+      | inl few ↦
+          let spent = bound_at_end (RefutedIn c.args.s.now c.args.o.0 c.args.place) (map g.I.Indexical.cond c.args.list.now) c.args.picks.now g.row.K way.lead way.up c.args.region.now.lo.coordinates c.args.region.now.hi.coordinates c.one_past-past.result.coordinates way.lead_in c.turns.c.coordinates c.turns.n.coordinates (2 * g.row.K) (length (g.R.Recorder.list c.turns.rec)) (length (g.R.Recorder.list c.turns.rec) + 2 * g.row.K) begun (omega arith) (c.turns.invariant.events kept premise) in
+          omega (arith, spent, lead, few)
+      | inr on ↦
+          let counted = IsCounted-turn (RefutedIn S o s) cs c.args.picks.now g.row.K way.lead way.up lo hi past way.lead_in
+          c.turns.c.coordinates c.turns.n.coordinates c.turn.new.c.coordinates c.turn.new.n.coordinates b.lo.coordinates b.hi.coordinates (2 * g.row.K) (length (g.R.Recorder.list c.turns.rec)) now begun c.in-Some.k r.0 r.1 c.in-Some.ensures.has
+          (IsLast-box (RefutedIn S o s) cs c.args.picks.now g.row.K way.lead way.up lo hi past way.lead_in r.0 b.lo.coordinates b.hi.coordinates c.turns.c.coordinates
+          (λ l h q has w. refuted_at_point cs c.args.picks.now S o s g.row.K dim c.requires.object r.0 l h q fits has w) c.in-Some.ensures.has c.in-Some.ensures.within.0 c.in-Some.ensures.within.1 r.2
+          (c.in-Some.ensures.whole r.0 r.1 (picked_at (IsDisjunction o) cs c.args.picks.now c.in-Some.k r.0 premise r.1)))
+          on.1 on.0 (c.turns.invariant.events kept premise) in
+          let spent = bound_at_end (RefutedIn S o s) cs c.args.picks.now g.row.K way.lead way.up lo hi past way.lead_in c.turn.new.c.coordinates c.turn.new.n.coordinates (2 * g.row.K) now (now + 2 * g.row.K) begun (omega arith) counted in
+          omega (arith, spent, lead)
+    ]
+
+pub returns-in-Err-clause-grows : goal.returns-in-Err-clause-grows
+returns-in-Err-clause-grows g c = growth_refused c.in-Err.ensures.err c.add.ensures.refusals c.in-Err.ensures.refused c.in-Err.ensures.no_record
+
+pub returns-in-Ok-clause-grows : goal.returns-in-Ok-clause-grows
+returns-in-Ok-clause-grows g c = growth_added _ c.in-Ok.ensures.ok c.add.ensures.refusals
+
+pub returns-in-Err-open_chains-clause-grows : goal.returns-in-Err-open_chains-clause-grows
+returns-in-Err-open_chains-clause-grows g c = c.in-Err-open_chains.ensures.grows
+
+pub returns-in-Err-stop-clause-grows : goal.returns-in-Err-stop-clause-grows
+returns-in-Err-stop-clause-grows g c =
+    growth_later c.turns.invariant.refusals (c.in-Err-stop.ensures.grows (refutes_pick (map g.I.Indexical.cond c.args.list.now) c.args.picks.now c.args.s.now c.args.o.0 c.args.place) (g.R.Recorder.list c.args.rec.now) c.turns.invariant.recorded)
+
+pub returns-in-Ok-stop-clause-grows : goal.returns-in-Ok-stop-clause-grows
+returns-in-Ok-stop-clause-grows g c =
+    growth_later c.turns.invariant.refusals (c.in-Ok-stop.ensures.grows (refutes_pick (map g.I.Indexical.cond c.args.list.now) c.args.picks.now c.args.s.now c.args.o.0 c.args.place) (g.R.Recorder.list c.args.rec.now) c.turns.invariant.recorded)
+
+pub returns-in-Err-turn-clause-grows : goal.returns-in-Err-turn-clause-grows
+returns-in-Err-turn-clause-grows g c =
+    let cs = map g.I.Indexical.cond c.args.list.now in
+    let T = refutes_pick cs c.args.picks.now c.args.s.now c.args.o.0 c.args.place in
+    let r = c.in-Some.ensures.refuted in
+    let true_of = refutes_pick_true cs c.args.picks.now c.args.s.now c.args.o.0 c.args.place c.in-Some.k r.0 c.in-Some.b.lo.coordinates c.in-Some.b.hi.coordinates (mapped_picks g.I.Indexical.cond c.args.list.now c.args.picks.now c.requires.picks) r.1 r.2 in
+    growth_later c.turns.invariant.refusals (c.in-Err-turn.ensures.grows T (g.R.Recorder.list c.args.rec.now) (λ kept. (true_of, c.turns.invariant.recorded kept)))
+
+pub returns-then-not-more-clause-grows : goal.returns-then-not-more-clause-grows
+returns-then-not-more-clause-grows g c =
+    let cs = map g.I.Indexical.cond c.args.list.now in
+    let T = refutes_pick cs c.args.picks.now c.args.s.now c.args.o.0 c.args.place in
+    let r = c.in-Some.ensures.refuted in
+    let true_of = refutes_pick_true cs c.args.picks.now c.args.s.now c.args.o.0 c.args.place c.in-Some.k r.0 c.in-Some.b.lo.coordinates c.in-Some.b.hi.coordinates (mapped_picks g.I.Indexical.cond c.args.list.now c.args.picks.now c.requires.picks) r.1 r.2 in
+    growth_later c.turns.invariant.refusals (c.in-Ok-turn.ensures.grows T (g.R.Recorder.list c.args.rec.now) (λ kept. (true_of, c.turns.invariant.recorded kept)))

@@ -1,6 +1,7 @@
-use Rattle.std.proofs.Common.{length, ◌+◌, ◌≡◌, ◌≤◌, true, ℕ, ℤ, Bool, List}
+use Rattle.std.proofs.Common.{length, ◌+◌, ◌≡◌, true, ℕ, ℤ, Bool, List}
 use Rattle.geo_base.specs.Ways.{key}
 use Rattle.derivation.specs.declared.event.Event.{Event}
+use Rattle.derivation.specs.Events.{HasGrown}
 use Rattle.sweep.specs.Chains.{IsOpen}
 use Rattle.sweep.proofs.record.open_chains.Given as goal
 
@@ -12,5 +13,5 @@ invariant-loop-p g l =
           → IsOpen g.row.K l.way.lead l.way.up T (k l.first.coordinates) (k l.past.coordinates) l.j (k l.c.coordinates) (k l.n.coordinates) l.initial.marks.places base (g.R.Recorder.list l.initial.rec)
           → IsOpen g.row.K l.way.lead l.way.up T (k l.first.coordinates) (k l.past.coordinates) l.p (k l.c.coordinates) (k l.n.coordinates) l.marks.places base (g.R.Recorder.list l.rec);
       length_is : g.R.Recorder.keeps ≡ true → length (g.R.Recorder.list l.rec) + l.j ≡ length (g.R.Recorder.list l.initial.rec) + l.p;
-      refusals : g.R.Recorder.refusals l.initial.rec ≤ g.R.Recorder.refusals l.rec;
+      grows : HasGrown g.R.Recorder.keeps g.R.Recorder.list g.R.Recorder.refusals l.initial.rec l.rec;
     }

@@ -1,15 +1,16 @@
-use Rattle.std.proofs.Common.{◌≡◌, ℕ, ◌-◌, ◌<◌, pos, ◌+ℤ◌, ◌≤ℤ◌, ℤ, Bool, true, false, List, inl, inr, arith, rules}
+use Rattle.std.proofs.Common.{◌≡◌, ℕ, ◌-◌, ◌<◌, pos, ◌+ℤ◌, ◌≤ℤ◌, ℤ, Bool, true, false, List, length, ap, inl, inr, arith, rules}
 use Rattle.std.specs.Int.{int_min}
 use Rattle.std.proofs.lemmas.Int.{ints, clamps}
 use Rattle.std.proofs.lemmas.Bool.{cases_lt}
 use Rattle.geo_base.specs.Ways.{dimension, key, start, end}
 use Rattle.derivation.specs.declared.event.Event.{Event}
+use Rattle.derivation.proofs.Continuing.{growth_added, growth_refused, growth_on}
 use Rattle.sweep.specs.Jump.{IsPlaced, JumpsOn}
 use Rattle.sweep.specs.Chains.{IsOpen, SomeOpenBy}
 use Rattle.sweep.proofs.Kernel.{jump_over_lem}
 use Rattle.geo_base.proofs.Mirror.{dimension_in}
 use Rattle.sweep.proofs.Turns.{placed_bounded, IsPlaced-drawn, level_is}
-use Rattle.sweep.proofs.RecordSteps.{Continues-at_jump, IsOpen-drawn, IsOpen-advanced, finished_region}
+use Rattle.sweep.proofs.RecordSteps.{IsOpen-drawn, IsOpen-advanced, finished_region}
 use Rattle.sweep.proofs.turn.turn.Goals as goal
 use Rattle.sweep.proofs.turn.turn.Goals.{After-draw_in, Then-advance_between}
 
@@ -76,12 +77,6 @@ open_chains-requires g c =
     let fresh : (i : ℕ) → c.in-Ok.j < i → i < g.row.K → key g.row.K c.args.way.now.lead c.args.way.now.up c.advance_between.new.c.coordinates i ≡ key g.row.K c.args.way.now.lead c.args.way.now.up c.start-first.result.now.coordinates i = λ i above b. (let l : c.if-advance_between.ensures.level < i = omega (arith, at_j) in (c.if-advance_between.ensures.ran_out i l b).1) in
     search rules
 
-pub returns-in-Err-clause-err : goal.returns-in-Err-clause-err
-returns-in-Err-clause-err g c = λ kept T base r o. c.in-Err.ensures.err kept T base r (open_drawn g (goal.at.returns-in-Err-clause-err g c).After-draw_in T base o)
-
-pub returns-in-Err-open_chains-clause-err : goal.returns-in-Err-open_chains-clause-err
-returns-in-Err-open_chains-clause-err g c = λ kept T base r o. c.in-Err-open_chains.ensures.err kept T base (open_advanced g (goal.at.returns-in-Err-open_chains-clause-err g c).Then-advance_between (open_drawn g (goal.at.returns-in-Err-open_chains-clause-err g c).After-draw_in) kept T base r o)
-
 pub returns-in-Ok-open_chains-clause-jump : goal.returns-in-Ok-open_chains-clause-jump
 returns-in-Ok-open_chains-clause-jump g c = jumps g (goal.at.returns-in-Ok-open_chains-clause-jump g c).Then-advance_between (drawn_key g (goal.at.returns-in-Ok-open_chains-clause-jump g c).After-draw_in)
 
@@ -89,10 +84,6 @@ pub returns-in-Ok-open_chains-clause-recorded : goal.returns-in-Ok-open_chains-c
 returns-in-Ok-open_chains-clause-recorded g c = λ kept T base r o.
     let w = c.in-Ok-open_chains.ensures.recorded kept T base (open_advanced g (goal.at.returns-in-Ok-open_chains-clause-recorded g c).Then-advance_between (open_drawn g (goal.at.returns-in-Ok-open_chains-clause-recorded g c).After-draw_in) kept T base r o) in
     rw c.start-first.ensures at w
-
-pub returns-in-Err-add-clause-err : goal.returns-in-Err-add-clause-err
-returns-in-Err-add-clause-err g c = λ kept T base r o.
-    rw (c.in-Err-add.ensures.err kept) (Continues-at_jump g.row.K c.args.way.now.lead c.args.way.now.up T (key g.row.K c.args.way.now.lead c.args.way.now.up c.start-first.result.now.coordinates) (key g.row.K c.args.way.now.lead c.args.way.now.up c.args.past.now.coordinates) base (key g.row.K c.args.way.now.lead c.args.way.now.up c.args.c.now.coordinates) (key g.row.K c.args.way.now.lead c.args.way.now.up c.draw_in.new.n.coordinates) c.args.marks.now.places (g.R.Recorder.list c.record_turn.new.rec) c.in-Ok.j (c.in-Ok.ensures.recorded kept T base r (open_drawn g (goal.at.returns-in-Err-add-clause-err g c).After-draw_in T base o)))
 
 pub returns-in-Ok-add-clause-jump : goal.returns-in-Ok-add-clause-jump
 returns-in-Ok-add-clause-jump g c =
@@ -105,3 +96,36 @@ returns-in-Ok-add-clause-recorded g c = λ kept T base r o.
     let none : c.in-Ok.j ≡ 0 = elim (cases_lt 0 c.in-Ok.j) [ inl l ↦ absurd (c.in-Ok.ensures.more l (out c.in-Ok.j c.in-Ok.ensures.level)) | inr m ↦ omega arith ] in
     let was = c.in-Ok.ensures.recorded kept T base r (open_drawn g (goal.at.returns-in-Ok-add-clause-recorded g c).After-draw_in T base o) in
     rw (c.in-Ok-add.ensures.ok kept) (finished_region g.row.K c.args.way.now.lead c.args.way.now.up T c.args.region.now.lo.coordinates c.args.region.now.hi.coordinates c.args.past.now.coordinates base (key g.row.K c.args.way.now.lead c.args.way.now.up c.args.c.now.coordinates) (key g.row.K c.args.way.now.lead c.args.way.now.up c.draw_in.new.n.coordinates) c.args.marks.now.places (g.R.Recorder.list c.record_turn.new.rec) c.in-Ok.j c.args.way.now.lead_in c.requires.past none (out 0 (omega arith)) (rw c.start-first.ensures at was))
+
+pub returns-in-Err-clause-few : goal.returns-in-Err-clause-few
+returns-in-Err-clause-few g c = λ kept. inl (omega (arith, c.in-Err.ensures.few kept))
+
+pub returns-in-Err-open_chains-clause-few : goal.returns-in-Err-open_chains-clause-few
+returns-in-Err-open_chains-clause-few g c = λ kept. inr (
+  jumps g (goal.at.returns-in-Err-open_chains-clause-few g c).Then-advance_between (drawn_key g (goal.at.returns-in-Err-open_chains-clause-few g c).After-draw_in),
+  omega (arith, c.in-Ok.ensures.length kept, c.in-Err-open_chains.ensures.few kept),
+)
+
+pub returns-in-Err-add-clause-few : goal.returns-in-Err-add-clause-few
+returns-in-Err-add-clause-few g c = λ kept. inl (omega (arith, c.in-Ok.ensures.length kept, ap length (c.in-Err-add.ensures.err kept)))
+
+pub returns-in-Err-clause-grows : goal.returns-in-Err-clause-grows
+returns-in-Err-clause-grows g c = λ T base h. c.in-Err.ensures.grows T base (λ kept. ((h kept).0, open_drawn g (goal.at.returns-in-Err-clause-grows g c).After-draw_in T base (h kept).1))
+
+pub returns-in-Err-open_chains-clause-grows : goal.returns-in-Err-open_chains-clause-grows
+returns-in-Err-open_chains-clause-grows g c = λ T base h.
+    growth_on (c.in-Ok.ensures.grows T base (λ kept. ((h kept).0, open_drawn g (goal.at.returns-in-Err-open_chains-clause-grows g c).After-draw_in T base (h kept).1))) c.in-Err-open_chains.ensures.grows
+
+pub returns-in-Ok-open_chains-clause-grows : goal.returns-in-Ok-open_chains-clause-grows
+returns-in-Ok-open_chains-clause-grows g c = λ T base h.
+    growth_on (c.in-Ok.ensures.grows T base (λ kept. ((h kept).0, open_drawn g (goal.at.returns-in-Ok-open_chains-clause-grows g c).After-draw_in T base (h kept).1))) c.in-Ok-open_chains.ensures.grows
+
+pub returns-in-Err-add-clause-grows : goal.returns-in-Err-add-clause-grows
+returns-in-Err-add-clause-grows g c = λ T base h.
+    growth_on (c.in-Ok.ensures.grows T base (λ kept. ((h kept).0, open_drawn g (goal.at.returns-in-Err-add-clause-grows g c).After-draw_in T base (h kept).1)))
+    (growth_refused c.in-Err-add.ensures.err c.add.ensures.refusals c.in-Err-add.ensures.refused c.in-Err-add.ensures.no_record)
+
+pub returns-in-Ok-add-clause-grows : goal.returns-in-Ok-add-clause-grows
+returns-in-Ok-add-clause-grows g c = λ T base h.
+    growth_on (c.in-Ok.ensures.grows T base (λ kept. ((h kept).0, open_drawn g (goal.at.returns-in-Ok-add-clause-grows g c).After-draw_in T base (h kept).1)))
+    (growth_added _ c.in-Ok-add.ensures.ok c.add.ensures.refusals)
