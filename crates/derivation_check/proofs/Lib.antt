@@ -3,7 +3,7 @@ pub mod NextPlaces
 pub mod Undo
 pub mod Runs
 pub mod Verdict
-pub mod SameShape
+pub mod SameDims
 pub mod Steady
 pub mod Parts
 pub mod Sound

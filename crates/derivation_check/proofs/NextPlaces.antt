@@ -1,6 +1,7 @@
 -- The next place that is there, one place after another; and a place alone.
 use Rattle.std.proofs.Common.{◌≡◌, ℕ, zero, suc, ◌+◌, ◌-◌, ◌<◌, ◌≤◌, Bool, true, false, List, [], ◌∷◌, length, set, get_or, replicate, map, refl, ap, ◌∙◌, subst, arith, Some, None}
 use Rattle.geo_conditions.specs.Reach.{place_in}
+use Rattle.geo_conditions.specs.declared.object.TheConstants.{MAX_SHAPES}
 use Rattle.derivation.specs.PlaceCovers.{next_place}
 use Rattle.derivation.specs.Valid.{alone}
 use Rattle.derivation.proofs.Listings.{skip_at, here_at, none_at}
@@ -23,7 +24,7 @@ none_same [] (suc n) h = absurd (omega arith)
 none_same (b ∷ bs) zero h = absurd (omega arith)
 none_same (b ∷ bs) (suc n) h = ap (λ (xs : List Bool). false ∷ xs) (none_same bs n (omega arith))
 
-pub alone_is : (place : ℕ) (bs : List Bool) → 1 ≤ place → length bs ≡ 16 → set (replicate 16 false) (place - 1) (place_in bs place) ≡ alone place bs
+pub alone_is : (place : ℕ) (bs : List Bool) → 1 ≤ place → length bs ≡ MAX_SHAPES → set (replicate MAX_SHAPES false) (place - 1) (place_in bs place) ≡ alone place bs
 alone_is zero bs h e = absurd (omega arith)
 alone_is (suc k) bs h e =
-    ap (λ (n : ℕ). set (replicate 16 false) n (get_or bs k false)) (let q : suc k - 1 ≡ k = omega arith in q) ∙ ap (λ (xs : List Bool). set xs k (get_or bs k false)) (none_same bs 16 e)
+    ap (λ (n : ℕ). set (replicate MAX_SHAPES false) n (get_or bs k false)) (let q : suc k - 1 ≡ k = omega arith in q) ∙ ap (λ (xs : List Bool). set xs k (get_or bs k false)) (none_same bs MAX_SHAPES e)

@@ -4,7 +4,6 @@ use Rattle.std.specs.Prelude.{slice_get}
 use Rattle.std.specs.List.{All}
 use Rattle.std.proofs.lemmas.List.Elements.{All-head, All-tail}
 use Rattle.std.proofs.lemmas.List.{get_or_append_left}
-use Rattle.std.proofs.lemmas.Option.{slice_get_within, get_or_from_slice_get}
 use Rattle.std.proofs.lemmas.Bool.{cases_eq, false≢true, or_cases, and_parts, eqb-true, not-true}
 use Rattle.std.proofs.Math.ListN.{length-set}
 use Rattle.geo_conditions.specs.declared.cond.Cond.{Cond}
@@ -19,17 +18,16 @@ use Rattle.derivation.specs.Covers.{CoverTree, Leaf, Fork, is_refuted, refutes, 
 use Rattle.derivation.specs.PlaceCovers.{PlaceCover, is_that, is_nothing, all_cover, next_place}
 use Rattle.derivation.specs.Nodes.{Node, Split, DropNode, Bound, GoneNode, DeadNode, IsOver}
 use Rattle.derivation.specs.Valid.{first_part, second_part, change, rows, Valid}
+use Rattle.derivation.proofs.Leaves.{all_at}
 use Rattle.derivation_check.specs.Sound.{HasPlaces, Solves}
-use Rattle.derivation_check.proofs.SameShape.{same_set, same_first, same_second, all_fit}
+use Rattle.derivation_check.proofs.SameDims.{same_set, same_first, same_second, all_fit}
 use Rattle.derivation_check.proofs.Parts.{in_part, empty_no_point, in_others, next_is_found, tuple_set, tuple_half}
 
 refuted_false : (cs : List Cond) (S : State) (t : Tuple) (i : ℕ) (f : Option Cond) → Solves cs S t → slice_get cs i ≡ f → is_refuted f S ≡ true → ⊥
 refuted_false cs S t i None s e h = false≢true h
 refuted_false cs S t i (Some c) s e h =
-    let b = slice_get_within cs i c e in
-    let q : get_or cs i c ≡ c = get_or_from_slice_get cs i c c e in
-    let fits : FitsIn c S = subst (λ (x : Cond). FitsIn x S) q (s.fits i c b) in
-    let true_on : holds c t ≡ true = subst (λ (x : Cond). holds x t ≡ true) q (s.holds i c b) in
+    let fits = all_at (λ x. FitsIn x S) cs i c s.fits e in
+    let true_on = all_at (λ x. holds x t ≡ true) cs i c s.holds e in
     false≢true (sym (not-true (possible c S) h) ∙ true_possible c t S fits s.inside true_on)
 
 -- where there is a solution, no condition is refuted

@@ -11,7 +11,7 @@ use Rattle.derivation.specs.declared.event.Event.TheVariants.{SplitShape, SplitU
 use Rattle.derivation.specs.declared.side.Side.TheVariants.{Upto, From}
 use Rattle.derivation.specs.declared.half.Half.TheVariants.{OfPlace, OfSide}
 use Rattle.derivation.specs.Valid.{second_part, change}
-use Rattle.derivation_check.proofs.SameShape.{SameShape, same_self, same_trans, same_set, same_first, same_second}
+use Rattle.derivation_check.proofs.SameDims.{SameDims, same_self, same_trans, same_set, same_first, same_second}
 use Rattle.derivation_check.specs.declared.saved.Saved.{Saved}
 use Rattle.derivation_check.specs.declared.saved.Saved.TheVariants.{Places, Ends}
 use Rattle.derivation_check.specs.declared.progress.Task.{Task}
@@ -21,18 +21,18 @@ use Rattle.derivation_check.specs.declared.progress.Work.{Work}
 use Rattle.derivation_check.specs.declared.progress.Work.TheVariants.{AtNode, OfDrop, OfList}
 use Rattle.derivation_check.specs.Machine.{Machine, undo, back, named, closed, by_leaf, step, run, start, HasTaken}
 
-same_undo : (old : Saved) (S : State) → SameShape S (undo old S)
+same_undo : (old : Saved) (S : State) → SameDims S (undo old S)
 same_undo (Places o ps) S = same_set S o.0 _ refl
 same_undo (Ends o d lo hi) S = same_set S o.0 _ (length-set (reach S o.0).region.lo d lo)
 
-same_back : (ts : List Task) (S : State) → SameShape S (back ts S)
+same_back : (ts : List Task) (S : State) → SameDims S (back ts S)
 same_back [] S = same_self S
 same_back (Last old ∷ ts) S = same_trans S (undo old S) (back ts (undo old S)) (same_undo old S) (same_back ts (undo old S))
 same_back (Again o half old ∷ ts) S = same_trans S (undo old S) (change (second_part half) (undo old S) o.0) (same_undo old S) (same_second half (undo old S) o.0)
 
 -- one event: the same shape, and at most one node more
 pub record GoesOn (m n : Machine) : Type 0 where
-  pub shape : SameShape m.state n.state
+  pub shape : SameDims m.state n.state
   pub nodes : n.nodes ≤ m.nodes + 1
 
 name_on : (w : Work) (s : ℕ) (m : Machine) → GoesOn m (named w s m)
@@ -74,7 +74,7 @@ run_more cs es i d m h = sym (ap (λ (z : List Event). run cs z m) (take_more es
 -- one more event taken
 pub record Taken (cs : List Cond) (S : State) (es : List Event) (i : ℕ) (m : Machine) : Type 0 where
   pub taken : m ≡ run cs (take i es) (start S)
-  pub shape : SameShape S m.state
+  pub shape : SameDims S m.state
   pub few : m.nodes ≤ i
 
 pub taken_more : (cs : List Cond) (S : State) (es : List Event) (i : ℕ) (d : Event) (m n : Machine) → i < length es → Taken cs S es i m → n ≡ step cs m (get_or es i d) → Taken cs S es (i + 1) n
@@ -82,13 +82,13 @@ taken_more cs S es i d m n h t e =
     let o = step_on cs m (get_or es i d) in
     record {
       taken = e ∙ ap (λ (z : Machine). step cs z (get_or es i d)) t.taken ∙ run_more cs es i d (start S) h;
-      shape = same_trans S m.state n.state t.shape (subst (λ (z : Machine). SameShape m.state z.state) (sym e) o.shape);
+      shape = same_trans S m.state n.state t.shape (subst (λ (z : Machine). SameDims m.state z.state) (sym e) o.shape);
       few = let q : n.nodes ≤ m.nodes + 1 = subst (λ (z : Machine). z.nodes ≤ m.nodes + 1) (sym e) o.nodes in omega (arith, t.few);
     }
 
-pub shape_of : {A E : Type 0} (cs : List Cond) (m n : Machine) (e : Event) (r : Result A E) → OnOk r (n ≡ step cs m e) → OnErr r (n ≡ m) → SameShape m.state n.state
-shape_of cs m n e (Ok x) f g = subst (λ (z : Machine). SameShape m.state z.state) (sym f) (step_on cs m e).shape
-shape_of cs m n e (Err x) f g = subst (λ (z : Machine). SameShape m.state z.state) (sym g) (same_self m.state)
+pub shape_of : {A E : Type 0} (cs : List Cond) (m n : Machine) (e : Event) (r : Result A E) → OnOk r (n ≡ step cs m e) → OnErr r (n ≡ m) → SameDims m.state n.state
+shape_of cs m n e (Ok x) f g = subst (λ (z : Machine). SameDims m.state z.state) (sym f) (step_on cs m e).shape
+shape_of cs m n e (Err x) f g = subst (λ (z : Machine). SameDims m.state z.state) (sym g) (same_self m.state)
 
 -- an event more, where it was taken
 pub taken_on : {A E : Type 0} (cs : List Cond) (m n : Machine) (e : Event) (r : Result A E) → OnOk r (n ≡ step cs m e) → OnOk r ((first : State) (es : List Event) → HasTaken cs first es m → HasTaken cs first (es ++ e ∷ []) n)

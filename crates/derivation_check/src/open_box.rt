@@ -25,7 +25,8 @@ impl<const K: usize> Model for OpenBox<K> {
 
     ghost view = { λ b. region_of b.ends };
 
-    ghost invariant = { λ b. (length b.ends.lo.coordinates ≡ K) × (length b.ends.hi.coordinates ≡ K) };
+    ghost invariant = { λ b.
+        (length b.ends.lo.coordinates ≡ K) × (length b.ends.hi.coordinates ≡ K) };
 
     ghost inverse = { λ r. record {
       ends = record { lo = record { coordinates = r.lo }; hi = record { coordinates = r.hi } };

@@ -147,7 +147,8 @@ impl<const K: usize> Model for Progress<K> {
       failed = p.failed;
     } };
 
-    ghost invariant = { λ p. All (TaskFits (length p.state) K) p.tasks.items × WorkFits (length p.state) K p.work };
+    ghost invariant = { λ p. All (TaskFits (length p.state) K) p.tasks.items
+        × WorkFits (length p.state) K p.work };
 }
 
 impl<const K: usize> Progress<K> {

@@ -3,7 +3,7 @@ use Rattle.geo_conditions.specs.Reach.{State}
 use Rattle.derivation.specs.declared.event.Event.{Event}
 use Rattle.derivation_check.specs.Machine.{HasTaken}
 use Rattle.derivation_check.specs.Checking.{Checking}
-use Rattle.derivation_check.proofs.SameShape.{all_fit}
+use Rattle.derivation_check.proofs.SameDims.{all_fit}
 use Rattle.derivation_check.proofs.Steady.{shape_of, taken_on}
 use Rattle.derivation_check.proofs.checker.Checker.give.Goals as goal
 
