@@ -10,16 +10,18 @@ use Rattle.trail_search.specs.Walker.{Position, IsWell, IsReady}
 use Rattle.trail_search.specs.declared.step.Step.{Step}
 use Rattle.trail_search.specs.declared.step.Step.TheVariants.{Found, Ended, Budget, Memory}
 
--- a search: its walk, the budget, how many members it has walked, its full member after a Found, the answer that ended it, and the events
--- and refusals of its recorder
+-- a search: its walk, the budget, how many members it has walked, its full member after a Found, whether a full member was found so far,
+-- the answer that ended it, the events and refusals of its recorder, and whether a recorder that keeps events had none at the start
 pub record Quest : Type 0 where
   pub walk : Tree
   pub budget : ℕ
   pub walked : ℕ
   pub layout : Option (List ℤ)
+  pub some_found : Bool
   pub over : Option Step
   pub events : List Event
   pub refusals : ℕ
+  pub began_empty : Bool
 
 -- w are the members that the search has walked
 abbrev pub HasWalked : Quest → List (List ℤ) → Type 0
@@ -51,6 +53,13 @@ AsBefore (Some e) a s b = (s ≡ e) × (b ≡ a)
 -- what `next` answers, and what it leaves
 abbrev pub Steps : Quest → Step → Quest → Type 0
 Steps a s b = (b.walk ≡ a.walk) × (b.budget ≡ a.budget) × AsBefore a.over a s b
+
+-- the answer is that a full member was found
+abbrev pub is_found : Step → Bool
+is_found Found = true
+is_found Ended = false
+is_found Budget = false
+is_found Memory = false
 
 -- the full member that was found has the values of that tuple
 abbrev pub HasFound : Quest → Tuple → Type 0

@@ -1,4 +1,4 @@
-ghost use Rattle.std.specs.Prelude.{◌≡◌, ◌≢◌, ℤ, ◌≤◌, ◌<◌, true, false, None, Some, IfOk, IfSome, IsSome, length};
+ghost use Rattle.std.specs.Prelude.{◌≡◌, ◌≢◌, ◌==◌, ◌||◌, ℤ, ◌≤◌, ◌<◌, true, false, None, Some, IfOk, IfSome, IsSome, length};
 ghost use Rattle.std.specs.List.{All};
 ghost use Rattle.std.specs.Option.{option_copied, option_map};
 ghost use Rattle.derivation.specs.Events.{Continues};
@@ -7,7 +7,7 @@ ghost use Rattle.geo_conditions.specs.Conditions.{AllFit};
 ghost use Rattle.geo_conditions.specs.Reach.{Tuple, TupleIn, spot};
 ghost use Rattle.geo_conditions.specs.Walk.{NamesEach, variables_in, values};
 ghost use Rattle.geo_state.specs.Trail.{IsSmall};
-ghost use Rattle.trail_search.specs.Next.{Steps, HasFound};
+ghost use Rattle.trail_search.specs.Next.{Steps, HasFound, is_found};
 
 use super::start::start_walker;
 use super::step::Step;
@@ -30,6 +30,8 @@ pub struct Search<const K: usize, P: Propagate<K>, R: Recorder> {
     walker: Walker<K>,
     budget: u64,
     found: bool,
+    some_found: bool,
+    began_empty: bool,
     over: Option<Step>,
 }
 
@@ -48,13 +50,15 @@ impl<const K: usize, P: Propagate<K>, R: Recorder> Model for Search<K, P, R> {
       budget = s.budget;
       walked = s.walker.walked;
       layout = layout_when s.found s.walker.values;
+      some_found = s.some_found;
       over = s.over;
+      began_empty = s.began_empty;
       events = R.list s.rec;
       refusals = R.refusals s.rec;
     } };
 
-    ghost invariant = { λ s.
-        IsSound K R.keeps (P.conditions s.prop) (P.objects s.prop) s.budget s.walker s.found s.over };
+    ghost invariant = { λ s. IsSound K R.keeps (P.conditions s.prop) (P.objects s.prop)
+        s.budget s.walker s.found s.over };
 }
 
 impl<const K: usize, P: Propagate<K> + Drop, R: Recorder + Drop> Search<K, P, R> {
@@ -85,20 +89,26 @@ impl<const K: usize, P: Propagate<K> + Drop, R: Recorder + Drop> Search<K, P, R>
         ensures budget { IfOk result (λ s. s.budget ≡ budget) }
         ensures walked { IfOk result (λ s. s.walked ≡ 0) }
         ensures layout { IfOk result (λ s. s.layout ≡ None) }
+        ensures some_found { IfOk result (λ s. s.some_found ≡ false) }
         ensures over { IfOk result (λ s. s.over ≡ None) }
         ensures events { IfOk result (λ s. s.events ≡ R.list rec) }
+        ensures began_empty { IfOk result (λ s. R.keeps ≡ true
+            → s.began_empty ≡ (length (R.list rec) == 0)) }
         ensures refusals { IfOk result (λ s. s.refusals ≡ R.refusals rec) }
     {
         match start_walker(alloc, first, &order, after) {
             Err(e) => Err(e),
             Ok(mut walker) => {
                 walker.begin();
+                let began_empty = rec.mark() == 0;
                 Ok(Search {
                     prop,
                     rec,
                     walker,
                     budget,
                     found: false,
+                    some_found: false,
+                    began_empty,
                     over: None,
                 })
             }
@@ -112,6 +122,8 @@ impl<const K: usize, P: Propagate<K>, R: Recorder> Search<K, P, R> {
         requires k { K ≤ MAX_DIMS }
         ensures steps { Steps self.old result self.new }
         ensures found { result ≡ Step.Found → IsSome self.new.layout }
+        ensures some_found { self.new.some_found ≡ self.old.some_found || is_found result }
+        ensures began_empty { self.new.began_empty ≡ self.old.began_empty }
         ensures events { R.keeps ≡ true → Continues self.old.events self.new.events }
         ensures refusals { self.old.refusals ≤ self.new.refusals }
         ensures no_record { R.keeps ≡ false → result ≢ Step.Memory }
@@ -130,6 +142,7 @@ impl<const K: usize, P: Propagate<K>, R: Recorder> Search<K, P, R> {
         ) {
             Step::Found => {
                 self.found = true;
+                self.some_found = true;
                 Step::Found
             }
             Step::Ended => {

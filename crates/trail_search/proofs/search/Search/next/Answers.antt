@@ -30,7 +30,7 @@ returns-in-Found-clause-steps g c =
     let o : a.over ≡ None = sym (ap (λ (z : Quest). z.over) v) ∙ c.in_default.is in
     let fq : tree_of (g.P.Propagate.conditions c.go_on.new.prop) q ≡ tree_of cs q = ap (λ (z : List Cond). tree_of z q) c.go_on.ensures.conditions in
     let fp : tree_of (g.P.Propagate.conditions c.go_on.new.prop) q ≡ tree_of cs p = fq ∙ sym (tree_same cs p q c.go_on.ensures.same) in
-    let z : Quest = record { walk = tree_of (g.P.Propagate.conditions c.go_on.new.prop) q; budget = c.self.inside.budget; walked = q.walked; layout = layout_when true q.values; over = c.self.inside.over; events = g.R.Recorder.list c.go_on.new.rec; refusals = g.R.Recorder.refusals c.go_on.new.rec } in
+    let z : Quest = record { walk = tree_of (g.P.Propagate.conditions c.go_on.new.prop) q; budget = c.self.inside.budget; walked = q.walked; layout = layout_when true q.values; some_found = true; over = c.self.inside.over; events = g.R.Recorder.list c.go_on.new.rec; refusals = g.R.Recorder.refusals c.go_on.new.rec; began_empty = c.self.inside.began_empty } in
     (fp ∙ sym ea, sym nb, as_before a z Found o (found_answer cs g.row.K c.self.inside.budget p q a z c.go_on.ensures.same c.go_on.ensures.well ea fq m nb refl refl c.in_default.is h))
 
 pub returns-in-Budget-clause-steps : goal.returns-in-Budget-clause-steps
@@ -47,7 +47,7 @@ returns-in-Budget-clause-steps g c =
     let o : a.over ≡ None = sym (ap (λ (z : Quest). z.over) v) ∙ c.in_default.is in
     let fq : tree_of (g.P.Propagate.conditions c.go_on.new.prop) q ≡ tree_of cs q = ap (λ (z : List Cond). tree_of z q) c.go_on.ensures.conditions in
     let fp : tree_of (g.P.Propagate.conditions c.go_on.new.prop) q ≡ tree_of cs p = fq ∙ sym (tree_same cs p q c.go_on.ensures.same) in
-    let z : Quest = record { walk = tree_of (g.P.Propagate.conditions c.go_on.new.prop) q; budget = c.self.inside.budget; walked = q.walked; layout = layout_when false q.values; over = Some Budget; events = g.R.Recorder.list c.go_on.new.rec; refusals = g.R.Recorder.refusals c.go_on.new.rec } in
+    let z : Quest = record { walk = tree_of (g.P.Propagate.conditions c.go_on.new.prop) q; budget = c.self.inside.budget; walked = q.walked; layout = layout_when false q.values; some_found = c.self.inside.some_found; over = Some Budget; events = g.R.Recorder.list c.go_on.new.rec; refusals = g.R.Recorder.refusals c.go_on.new.rec; began_empty = c.self.inside.began_empty } in
     (fp ∙ sym ea, sym nb, as_before a z Budget o (budget_answer cs c.self.inside.budget p q a z ea fp m nb refl refl h))
 
 pub returns-in-Memory-clause-steps : goal.returns-in-Memory-clause-steps
@@ -61,7 +61,7 @@ returns-in-Memory-clause-steps g c =
     let o : a.over ≡ None = sym (ap (λ (z : Quest). z.over) v) ∙ c.in_default.is in
     let f : tree_of (g.P.Propagate.conditions c.go_on.new.prop) q ≡ a.walk =
     ap (λ (z : List Cond). tree_of z q) c.go_on.ensures.conditions ∙ sym (tree_same cs p q c.go_on.ensures.same) ∙ ap (λ (z : Quest). z.walk) v in
-    let z : Quest = record { walk = tree_of (g.P.Propagate.conditions c.go_on.new.prop) q; budget = c.self.inside.budget; walked = q.walked; layout = layout_when false q.values; over = Some Memory; events = g.R.Recorder.list c.go_on.new.rec; refusals = g.R.Recorder.refusals c.go_on.new.rec } in
+    let z : Quest = record { walk = tree_of (g.P.Propagate.conditions c.go_on.new.prop) q; budget = c.self.inside.budget; walked = q.walked; layout = layout_when false q.values; some_found = c.self.inside.some_found; over = Some Memory; events = g.R.Recorder.list c.go_on.new.rec; refusals = g.R.Recorder.refusals c.go_on.new.rec; began_empty = c.self.inside.began_empty } in
     (f, ap (λ (z : Quest). z.budget) v, as_before a z Memory o (subst (λ (m : ℕ). min (m + 1) (2 ^ 64 - 1) ≤ z.refusals) (ap (λ (z : Quest). z.refusals) v) r, refl))
 
 pub returns-in-Memory-clause-no_record : goal.returns-in-Memory-clause-no_record
