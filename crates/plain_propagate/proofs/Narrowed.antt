@@ -1,5 +1,5 @@
 -- A defect that is mended keeps every supported state, and makes the state smaller.
-use Rattle.std.proofs.Common.{◌≡◌, ℕ, zero, suc, ◌<◌, ◌≤◌, Bool, true, false, List, length, set, sym, ap, ◌∙◌, subst, arith, ℤ, pos, negsuc, ◌+ℤ◌}
+use Rattle.std.proofs.Common.{◌≡◌, ℕ, zero, suc, ◌<◌, ◌≤◌, Bool, true, false, List, length, set, sym, ap, ◌∙◌, subst, arith, ℤ, pos, negsuc, ◌+ℤ◌, Result, Ok, Err, IsErr}
 use Rattle.std.specs.List.{All}
 use Rattle.geo_conditions.specs.declared.cond.Cond.{Cond}
 use Rattle.geo_conditions.specs.Conditions.{FitsIn}
@@ -9,6 +9,8 @@ use Rattle.geo_conditions.proofs.Points.{inside_self, inside_trans}
 use Rattle.geo_conditions.specs.Reach.{State, reach, low, high, with_low, with_high, without, how_many, Inside}
 use Rattle.geo_conditions.specs.Keeps.{Keeps, size}
 use Rattle.geo_conditions.proofs.Greatest.{keeps_trans, drop_keeps, raise_keeps, lower_keeps, size_set, fewer, lo_narrower, hi_narrower}
+use Rattle.geo_state.specs.declared.propagate.Settled.{Settled}
+use Rattle.geo_state.specs.Settle.{SettlesOr}
 use Rattle.plain_propagate.specs.Defects.{LacksPoint, LacksLow, LacksHigh, ObjectFine}
 
 -- R keeps every supported state inside S, and is smaller
@@ -84,3 +86,8 @@ gone_dead cs S R Q g n i = (λ T s j. n T s (g.keeps.all T s j), inside_trans Q 
 -- what is left and supported is the greatest supported state
 pub gone_kept : (cs : List Cond) (S R : State) → Going cs S R → IsSupported cs R → IsGreatest cs S R
 gone_kept cs S R g s = record { supported = s; inside = g.keeps.inside; greatest = g.keeps.all }
+
+-- what is left after want of memory
+pub settles_failed : {E : Type 0} (cs : List Cond) (S T : State) (r : Result Settled E) → IsErr r → Inside T S → SettlesOr cs S r T
+settles_failed cs S T (Ok a) e i = absurd (cc)
+settles_failed cs S T (Err e) h i = i

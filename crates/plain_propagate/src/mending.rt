@@ -183,11 +183,10 @@ fn repair<const K: usize, R: Recorder>(
 {
     let mut changed = false;
     while let Some(defect) = object_defect(cs, t.state(), o) {
-        match mend(cs, t, defect, rec) {
-            Err(e) => return Err(e),
-            Ok(false) => return Ok(Outcome::Dead),
-            Ok(true) => changed = true,
+        if !mend(cs, t, defect, rec)? {
+            return Ok(Outcome::Dead);
         }
+        changed = true;
     }
     if changed {
         Ok(Outcome::Changed)

@@ -55,11 +55,10 @@ fn settle<const K: usize, R: Recorder>(
     ensures grows { Grows R.keeps R.list R.refusals rec.old rec.new result }
 {
     'passes: loop {
-        match pass(cs, t, rec) {
-            Err(e) => return Err(e),
-            Ok(Outcome::Dead) => return Ok(Settled::Dead),
-            Ok(Outcome::Changed) => {}
-            Ok(Outcome::Fine) => return Ok(Settled::Kept),
+        match pass(cs, t, rec)? {
+            Outcome::Dead => return Ok(Settled::Dead),
+            Outcome::Changed => {}
+            Outcome::Fine => return Ok(Settled::Kept),
         }
     }
 }

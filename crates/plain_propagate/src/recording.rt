@@ -102,14 +102,8 @@ fn record_points<const K: usize, R: Recorder>(
     let _objects = s.objects();
     let last = b.hi.get(d);
     for v in b.lo.get(d)..last {
-        match record_event(rec, Event::Cut(d, v)) {
-            Err(e) => return Err(e),
-            Ok(()) => {}
-        }
-        match record_points(cs, s, o, place, &cut_to(b, d, v), d + 1, rec) {
-            Err(e) => return Err(e),
-            Ok(()) => {}
-        }
+        record_event(rec, Event::Cut(d, v))?;
+        record_points(cs, s, o, place, &cut_to(b, d, v), d + 1, rec)?;
     }
     match record_points(cs, s, o, place, &cut_to(b, d, last), d + 1, rec) {
         Err(e) => Err(e),
@@ -144,13 +138,8 @@ fn record_place<const K: usize, R: Recorder>(
     if !s.has_shape(o, place) {
         return Ok(());
     }
-    match record_event(rec, Event::Cover(place)) {
-        Err(e) => Err(e),
-        Ok(()) => match record_points(cs, s, o, place, b, 0, rec) {
-            Err(e) => Err(e),
-            Ok(()) => Ok(()),
-        },
-    }
+    record_event(rec, Event::Cover(place))?;
+    record_points(cs, s, o, place, b, 0, rec)
 }
 
 /// Records a cover of the box for each place that the object has, and their end.
@@ -176,10 +165,7 @@ fn record_places<const K: usize, R: Recorder>(
 {
     let _region = s.region(o);
     for place in 1..17u8 {
-        match record_place(cs, s, o, place, b, rec) {
-            Err(e) => return Err(e),
-            Ok(()) => {}
-        }
+        record_place(cs, s, o, place, b, rec)?;
     }
     match record_event(rec, Event::EndCovers) {
         Err(e) => Err(e),
@@ -224,13 +210,8 @@ pub fn record_gone<const K: usize, R: Recorder>(
     ensures grows { Grows R.keeps R.list R.refusals rec.old rec.new result }
 {
     let region = s.region(o);
-    match record_event(rec, Event::Gone(o)) {
-        Err(e) => Err(e),
-        Ok(()) => match record_places(cs, s, o, &region, rec) {
-            Err(e) => Err(e),
-            Ok(()) => Ok(()),
-        },
-    }
+    record_event(rec, Event::Gone(o))?;
+    record_places(cs, s, o, &region, rec)
 }
 
 /// Records that the object has no point at the place, which leads to the state without the place.
@@ -251,13 +232,8 @@ pub fn record_drop<const K: usize, R: Recorder>(
     ensures grows { Grows R.keeps R.list R.refusals rec.old rec.new result }
 {
     let region = s.region(o);
-    match record_event(rec, Event::Drop(o, place)) {
-        Err(e) => Err(e),
-        Ok(()) => match record_points(cs, s, o, place, &region, 0, rec) {
-            Err(e) => Err(e),
-            Ok(()) => Ok(()),
-        },
-    }
+    record_event(rec, Event::Drop(o, place))?;
+    record_points(cs, s, o, place, &region, 0, rec)
 }
 
 /// Records that the low end of the interval has no point, which leads to the state with the next
@@ -284,13 +260,8 @@ pub fn record_raise<const K: usize, R: Recorder>(
     let low = region.lo.get(d);
     let _high = region.hi.get(d);
     let taken = KBox::new(region.lo, region.hi.with(d, low));
-    match record_event(rec, Event::Raise(o, d, low + 1)) {
-        Err(e) => Err(e),
-        Ok(()) => match record_places(cs, s, o, &taken, rec) {
-            Err(e) => Err(e),
-            Ok(()) => Ok(()),
-        },
-    }
+    record_event(rec, Event::Raise(o, d, low + 1))?;
+    record_places(cs, s, o, &taken, rec)
 }
 
 /// Records that the high end of the interval has no point, which leads to the state with the number
@@ -317,11 +288,6 @@ pub fn record_lower<const K: usize, R: Recorder>(
     let _low = region.lo.get(d);
     let high = region.hi.get(d);
     let taken = KBox::new(region.lo.with(d, high), region.hi);
-    match record_event(rec, Event::Lower(o, d, high - 1)) {
-        Err(e) => Err(e),
-        Ok(()) => match record_places(cs, s, o, &taken, rec) {
-            Err(e) => Err(e),
-            Ok(()) => Ok(()),
-        },
-    }
+    record_event(rec, Event::Lower(o, d, high - 1))?;
+    record_places(cs, s, o, &taken, rec)
 }

@@ -8,7 +8,7 @@ use Rattle.plain_propagate.specs.Passes.{IsNarrower}
 use Rattle.derivation.specs.Chains.{IsLed, IsClosed}
 use Rattle.plain_propagate.proofs.Narrowed.{Mended, Unless, going_on, unless_on}
 use Rattle.derivation.proofs.Chains.{led_on, led_closed}
-use Rattle.derivation.proofs.Continuing.{growth_on}
+use Rattle.derivation.proofs.Continuing.{growth_on, growth_failed}
 use Rattle.plain_propagate.proofs.mending.repair.Goals as goal
 
 pub loop-defect-preserved : goal.loop-defect-preserved
@@ -18,7 +18,7 @@ loop-defect-preserved g c =
     let R = c.loop-defect.t.state in
     let Q = c.mend.new.t.state in
     let i = c.loop-defect.invariant in
-    let m : Mended cs R Q = subst (λ (b : Bool). MatchBool b (IsNarrower cs R Q) (NoneInside cs R × (Q ≡ R))) c.in-Ok-true.field-0-test c.in-Ok-true.ensures.mended in
+    let m : Mended cs R Q = subst (λ (b : Bool). MatchBool b (IsNarrower cs R Q) (NoneInside cs R × (Q ≡ R))) c.if-not-branch.false c.in_ok-mend.ensures.mended in
     record {
       going = going_on cs S R Q i.going m.0;
       unless = unless_on c.loop-defect.changed cs S R Q i.unless m;
@@ -27,18 +27,18 @@ loop-defect-preserved g c =
           let old = g.R.Recorder.list c.args.rec.now in
           let mid = g.R.Recorder.list c.loop-defect.rec in
           let end = g.R.Recorder.list c.mend.new.rec in
-          led_on cs S R Q old mid end (i.recorded kept) (subst (λ (b : Bool). MatchBool b (IsLed cs R Q mid end) (IsClosed cs R mid end)) c.in-Ok-true.field-0-test (c.in-Ok-true.ensures.record kept));
-      grows = growth_on i.grows c.in-Ok-true.ensures.grows;
+          led_on cs S R Q old mid end (i.recorded kept) (subst (λ (b : Bool). MatchBool b (IsLed cs R Q mid end) (IsClosed cs R mid end)) c.if-not-branch.false (c.in_ok-mend.ensures.record kept));
+      grows = growth_on i.grows c.in_ok-mend.ensures.grows;
     }
 
-pub returns-in-Ok-false-clause-record : goal.returns-in-Ok-false-clause-record
-returns-in-Ok-false-clause-record g c = λ kept.
+pub returns-then-not-branch-clause-record : goal.returns-then-not-branch-clause-record
+returns-then-not-branch-clause-record g c = λ kept.
     let cs = c.args.cs.now in
     let R = c.loop-defect.t.state in
     let old = g.R.Recorder.list c.args.rec.now in
     let mid = g.R.Recorder.list c.loop-defect.rec in
     let end = g.R.Recorder.list c.mend.new.rec in
-    led_closed cs c.args.t.now.state R old mid end (c.loop-defect.invariant.recorded kept) (subst (λ (b : Bool). MatchBool b (IsLed cs R c.mend.new.t.state mid end) (IsClosed cs R mid end)) c.in-Ok-false.field-0-test (c.in-Ok-false.ensures.record kept))
+    led_closed cs c.args.t.now.state R old mid end (c.loop-defect.invariant.recorded kept) (subst (λ (b : Bool). MatchBool b (IsLed cs R c.mend.new.t.state mid end) (IsClosed cs R mid end)) c.if-not-branch.true (c.in_ok-mend.ensures.record kept))
 
 pub returns-else-changed-clause-repairs : goal.returns-else-changed-clause-repairs
 returns-else-changed-clause-repairs g c =
@@ -47,11 +47,11 @@ returns-else-changed-clause-repairs g c =
     let fine : ObjectFine cs c.state.result.now c.args.o.0 = subst (λ (a : Option Defect). MatchOption a (ObjectFine cs c.state.result.now c.args.o.0) (IsDefect cs c.state.result.now)) c.in_default.is c.object_defect.ensures in
     (same, subst (λ (S : State). ObjectFine cs S c.args.o.0) (c.state.ensures.value ∙ same) fine)
 
-pub returns-in-Err-clause-grows : goal.returns-in-Err-clause-grows
-returns-in-Err-clause-grows g c = growth_on c.loop-defect.invariant.grows c.in-Err.ensures.grows
+pub returns-in_err-mend-clause-grows : goal.returns-in_err-mend-clause-grows
+returns-in_err-mend-clause-grows g c = growth_failed (growth_on c.loop-defect.invariant.grows c.in_err-mend.ensures.grows) _ c.from_residual.ensures.0
 
-pub returns-in-Ok-false-clause-grows : goal.returns-in-Ok-false-clause-grows
-returns-in-Ok-false-clause-grows g c = growth_on c.loop-defect.invariant.grows c.in-Ok-false.ensures.grows
+pub returns-then-not-branch-clause-grows : goal.returns-then-not-branch-clause-grows
+returns-then-not-branch-clause-grows g c = growth_on c.loop-defect.invariant.grows c.in_ok-mend.ensures.grows
 
 pub returns-then-changed-clause-grows : goal.returns-then-changed-clause-grows
 returns-then-changed-clause-grows g c = c.loop-defect.invariant.grows

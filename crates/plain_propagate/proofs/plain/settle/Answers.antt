@@ -1,27 +1,28 @@
 use Rattle.std.proofs.Common.{◌∙◌, subst, arith}
+use Rattle.geo_conditions.proofs.Points.{inside_trans}
 use Rattle.plain_propagate.specs.declared.mending.Outcome.{Outcome}
 use Rattle.plain_propagate.specs.Passes.{Passes}
 use Rattle.plain_propagate.specs.Recorded.{RecordsOutcome}
-use Rattle.plain_propagate.proofs.Narrowed.{going_on}
+use Rattle.plain_propagate.proofs.Narrowed.{going_on, settles_failed}
 use Rattle.derivation.proofs.Chains.{led_on, led_closed}
-use Rattle.derivation.proofs.Continuing.{growth_on}
+use Rattle.derivation.proofs.Continuing.{growth_on, growth_failed}
 use Rattle.plain_propagate.proofs.plain.settle.Goals as goal
 
-pub returns-in-Ok-Dead-clause-record : goal.returns-in-Ok-Dead-clause-record
-returns-in-Ok-Dead-clause-record g c = λ kept.
+pub returns-in-Dead-clause-record : goal.returns-in-Dead-clause-record
+returns-in-Dead-clause-record g c = λ kept.
     let cs = c.args.cs.now in
     let R = c.passes.t.state in
     let mid = g.R.Recorder.list c.passes.rec in
     let end = g.R.Recorder.list c.pass.new.rec in
-    led_closed cs c.args.t.now.state R (g.R.Recorder.list c.args.rec.now) mid end (c.passes.invariant.recorded kept) (subst (λ (a : Outcome). RecordsOutcome cs R a c.pass.new.t.state mid end) c.in-Ok-Dead.field-0-is (c.in-Ok-Dead.ensures.record kept))
+    led_closed cs c.args.t.now.state R (g.R.Recorder.list c.args.rec.now) mid end (c.passes.invariant.recorded kept) (subst (λ (a : Outcome). RecordsOutcome cs R a c.pass.new.t.state mid end) c.in-Dead.is (c.in_ok-pass.ensures.record kept))
 
-pub returns-in-Ok-Fine-clause-record : goal.returns-in-Ok-Fine-clause-record
-returns-in-Ok-Fine-clause-record g c = λ kept.
+pub returns-in-Fine-clause-record : goal.returns-in-Fine-clause-record
+returns-in-Fine-clause-record g c = λ kept.
     let cs = c.args.cs.now in
     let R = c.passes.t.state in
     let mid = g.R.Recorder.list c.passes.rec in
     let end = g.R.Recorder.list c.pass.new.rec in
-    led_on cs c.args.t.now.state R c.pass.new.t.state (g.R.Recorder.list c.args.rec.now) mid end (c.passes.invariant.recorded kept) (subst (λ (a : Outcome). RecordsOutcome cs R a c.pass.new.t.state mid end) c.in-Ok-Fine.field-0-is (c.in-Ok-Fine.ensures.record kept))
+    led_on cs c.args.t.now.state R c.pass.new.t.state (g.R.Recorder.list c.args.rec.now) mid end (c.passes.invariant.recorded kept) (subst (λ (a : Outcome). RecordsOutcome cs R a c.pass.new.t.state mid end) c.in-Fine.is (c.in_ok-pass.ensures.record kept))
 
 pub passes-preserved : goal.passes-preserved
 passes-preserved g c =
@@ -32,19 +33,22 @@ passes-preserved g c =
     let mid = g.R.Recorder.list c.passes.rec in
     let end = g.R.Recorder.list c.pass.new.rec in
     let i = c.passes.invariant in
-    let m = subst (λ (x : Outcome). Passes cs R x Q) c.in-Ok-Changed.field-0-is c.in-Ok-Changed.ensures.passes in
+    let m = subst (λ (x : Outcome). Passes cs R x Q) c.in-Changed.is c.in_ok-pass.ensures.passes in
     record {
       going = going_on cs S R Q i.going m.0;
       levels = (c.pass.ensures.levels.0 ∙ i.levels.0, c.pass.ensures.levels.1 ∙ i.levels.1);
-      recorded = λ kept. led_on cs S R Q (g.R.Recorder.list c.args.rec.now) mid end (i.recorded kept) (subst (λ (a : Outcome). RecordsOutcome cs R a Q mid end) c.in-Ok-Changed.field-0-is (c.in-Ok-Changed.ensures.record kept));
-      grows = growth_on i.grows c.in-Ok-Changed.ensures.grows;
+      recorded = λ kept. led_on cs S R Q (g.R.Recorder.list c.args.rec.now) mid end (i.recorded kept) (subst (λ (a : Outcome). RecordsOutcome cs R a Q mid end) c.in-Changed.is (c.in_ok-pass.ensures.record kept));
+      grows = growth_on i.grows c.in_ok-pass.ensures.grows;
     }
 
-pub returns-in-Err-clause-grows : goal.returns-in-Err-clause-grows
-returns-in-Err-clause-grows g c = growth_on c.passes.invariant.grows c.in-Err.ensures.grows
+pub returns-in_err-pass-clause-grows : goal.returns-in_err-pass-clause-grows
+returns-in_err-pass-clause-grows g c = growth_failed (growth_on c.passes.invariant.grows c.in_err-pass.ensures.grows) _ c.from_residual.ensures.0
 
-pub returns-in-Ok-Dead-clause-grows : goal.returns-in-Ok-Dead-clause-grows
-returns-in-Ok-Dead-clause-grows g c = growth_on c.passes.invariant.grows c.in-Ok-Dead.ensures.grows
+pub returns-in-Dead-clause-grows : goal.returns-in-Dead-clause-grows
+returns-in-Dead-clause-grows g c = growth_on c.passes.invariant.grows c.in_ok-pass.ensures.grows
 
-pub returns-in-Ok-Fine-clause-grows : goal.returns-in-Ok-Fine-clause-grows
-returns-in-Ok-Fine-clause-grows g c = growth_on c.passes.invariant.grows c.in-Ok-Fine.ensures.grows
+pub returns-in-Fine-clause-grows : goal.returns-in-Fine-clause-grows
+returns-in-Fine-clause-grows g c = growth_on c.passes.invariant.grows c.in_ok-pass.ensures.grows
+
+pub returns-in_err-pass-clause-settles : goal.returns-in_err-pass-clause-settles
+returns-in_err-pass-clause-settles g c = settles_failed c.args.cs.now c.args.t.now.state c.pass.new.t.state _ c.from_residual.ensures.0 (inside_trans c.pass.new.t.state c.passes.t.state c.args.t.now.state c.pass.ensures.inside c.passes.invariant.going.keeps.inside)

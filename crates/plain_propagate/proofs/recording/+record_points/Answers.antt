@@ -11,7 +11,7 @@ use Rattle.geo_state.proofs.Numbers.{kept64}
 use Rattle.geo_state.proofs.Shapes.{lo_long}
 use Rattle.plain_propagate.specs.Points.{IsSmallRegion}
 use Rattle.plain_propagate.proofs.Recorded.{RecordedUpTo, crossed_empty, cover_empty, point_refuted, cut_none, cut_single, upto_start, upto_more, upto_end, small_cut}
-use Rattle.derivation.proofs.Continuing.{growth_none, growth_on}
+use Rattle.derivation.proofs.Continuing.{growth_none, growth_on, growth_failed}
 use Rattle.plain_propagate.proofs.recording.+record_points.Goals as goal
 
 pub returns-in-Ok-clause-cover : goal.returns-in-Ok-clause-cover
@@ -54,8 +54,8 @@ loop-v-preserved g t c =
       from = omega (arith, ints, c.loop-v.invariant.from);
       to = omega (arith, ints, c.loop-v.invariant.to);
       recorded = λ kept. upto_more c.args.cs.now c.args.s.now c.args.o.0 c.args.place b (region_of c.cut_to.result) c.args.d _ _ _ _ _ _
-          (omega (arith, dimension, c.requires.dimension, c.if-d.false), omega (arith, ints, near.0, near.1), omega (arith, ints, near.0, near.1)) k (omega (arith, ints, c.loop-v.invariant.to, c.get-last.ensures)) c.cut_to.ensures (omega (arith, ints)) (c.in-Ok-record_event.ensures.added kept) (c.in-Ok-record_points.ensures.cover kept) (c.loop-v.invariant.recorded kept);
-      grows = growth_on (growth_on c.loop-v.invariant.grows c.in-Ok-record_event.ensures.grows) c.in-Ok-record_points.ensures.grows;
+          (omega (arith, dimension, c.requires.dimension, c.if-d.false), omega (arith, ints, near.0, near.1), omega (arith, ints, near.0, near.1)) k (omega (arith, ints, c.loop-v.invariant.to, c.get-last.ensures)) c.cut_to.ensures (omega (arith, ints)) (c.in_ok-record_event.ensures.added kept) (c.in_ok-record_points.ensures.cover kept) (c.loop-v.invariant.recorded kept);
+      grows = growth_on (growth_on c.loop-v.invariant.grows c.in_ok-record_event.ensures.grows) c.in_ok-record_points.ensures.grows;
     }
 
 pub record_points-requires-2 : goal.record_points-requires-2
@@ -69,12 +69,12 @@ record_points-requires-2 g t c κs within =
     let none : HasNoPoint c.args.cs.now c.args.s.now c.args.o.0 c.args.place (region_of c.cut_to-2.result) = cut_none c.args.cs.now c.args.s.now c.args.o.0 c.args.place b (region_of c.cut_to-2.result) c.args.d _ k l (omega (arith, ints, c.get-last.ensures, c.if-is_empty.ensures.ends c.args.d d)) (omega (arith, ints, c.get-last.ensures)) c.cut_to-2.ensures c.requires.none in
     search rules
 
-pub returns-in-Ok-record_points-2-clause-cover : goal.returns-in-Ok-record_points-2-clause-cover
-returns-in-Ok-record_points-2-clause-cover g t c = λ kept.
+pub returns-in-Ok-record_points-clause-cover : goal.returns-in-Ok-record_points-clause-cover
+returns-in-Ok-record_points-clause-cover g t c = λ kept.
     let b = region_of c.args.b.now in
     let last = to_z w64 (of_z w64 c.get-last.result) in
     let at_end : to_z w64 c.loop-v.v-bits ≡ last = omega (arith, ints, c.loop-v.invariant.to, c.loop-v-test.false) in
-    upto_end c.args.cs.now c.args.s.now c.args.o.0 c.args.place b (region_of c.cut_to-2.result) c.args.d last _ _ _ (kept64 c.get-last.result c.get-last.type_inv ∙ c.get-last.ensures) c.cut_to-2.ensures (c.in-Ok-record_points-2.ensures.cover kept)
+    upto_end c.args.cs.now c.args.s.now c.args.o.0 c.args.place b (region_of c.cut_to-2.result) c.args.d last _ _ _ (kept64 c.get-last.result c.get-last.type_inv ∙ c.get-last.ensures) c.cut_to-2.ensures (c.in-Ok-record_points.ensures.cover kept)
     (subst (λ (v : ℤ). RecordedUpTo c.args.cs.now c.args.s.now c.args.o.0 c.args.place b c.args.d v (g.R.Recorder.list c.args.rec.now) (g.R.Recorder.list c.loop-v.rec)) at_end (c.loop-v.invariant.recorded kept))
 
 pub returns-in-Err-clause-grows : goal.returns-in-Err-clause-grows
@@ -83,14 +83,14 @@ returns-in-Err-clause-grows g t c = c.in-Err.ensures.grows
 pub returns-in-Ok-clause-grows : goal.returns-in-Ok-clause-grows
 returns-in-Ok-clause-grows g t c = c.in-Ok.ensures.grows
 
-pub returns-in-Err-record_event-clause-grows : goal.returns-in-Err-record_event-clause-grows
-returns-in-Err-record_event-clause-grows g t c = growth_on c.loop-v.invariant.grows c.in-Err-record_event.ensures.grows
+pub returns-in_err-record_event-clause-grows : goal.returns-in_err-record_event-clause-grows
+returns-in_err-record_event-clause-grows g t c = growth_failed (growth_on c.loop-v.invariant.grows c.in_err-record_event.ensures.grows) _ c.from_residual.ensures.0
+
+pub returns-in_err-record_points-clause-grows : goal.returns-in_err-record_points-clause-grows
+returns-in_err-record_points-clause-grows g t c = growth_failed (growth_on (growth_on c.loop-v.invariant.grows c.in_ok-record_event.ensures.grows) c.in_err-record_points.ensures.grows) _ c.from_residual-in_err-record_points.ensures.0
 
 pub returns-in-Err-record_points-clause-grows : goal.returns-in-Err-record_points-clause-grows
-returns-in-Err-record_points-clause-grows g t c = growth_on (growth_on c.loop-v.invariant.grows c.in-Ok-record_event.ensures.grows) c.in-Err-record_points.ensures.grows
+returns-in-Err-record_points-clause-grows g t c = growth_on c.loop-v.invariant.grows c.in-Err-record_points.ensures.grows
 
-pub returns-in-Err-record_points-2-clause-grows : goal.returns-in-Err-record_points-2-clause-grows
-returns-in-Err-record_points-2-clause-grows g t c = growth_on c.loop-v.invariant.grows c.in-Err-record_points-2.ensures.grows
-
-pub returns-in-Ok-record_points-2-clause-grows : goal.returns-in-Ok-record_points-2-clause-grows
-returns-in-Ok-record_points-2-clause-grows g t c = growth_on c.loop-v.invariant.grows c.in-Ok-record_points-2.ensures.grows
+pub returns-in-Ok-record_points-clause-grows : goal.returns-in-Ok-record_points-clause-grows
+returns-in-Ok-record_points-clause-grows g t c = growth_on c.loop-v.invariant.grows c.in-Ok-record_points.ensures.grows

@@ -4,6 +4,7 @@ use Rattle.std.specs.Int.{w64}
 use mir.Val.{to_z, of_z}
 use Rattle.geo_base.specs.Boxes.{coordinate}
 use Rattle.geo_base.specs.declared.point.Point.{Point}
+use Rattle.std.proofs.lemmas.Result.{on_ok_weaker}
 use Rattle.geo_conditions.specs.Reach.{Region, reach, has, low, high}
 use Rattle.geo_conditions.specs.Regions.{region_of}
 use Rattle.geo_conditions.specs.Supported.{HasNoPoint}
@@ -11,7 +12,7 @@ use Rattle.geo_state.proofs.Numbers.{kept64}
 use Rattle.geo_state.specs.Trail.{IsSmallNumber}
 use Rattle.plain_propagate.specs.Points.{IsSmallRegion}
 use Rattle.plain_propagate.proofs.Recorded.{from_on, from_on_same, high_none, lower_led, small_region, small_lo}
-use Rattle.derivation.proofs.Continuing.{growth_on}
+use Rattle.derivation.proofs.Continuing.{growth_on, growth_failed}
 use Rattle.plain_propagate.proofs.recording.record_lower.Goals as goal
 
 pub record_places-requires : goal.record_places-requires
@@ -26,8 +27,8 @@ record_places-requires g c =
     let small : IsSmallRegion (region_of c.new-taken.result) = small_lo (region_of c.region-region.result) (region_of c.new-taken.result) c.args.d v number (ap (λ (p : Point g.row.K). p.coordinates) c.new-taken.ensures.lo ∙ c.with.ensures.whole) (ap (λ (p : Point g.row.K). p.coordinates) c.new-taken.ensures.hi) region in
     search rules
 
-pub returns-in-Ok-record_places-clause-led : goal.returns-in-Ok-record_places-clause-led
-returns-in-Ok-record_places-clause-led g c = λ kept.
+pub returns-clause-led : goal.returns-clause-led
+returns-clause-led g c = on_ok_weaker c.record_places.result (λ ok kept.
     let S = c.args.s.now in
     let v = to_z w64 (of_z w64 c.get-high.result) in
     let at : v ≡ high S c.args.o.0 c.args.d = kept64 c.get-high.result c.get-high.type_inv ∙ c.get-high.ensures ∙ ap (λ (x : Region). coordinate x.hi c.args.d) c.region-region.ensures.value in
@@ -35,13 +36,10 @@ returns-in-Ok-record_places-clause-led g c = λ kept.
     let part : region_of c.new-taken.result ≡ from_on (reach S c.args.o.0).region c.args.d v = from_on_same (region_of c.new-taken.result) (region_of c.region-region.result) (reach S c.args.o.0).region c.args.d v c.region-region.ensures.value
     (ap (λ (p : Point g.row.K). p.coordinates) c.new-taken.ensures.lo ∙ c.with.ensures.whole) (ap (λ (p : Point g.row.K). p.coordinates) c.new-taken.ensures.hi) in
     lower_led c.args.cs.now S c.args.o.0 c.args.d (region_of c.new-taken.result) v _ (g.R.Recorder.list c.args.rec.now) (g.R.Recorder.list c.record_event.new.rec) (g.R.Recorder.list c.record_places.new.rec)
-    at (omega (arith, ints, at, bottom, c.requires.lacks.wide)) part c.requires.small c.requires.lacks (c.in-Ok.ensures.added kept) (c.in-Ok-record_places.ensures.covers kept)
+    at (omega (arith, ints, at, bottom, c.requires.lacks.wide)) part c.requires.small c.requires.lacks (c.in_ok-record_event.ensures.added kept) (ok kept)) c.record_places.ensures.covers
 
-pub returns-in-Err-clause-grows : goal.returns-in-Err-clause-grows
-returns-in-Err-clause-grows g c = c.in-Err.ensures.grows
+pub returns-in_err-record_event-clause-grows : goal.returns-in_err-record_event-clause-grows
+returns-in_err-record_event-clause-grows g c = growth_failed c.in_err-record_event.ensures.grows _ c.from_residual.ensures.0
 
-pub returns-in-Err-record_places-clause-grows : goal.returns-in-Err-record_places-clause-grows
-returns-in-Err-record_places-clause-grows g c = growth_on c.in-Ok.ensures.grows c.in-Err-record_places.ensures.grows
-
-pub returns-in-Ok-record_places-clause-grows : goal.returns-in-Ok-record_places-clause-grows
-returns-in-Ok-record_places-clause-grows g c = growth_on c.in-Ok.ensures.grows c.in-Ok-record_places.ensures.grows
+pub returns-clause-grows : goal.returns-clause-grows
+returns-clause-grows g c = growth_on c.in_ok-record_event.ensures.grows c.record_places.ensures.grows
