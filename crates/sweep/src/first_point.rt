@@ -74,10 +74,8 @@ pub fn sweep<const K: usize, I: Indexical<K>, R: Recorder, L: Ledger>(
     let _low = region.lo.dimensions();
     let _high = region.hi.dimensions();
     if region.is_empty() {
-        return match rec.add(Event::By(1)) {
-            Err(e) => Err(e),
-            Ok(()) => Ok(None),
-        };
+        rec.add(Event::By(1))?;
+        return Ok(None);
     }
     let first = way.start(region);
     let past = way.one_past(way.end(region));
@@ -85,31 +83,22 @@ pub fn sweep<const K: usize, I: Indexical<K>, R: Recorder, L: Ledger>(
     let mut n = past;
     let mut marks = Marks::new();
     let mut from = 0;
-    match open_chains(way, first, &past, &c, &n, 0, &mut marks, rec) {
-        Err(e) => return Err(e),
-        Ok(()) => {}
-    }
+    open_chains(way, first, &past, &c, &n, 0, &mut marks, rec)?;
     'turns: loop {
         match ask(s, o, place, list, picks, from, &c, region, way, steps) {
             None => {
                 let _coordinates = c.dimensions();
-                match stop(way, region, &past, &c, &n, &marks, rec) {
-                    Err(e) => return Err(e),
-                    Ok(()) => return Ok(Some(c)),
-                }
+                stop(way, region, &past, &c, &n, &marks, rec)?;
+                return Ok(Some(c));
             }
             Some((k, b)) => {
-                match turn(
+                let more = turn(
                     way, region, &past, picks[k], &b, &mut c, &mut n, &mut marks, rec,
-                ) {
-                    Err(e) => return Err(e),
-                    Ok(more) => {
-                        if !more {
-                            return Ok(None);
-                        }
-                        from = k;
-                    }
+                )?;
+                if !more {
+                    return Ok(None);
                 }
+                from = k;
             }
         }
     }
