@@ -45,6 +45,7 @@ pub trait Propagate<const K: usize> {
         ensures conditions { conditions self.new ≡ conditions self.old }
         ensures count { objects self.new ≡ objects self.old }
         ensures record { IfOk result (λ a. R.keeps ≡ true
-            → Records (conditions self.old) t.old.state a t.new.state (R.list rec.old) (R.list rec.new)) }
+            → Records (conditions self.old) t.old.state a t.new.state
+            (R.list rec.old) (R.list rec.new)) }
         ensures grows { Grows R.keeps R.list R.refusals rec.old rec.new result };
 }
