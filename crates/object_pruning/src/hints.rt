@@ -49,7 +49,8 @@ fn is_unrefuted<const K: usize, I: Indexical<K>>(
     requires fits { AllFit (map I.cond list.now) s.now }
     requires object { o.0 < length s.now }
     requires picks { ArePicks (length list.now) picks.now }
-    ensures { IsTrue result ↔ NoneRefuted (picked (map I.cond list.now) picks.now) (placed s.now o.0 q.now) }
+    ensures { IsTrue result
+        ↔ NoneRefuted (picked (map I.cond list.now) picks.now) (placed s.now o.0 q.now) }
 {
     for k in 0..picks.len() {
         if !is_pick_possible(s, o, q, list, picks, k) {
@@ -71,7 +72,8 @@ fn can_be<const K: usize, I: Indexical<K>>(
     requires fits { AllFit (map I.cond list.now) s.now }
     requires object { o.0 < length s.now }
     requires picks { ArePicks (length list.now) picks.now }
-    ensures { IsTrue result → CanBe (picked (map I.cond list.now) picks.now) s.now o.0 q.now.place q.now.point.coordinates }
+    ensures { IsTrue result → CanBe (picked (map I.cond list.now) picks.now) s.now o.0
+        q.now.place q.now.point.coordinates }
 {
     is_there(s, o, q) && is_unrefuted(s, o, q, list, picks)
 }
@@ -115,7 +117,8 @@ fn hint_of_end<const K: usize, I: Indexical<K>>(
     requires object { o.0 < length s.now }
     requires dimension { d < K }
     requires picks { ArePicks (length list.now) picks.now }
-    ensures { IfSome result (λ q. IsEndPoint (picked (map I.cond list.now) picks.now) s.now o.0 d up q) }
+    ensures { IfSome result (λ q.
+        IsEndPoint (picked (map I.cond list.now) picks.now) s.now o.0 d up q) }
 {
     let q = kept_in(hints, end_slot(d, up))?;
     let there = end_of(s, o, d, up);
@@ -142,7 +145,8 @@ pub fn knows_place<const K: usize, I: Indexical<K>>(
     requires object { o.0 < length s.now }
     requires picks { ArePicks (length list.now) picks.now }
     requires kept { AllSupport (picked (map I.cond list.now) picks.now) s.now o.0 kept.old }
-    ensures point { IsTrue result → (p : List ℤ) × CanBe (picked (map I.cond list.now) picks.now) s.now o.0 place p }
+    ensures point { IsTrue result → (p : List ℤ)
+        × CanBe (picked (map I.cond list.now) picks.now) s.now o.0 place p }
     ensures kept { AllSupport (picked (map I.cond list.now) picks.now) s.now o.0 kept.new }
 {
     if place_stands(s, o, place, kept) {
@@ -174,7 +178,8 @@ pub fn knows_end<const K: usize, I: Indexical<K>>(
     requires dimension { d < K }
     requires picks { ArePicks (length list.now) picks.now }
     requires kept { AllSupport (picked (map I.cond list.now) picks.now) s.now o.0 kept.old }
-    ensures tight { IsTrue result → IsTightEnd (picked (map I.cond list.now) picks.now) s.now o.0 d up }
+    ensures tight { IsTrue result
+        → IsTightEnd (picked (map I.cond list.now) picks.now) s.now o.0 d up }
     ensures kept { AllSupport (picked (map I.cond list.now) picks.now) s.now o.0 kept.new }
 {
     if end_stands(s, o, d, up, kept) {

@@ -1,6 +1,6 @@
 //! Supports of an object that are kept.
 
-ghost use Rattle.std.specs.Prelude.{◌≡◌, ℕ, ◌+◌, ◌*◌, ◌<◌, ◌≤◌, List, ℤ, length, map, slice_index_or, slice_set, true, IfSome, IsTrue};
+ghost use Rattle.std.specs.Prelude.{◌≡◌, ℕ, ◌+◌, ◌-◌, ◌*◌, ◌<◌, ◌≤◌, List, ℤ, length, map, slice_index_or, slice_set, true, if◌then◌else◌, IfSome, IsTrue};
 ghost use Rattle.geo_base.specs.Boxes.{coordinate};
 ghost use Rattle.geo_conditions.specs.declared.cond.Cond.{Cond};
 ghost use Rattle.geo_conditions.specs.Conditions.{possible, FitsIn};
@@ -32,13 +32,16 @@ pub fn slots<const K: usize>() -> usize
 }
 
 /// The slot of a place.
-pub fn place_slot(place: u8) -> usize {
+pub fn place_slot(place: u8) -> usize
+    ensures { result ≡ place - 1 }
+{
     usize::from(place).saturating_sub(1)
 }
 
 /// The slot of an end of an interval: of the low end, where it is upwards.
 pub fn end_slot(d: usize, up: bool) -> usize
     requires { d < MAX_DIMS }
+    ensures { result ≡ 16 + 2 * d + (if up then 0 else 1) }
 {
     if up { 16 + 2 * d } else { 17 + 2 * d }
 }
@@ -78,9 +81,11 @@ impl<'a, const K: usize, I: Indexical<K> + 'a> Counted<NoRecord, bool>
     for PlacedQuestion<'a, K, I> {
     ghost use Rattle.geo_base.specs.declared.TheConstants.{MAX_DIMS};
 
-    ghost ready = { λ a. (0 < K) × (K ≤ MAX_DIMS) × FitsIn (I.cond a.x.now) a.s.now × (a.o.0 < length a.s.now) };
+    ghost ready = { λ a. (0 < K) × (K ≤ MAX_DIMS)
+        × FitsIn (I.cond a.x.now) a.s.now × (a.o.0 < length a.s.now) };
 
-    ghost right = { λ a old new result. result ≡ possible (I.cond a.x.now) (placed a.s.now a.o.0 a.q.now) };
+    ghost right = { λ a old new result.
+        result ≡ possible (I.cond a.x.now) (placed a.s.now a.o.0 a.q.now) };
 
     fn answer<L: Ledger>(&self, _to: &mut NoRecord, steps: &mut Steps<L>) -> bool {
         let point = self.q.point;

@@ -60,7 +60,8 @@ fn move_end<const K: usize, I: Indexical<K>, R: Recorder>(
     requires picks { ArePicks (length list.now) picks.now }
     requires some { HasSome (picked (map I.cond list.now) picks.now) t.old.state o.0 }
     requires kept { AllSupport (picked (map I.cond list.now) picks.now) t.old.state o.0 kept.old }
-    ensures moves { IfOk result (λ m. MovesEnd (picked (map I.cond list.now) picks.now) o.0 d up t.old.state m t.new.state) }
+    ensures moves { IfOk result (λ m. MovesEnd (picked (map I.cond list.now) picks.now) o.0 d up
+        t.old.state m t.new.state) }
     ensures led { IfOk result (λ m. R.keeps ≡ true
         → IsLed (map I.cond list.now) t.old.state t.new.state (R.list rec.old) (R.list rec.new)) }
     ensures unmoved { OnErr result (t.new.state ≡ t.old.state) }
@@ -100,7 +101,8 @@ pub fn move_ends<const K: usize, I: Indexical<K>, R: Recorder>(
     requires picks { ArePicks (length list.now) picks.now }
     requires some { HasSome (picked (map I.cond list.now) picks.now) t.old.state o.0 }
     requires kept { AllSupport (picked (map I.cond list.now) picks.now) t.old.state o.0 kept.old }
-    ensures moves { IfOk result (λ m. MovesEnds (picked (map I.cond list.now) picks.now) o.0 t.old.state m t.new.state) }
+    ensures moves { IfOk result (λ m. MovesEnds (picked (map I.cond list.now) picks.now) o.0
+        t.old.state m t.new.state) }
     ensures led { IfOk result (λ m. R.keeps ≡ true
         → IsLed (map I.cond list.now) t.old.state t.new.state (R.list rec.old) (R.list rec.new)) }
     ensures alone { SameBut o.0 t.old.state t.new.state × Inside t.new.state t.old.state }

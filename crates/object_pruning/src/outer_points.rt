@@ -65,8 +65,10 @@ fn point_at<const K: usize, I: Indexical<K>, R: Recorder>(
     ensures point { let cs = picked (map I.cond list.now) picks.now in
         IfOk result (λ r. MatchOption r ((p : List ℤ) → CanBe cs s.now o.0 place p → ⊥)
         (λ q. IsFirstAt cs s.now o.0 place way.now.lead way.now.up q)) }
-    ensures listed { IfOk result (λ r. R.keeps ≡ true → (v : ℤ) → IsNotBeyond way.now.lead way.now.up v r
-        → ListsPlace (map I.cond list.now) s.now o.0 way.now.lead way.now.up v place (R.list rec.old) (R.list rec.new)) }
+    ensures listed { IfOk result (λ r. R.keeps ≡ true → (v : ℤ)
+        → IsNotBeyond way.now.lead way.now.up v r
+        → ListsPlace (map I.cond list.now) s.now o.0 way.now.lead way.now.up v place
+        (R.list rec.old) (R.list rec.new)) }
     ensures grows { Grows R.keeps R.list R.refusals rec.old rec.new result }
 {
     if !s.has_shape(o, place) {
@@ -98,9 +100,12 @@ fn outermost<const K: usize, I: Indexical<K>, R: Recorder>(
     requires picks { ArePicks (length list.now) picks.now }
     requires small { IsSmall s.now }
     requires some { HasSome (picked (map I.cond list.now) picks.now) s.now o.0 }
-    ensures point { IfOk result (λ q. IsOutermostPoint (picked (map I.cond list.now) picks.now) s.now o.0 d up q) }
-    ensures listed { IfOk result (λ q. R.keeps ≡ true → coordinate q.point.coordinates d ≢ end up s.now o.0 d
-        → AreListed (map I.cond list.now) s.now o.0 d up (coordinate q.point.coordinates d) (R.list rec.old) (R.list rec.new)) }
+    ensures point { IfOk result (λ q.
+        IsOutermostPoint (picked (map I.cond list.now) picks.now) s.now o.0 d up q) }
+    ensures listed { IfOk result (λ q. R.keeps ≡ true
+        → coordinate q.point.coordinates d ≢ end up s.now o.0 d
+        → AreListed (map I.cond list.now) s.now o.0 d up (coordinate q.point.coordinates d)
+        (R.list rec.old) (R.list rec.new)) }
     ensures grows { Grows R.keeps R.list R.refusals rec.old rec.new result }
 {
     let way = Way::new(d, up);
@@ -150,11 +155,16 @@ pub fn sought_end<const K: usize, I: Indexical<K>, R: Recorder>(
     requires picks { ArePicks (length list.now) picks.now }
     requires small { IsSmall s.now }
     requires some { HasSome (picked (map I.cond list.now) picks.now) s.now o.0 }
-    ensures point { IfOk result (λ q. IsOutermostPoint (picked (map I.cond list.now) picks.now) s.now o.0 d up q) }
-    ensures stands { IfOk result (λ q. R.keeps ≡ true → coordinate q.point.coordinates d ≡ end up s.now o.0 d
+    ensures point { IfOk result (λ q.
+        IsOutermostPoint (picked (map I.cond list.now) picks.now) s.now o.0 d up q) }
+    ensures stands { IfOk result (λ q. R.keeps ≡ true
+        → coordinate q.point.coordinates d ≡ end up s.now o.0 d
         → R.list rec.new ≡ R.list rec.old) }
-    ensures led { IfOk result (λ q. R.keeps ≡ true → coordinate q.point.coordinates d ≢ end up s.now o.0 d
-        → IsLed (map I.cond list.now) s.now (with_end s.now o.0 d up (coordinate q.point.coordinates d)) (R.list rec.old) (R.list rec.new)) }
+    ensures led { IfOk result (λ q. R.keeps ≡ true
+        → coordinate q.point.coordinates d ≢ end up s.now o.0 d
+        → IsLed (map I.cond list.now) s.now
+        (with_end s.now o.0 d up (coordinate q.point.coordinates d))
+        (R.list rec.old) (R.list rec.new)) }
     ensures grows { Grows R.keeps R.list R.refusals rec.old rec.new result }
 {
     let _objects = s.objects();

@@ -44,7 +44,8 @@ fn sought_point<const K: usize, I: Indexical<K>, R: Recorder>(
         (λ p. CanBe cs s.now o.0 place p.coordinates)) }
     ensures led { let cs = map I.cond list.now in
         IfOk result (λ r. R.keeps ≡ true → MatchOption r
-        (IsLed cs s.now (slice_set s.now o.0 (without (reach s.now o.0) place)) (R.list rec.old) (R.list rec.new))
+        (IsLed cs s.now (slice_set s.now o.0 (without (reach s.now o.0) place))
+        (R.list rec.old) (R.list rec.new))
         (λ p. R.list rec.new ≡ R.list rec.old)) }
     ensures grows { Grows R.keeps R.list R.refusals rec.old rec.new result }
 {
@@ -85,7 +86,8 @@ fn has_point<const K: usize, I: Indexical<K>, R: Recorder>(
         (HasNoPoint cs s.now o.0 place (reach s.now o.0).region)) }
     ensures led { let cs = map I.cond list.now in
         IfOk result (λ b. R.keeps ≡ true → MatchBool b (R.list rec.new ≡ R.list rec.old)
-        (IsLed cs s.now (slice_set s.now o.0 (without (reach s.now o.0) place)) (R.list rec.old) (R.list rec.new))) }
+        (IsLed cs s.now (slice_set s.now o.0 (without (reach s.now o.0) place))
+        (R.list rec.old) (R.list rec.new))) }
     ensures kept { AllSupport (picked (map I.cond list.now) picks.now) s.now o.0 kept.new }
     ensures grows { Grows R.keeps R.list R.refusals rec.old rec.new result }
 {
@@ -123,7 +125,8 @@ pub fn drop_places<const K: usize, I: Indexical<K>, R: Recorder>(
     requires object { o.0 < length t.old.state }
     requires picks { ArePicks (length list.now) picks.now }
     requires kept { AllSupport (picked (map I.cond list.now) picks.now) t.old.state o.0 kept.old }
-    ensures drops { IfOk result (λ a. DropsPlaces (picked (map I.cond list.now) picks.now) o.0 t.old.state a.some a.dropped t.new.state) }
+    ensures drops { IfOk result (λ a. DropsPlaces (picked (map I.cond list.now) picks.now) o.0
+        t.old.state a.some a.dropped t.new.state) }
     ensures led { IfOk result (λ a. R.keeps ≡ true
         → IsLed (map I.cond list.now) t.old.state t.new.state (R.list rec.old) (R.list rec.new)) }
     ensures alone { SameBut o.0 t.old.state t.new.state × Inside t.new.state t.old.state }

@@ -68,13 +68,15 @@ pub fn prune_kept<const K: usize, I: Indexical<K>, R: Recorder>(
     requires object { o.0 < length t.old.state }
     requires picks { ArePicks (length list.now) picks.now }
     requires kept { AllSupport (picked (map I.cond list.now) picks.now) t.old.state o.0 kept.old }
-    ensures pruned { IfOk result (λ a. PrunesTo (picked (map I.cond list.now) picks.now) o.0 t.old.state a t.new.state) }
+    ensures pruned { IfOk result (λ a. PrunesTo (picked (map I.cond list.now) picks.now) o.0
+        t.old.state a t.new.state) }
     ensures alone { SameBut o.0 t.old.state t.new.state × Inside t.new.state t.old.state }
     ensures kept { AllSupport (picked (map I.cond list.now) picks.now) t.new.state o.0 kept.new }
     ensures slots { length kept.new ≡ length kept.old }
     ensures hints { length hints.new ≡ length hints.old }
     ensures levels { (t.new.levels ≡ t.old.levels) × (t.new.restores ≡ t.old.restores) }
-    ensures record { IfOk result (λ a. R.keeps ≡ true → (es : List Event) × (R.list rec.new ≡ R.list rec.old ++ es)
+    ensures record { IfOk result (λ a. R.keeps ≡ true → (es : List Event)
+        × (R.list rec.new ≡ R.list rec.old ++ es)
         × AreEventsOfPruning (map I.cond list.now) t.old.state a t.new.state es) }
     ensures grows { Grows R.keeps R.list R.refusals rec.old rec.new result }
 {
@@ -103,10 +105,12 @@ pub fn prune_object<const K: usize, I: Indexical<K>, R: Recorder>(
     requires fits { AllFit (map I.cond list.now) t.old.state }
     requires object { o.0 < length t.old.state }
     requires picks { ArePicks (length list.now) picks.now }
-    ensures pruned { IfOk result (λ a. PrunesTo (picked (map I.cond list.now) picks.now) o.0 t.old.state a t.new.state) }
+    ensures pruned { IfOk result (λ a. PrunesTo (picked (map I.cond list.now) picks.now) o.0
+        t.old.state a t.new.state) }
     ensures alone { SameBut o.0 t.old.state t.new.state × Inside t.new.state t.old.state }
     ensures levels { (t.new.levels ≡ t.old.levels) × (t.new.restores ≡ t.old.restores) }
-    ensures record { IfOk result (λ a. R.keeps ≡ true → (es : List Event) × (R.list rec.new ≡ R.list rec.old ++ es)
+    ensures record { IfOk result (λ a. R.keeps ≡ true → (es : List Event)
+        × (R.list rec.new ≡ R.list rec.old ++ es)
         × AreEventsOfPruning (map I.cond list.now) t.old.state a t.new.state es) }
     ensures grows { Grows R.keeps R.list R.refusals rec.old rec.new result }
 {

@@ -41,12 +41,18 @@ impl<'a, const K: usize, I: Indexical<K> + 'a, R: Recorder> Counted<
         × IsSmallBox x.region.now };
 
     ghost right = { λ x old new result.
-        IfOk result (λ r. MatchOption r (HasNoPoint (picked (map I.cond x.list.now) x.picks.now) x.s.now x.o.0 x.place (region_of x.region.now))
-        (λ p. IsFirstPoint K x.way.now.lead x.way.now.up (picked (map I.cond x.list.now) x.picks.now) x.s.now x.o.0 x.place (region_of x.region.now) p.coordinates))
+        IfOk result (λ r. MatchOption r
+        (HasNoPoint (picked (map I.cond x.list.now) x.picks.now) x.s.now x.o.0 x.place
+        (region_of x.region.now))
+        (λ p. IsFirstPoint K x.way.now.lead x.way.now.up
+        (picked (map I.cond x.list.now) x.picks.now) x.s.now x.o.0 x.place
+        (region_of x.region.now) p.coordinates))
         × IfOk result (λ r. R.keeps ≡ true → MatchOption r
-        (IsCovered K (map I.cond x.list.now) x.picks.now x.s.now x.o.0 x.place (region_of x.region.now) (R.list old) (R.list new))
+        (IsCovered K (map I.cond x.list.now) x.picks.now x.s.now x.o.0 x.place
+        (region_of x.region.now) (R.list old) (R.list new))
         (λ p. IsCovered K (map I.cond x.list.now) x.picks.now x.s.now x.o.0 x.place
-        (part_before x.way.now.lead x.way.now.up p.coordinates (region_of x.region.now)) (R.list old) (R.list new)))
+        (part_before x.way.now.lead x.way.now.up p.coordinates (region_of x.region.now))
+        (R.list old) (R.list new)))
         × Grows R.keeps R.list R.refusals old new result };
 
     fn answer<L: Ledger>(
