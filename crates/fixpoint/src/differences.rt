@@ -67,7 +67,8 @@ pub fn queue_changed<const K: usize>(
 )
     requires k { (0 < K) × (K ≤ MAX_DIMS) }
     requires fits { AllFit (map (λ x. x.cond) list.now) to.now }
-    requires objects { (length from.now ≡ length to.now) × (length queued.old ≡ length to.now) × (length kept.old ≡ length to.now) }
+    requires objects { (length from.now ≡ length to.now)
+        × (length queued.old ≡ length to.now) × (length kept.old ≡ length to.now) }
     requires links { AreLinks (map (λ x. x.cond) list.now) (length queued.old) links.now }
     requires stand { AllStand (map (λ x. x.cond) list.now) from.now kept.old }
     ensures queued { CatchesUp (map (λ x. x.cond) list.now) from.now to.now queued.old queued.new }

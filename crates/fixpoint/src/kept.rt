@@ -54,7 +54,7 @@ fn retry_named<const K: usize>(
     requires named { NamedBy x.now.cond (length s.now) named.now }
     ensures { Retries x.now.cond s.now u.0 named.now kept.old kept.new }
 {
-    if x.leaves_free(s, u) {
+    if x.surely_leaves_free(s, u) {
         return;
     }
     for o in named {

@@ -64,11 +64,13 @@ fn prune_linked<const K: usize, R: Recorder>(
     requires object { (o < length t.old.state) × (length kept.old ≡ length t.old.state) }
     requires links { AreLinks (map (λ x. x.cond) list.now) (length t.old.state) links.now }
     requires stand { AllStand (map (λ x. x.cond) list.now) t.old.state kept.old }
-    ensures pruned { IfOk result (λ a. Prunes (map (λ x. x.cond) list.now) t.old.state o a t.new.state) }
+    ensures pruned { IfOk result (λ a.
+        Prunes (map (λ x. x.cond) list.now) t.old.state o a t.new.state) }
     ensures alone { SameBut o t.old.state t.new.state × Inside t.new.state t.old.state }
     ensures levels { (t.new.levels ≡ t.old.levels) × (t.new.restores ≡ t.old.restores) }
     ensures stand { StandsAlone (map (λ x. x.cond) list.now) t.new.state o kept.old kept.new }
-    ensures record { IfOk result (λ a. R.keeps ≡ true → RecordsPruning (map (λ x. x.cond) list.now) t.old.state a t.new.state
+    ensures record { IfOk result (λ a. R.keeps ≡ true
+        → RecordsPruning (map (λ x. x.cond) list.now) t.old.state a t.new.state
         (R.list rec.old) (R.list rec.new)) }
     ensures grows { Grows R.keeps R.list R.refusals rec.old rec.new result }
 {
@@ -93,11 +95,13 @@ fn prune_and_retry<const K: usize, R: Recorder>(
     requires object { (o < length t.old.state) × (length kept.old ≡ length t.old.state) }
     requires links { AreLinks (map (λ x. x.cond) list.now) (length t.old.state) links.now }
     requires stand { AllStand (map (λ x. x.cond) list.now) t.old.state kept.old }
-    ensures pruned { IfOk result (λ a. Prunes (map (λ x. x.cond) list.now) t.old.state o a t.new.state) }
+    ensures pruned { IfOk result (λ a.
+        Prunes (map (λ x. x.cond) list.now) t.old.state o a t.new.state) }
     ensures alone { SameBut o t.old.state t.new.state × Inside t.new.state t.old.state }
     ensures levels { (t.new.levels ≡ t.old.levels) × (t.new.restores ≡ t.old.restores) }
     ensures stand { AllStand (map (λ x. x.cond) list.now) t.new.state kept.new }
-    ensures record { IfOk result (λ a. R.keeps ≡ true → RecordsPruning (map (λ x. x.cond) list.now) t.old.state a t.new.state
+    ensures record { IfOk result (λ a. R.keeps ≡ true
+        → RecordsPruning (map (λ x. x.cond) list.now) t.old.state a t.new.state
         (R.list rec.old) (R.list rec.new)) }
     ensures grows { Grows R.keeps R.list R.refusals rec.old rec.new result }
 {
@@ -133,7 +137,8 @@ fn prune_queued<const K: usize, R: Recorder>(
 ) -> Result<Settled, AllocError>
     requires k { (0 < K) × (K ≤ MAX_DIMS) }
     requires fits { AllFit (map (λ x. x.cond) list.now) t.old.state }
-    requires objects { (length queued.old ≡ length t.old.state) × (length kept.old ≡ length t.old.state) }
+    requires objects { (length queued.old ≡ length t.old.state)
+        × (length kept.old ≡ length t.old.state) }
     requires links { AreLinks (map (λ x. x.cond) list.now) (length queued.old) links.now }
     requires bare { BarePossible (map (λ x. x.cond) list.now) t.old.state }
     requires fine { RestFine (map (λ x. x.cond) list.now) t.old.state queued.old }
@@ -142,7 +147,8 @@ fn prune_queued<const K: usize, R: Recorder>(
     ensures levels { (t.new.levels ≡ t.old.levels) × (t.new.restores ≡ t.old.restores) }
     ensures fine { RestFine (map (λ x. x.cond) list.now) t.new.state queued.new }
     ensures stand { AllStand (map (λ x. x.cond) list.now) t.new.state kept.new }
-    ensures record { IfOk result (λ a. R.keeps ≡ true → Records (map (λ x. x.cond) list.now) t.old.state a t.new.state
+    ensures record { IfOk result (λ a. R.keeps ≡ true
+        → Records (map (λ x. x.cond) list.now) t.old.state a t.new.state
         (R.list rec.old) (R.list rec.new)) }
     ensures grows { Grows R.keeps R.list R.refusals rec.old rec.new result }
 {
@@ -179,7 +185,8 @@ fn settle<const K: usize, R: Recorder>(
 ) -> Result<Settled, AllocError>
     requires k { (0 < K) × (K ≤ MAX_DIMS) }
     requires fits { AllFit (map (λ x. x.cond) list.now) t.old.state }
-    requires objects { (length queued.old ≡ length t.old.state) × (length last.old ≡ length t.old.state) × (length kept.old ≡ length t.old.state) }
+    requires objects { (length queued.old ≡ length t.old.state)
+        × (length last.old ≡ length t.old.state) × (length kept.old ≡ length t.old.state) }
     requires links { AreLinks (map (λ x. x.cond) list.now) (length queued.old) links.now }
     requires fine { RestFine (map (λ x. x.cond) list.now) last.old queued.old }
     requires stand { AllStand (map (λ x. x.cond) list.now) last.old kept.old }
@@ -188,7 +195,8 @@ fn settle<const K: usize, R: Recorder>(
     ensures objects { length last.new ≡ length last.old }
     ensures fine { RestFine (map (λ x. x.cond) list.now) last.new queued.new }
     ensures stand { AllStand (map (λ x. x.cond) list.now) last.new kept.new }
-    ensures record { IfOk result (λ a. R.keeps ≡ true → Records (map (λ x. x.cond) list.now) t.old.state a t.new.state
+    ensures record { IfOk result (λ a. R.keeps ≡ true
+        → Records (map (λ x. x.cond) list.now) t.old.state a t.new.state
         (R.list rec.old) (R.list rec.new)) }
     ensures grows { Grows R.keeps R.list R.refusals rec.old rec.new result }
 {
@@ -229,7 +237,8 @@ pub struct Fixpoint<const K: usize> {
     hints: Vec<Option<Placed<K>>>,
     ghost dims: { (0 < K) × (K ≤ MAX_DIMS) },
     ghost linked: { AreLinks (map (λ x. x.cond) list.items) (length queued.items) links },
-    ghost objects: { (length last ≡ length queued.items) × (length kept.items ≡ length queued.items) },
+    ghost objects: { (length last ≡ length queued.items)
+        × (length kept.items ≡ length queued.items) },
     ghost fine: { ∥ RestFine (map (λ x. x.cond) list.items) last queued.items ∥₁ },
     ghost stand: { AllStand (map (λ x. x.cond) list.items) last kept.items },
 }

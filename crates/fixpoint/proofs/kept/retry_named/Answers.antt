@@ -37,5 +37,5 @@ loop-o-preserved g c =
       | else-o-u w ↦ subst (λ (vs : Slots g.row.K). Retries x S u (take i list ++ o ∷ []) old vs) (sym w.kept-is) (retries_skip x S u (take i list) o old xs w.if-o-u.false c.loop-o.invariant)
     ])
 
-pub returns-then-leaves_free : goal.returns-then-leaves_free
-returns-then-leaves_free g c = retries_free c.args.x.now.cond c.args.s.now c.args.u.0 c.args.named.now c.args.kept.now c.requires.named (c.leaves_free.ensures c.if-leaves_free.true)
+pub returns-then-surely_leaves_free : goal.returns-then-surely_leaves_free
+returns-then-surely_leaves_free g c = retries_free c.args.x.now.cond c.args.s.now c.args.u.0 c.args.named.now c.args.kept.now c.requires.named (c.surely_leaves_free.ensures c.if-surely_leaves_free.true)
