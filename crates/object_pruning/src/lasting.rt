@@ -50,7 +50,8 @@ pub fn lasting_point<const K: usize, I: Indexical<K>>(
     requires dimension { d < K }
     requires picks { ArePicks (length list.now) picks.now }
     requires small { IsSmall s.now }
-    requires point { IsOutermostPoint (picked (map I.cond list.now) picks.now) s.now o.0 d up q.now }
+    requires point { IsOutermostPoint (picked (map I.cond list.now) picks.now) s.now o.0 d up
+        q.now }
     ensures { NoneRefuted (picked (map I.cond list.now) picks.now) (placed s.now o.0 result) }
 {
     if !up {

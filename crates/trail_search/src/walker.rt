@@ -119,7 +119,8 @@ impl<const K: usize> Walker<K> {
         requires objects { length self.old.first ≡ P.objects prop.old }
         requires fits { All (λ c. FitsIn c self.old.first) (P.conditions prop.old) }
         ensures settled { SettledAs (P.conditions prop.old) self.old result self.new }
-        ensures state { SettlesOr (P.conditions prop.old) self.old.trail.state result self.new.trail.state }
+        ensures state { SettlesOr (P.conditions prop.old) self.old.trail.state result
+            self.new.trail.state }
         ensures well { IsWell K self.new }
         ensures same { SameWalk self.old self.new }
         ensures depth { depth self.new ≡ depth self.old }
