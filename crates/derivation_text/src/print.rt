@@ -2,7 +2,7 @@
 
 ghost use Rattle.std.specs.Prelude.{◌≡◌, ◌+◌, ◌≤◌, ◌<◌, ℤ, pos, codes, length};
 ghost use Rattle.derivation_text.specs.Lines.{object_name as object_name_of, shape_name as shape_name_of, coordinate_line, shape_line, cut_line, number_line, gone_line, cover_line, line_of, lines_of, listed, derivation_text, HasShape, IsNamed, AreNamed};
-ghost use Rattle.derivation_text.specs.Prints.{Prints};
+ghost use Rattle.geo_chan.specs.Written.{Prints};
 
 use derivation::{Event, Log};
 use geo_chan::{Piece, PutFault, Sink, write_all_bytes, write_pieces};

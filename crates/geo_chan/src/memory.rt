@@ -25,7 +25,8 @@ impl MemSource {
         requires { 1 ≤ piece }
         ensures left { ⟦<MemSource as Source>⟧.left result ≡ Some bytes.items }
         ensures faults { ⟦<MemSource as Source>⟧.faults result ≡ 0 }
-        ensures plan { source_plan result ≡ record { piece = piece; fails = fails.items; calls = 0; faults = 0 } }
+        ensures plan { source_plan result
+            ≡ record { piece = piece; fails = fails.items; calls = 0; faults = 0 } }
     {
         MemSource {
             bytes,
@@ -62,12 +63,16 @@ impl Source for MemSource {
 
     fn take(&mut self, into: &mut [u8]) -> Result<usize, Failed>
         ensures bound { ReadsAtMost result into.new }
-        ensures bytes { ReadConsumes (⟦<MemSource as Source>⟧.left self.old) (⟦<MemSource as Source>⟧.left self.new) result into.new }
-        ensures cause { TakeCause (⟦<MemSource as Source>⟧.faults self.old) (⟦<MemSource as Source>⟧.faults self.new) result }
+        ensures bytes { ReadConsumes (⟦<MemSource as Source>⟧.left self.old)
+            (⟦<MemSource as Source>⟧.left self.new) result into.new }
+        ensures cause { TakeCause (⟦<MemSource as Source>⟧.faults self.old)
+            (⟦<MemSource as Source>⟧.faults self.new) result }
 
         // Exactly the chosen calls fail; any other gives as many bytes as the piece, the buffer and the rest allow.
         ensures fails { IsErr result ↔ FailsNext (source_plan self.old) }
-        ensures amount { IfOk result (λ n. n ≡ min (min (length into.old) (length self.old.bytes.items - self.old.at)) (source_plan self.old).piece) }
+        ensures amount { IfOk result (λ n. n ≡ min
+            (min (length into.old) (length self.old.bytes.items - self.old.at))
+            (source_plan self.old).piece) }
         ensures plan { source_plan self.new ≡ after_call (is_err result) (source_plan self.old) }
     {
         if self.calls < u64::MAX {
@@ -102,7 +107,8 @@ impl MemSink {
         requires { 1 ≤ piece }
         ensures written { ⟦<MemSink as Sink>⟧.written result ≡ Some [] }
         ensures faults { ⟦<MemSink as Sink>⟧.faults result ≡ 0 }
-        ensures plan { sink_plan result ≡ record { piece = piece; fails = fails.items; calls = 0; faults = 0 } }
+        ensures plan { sink_plan result
+            ≡ record { piece = piece; fails = fails.items; calls = 0; faults = 0 } }
     {
         MemSink {
             bytes: Vec::new(alloc),
@@ -137,9 +143,12 @@ impl Sink for MemSink {
     fn put(&mut self, piece: &[u8]) -> Result<usize, PutFault>
         ensures bound { WritesAtMost result piece.now }
         ensures progress { IfOk result (λ n. 0 < length piece.now → 0 < n) }
-        ensures bytes { WriteAppends (⟦<MemSink as Sink>⟧.written self.old) (⟦<MemSink as Sink>⟧.written self.new) result piece.now }
-        ensures cause { PutCause (⟦<MemSink as Sink>⟧.faults self.old) (⟦<MemSink as Sink>⟧.faults self.new) result }
-        ensures quiet { StaysQuiet (⟦<MemSink as Sink>⟧.quiet self.old) (⟦<MemSink as Sink>⟧.quiet self.new) result }
+        ensures bytes { WriteAppends (⟦<MemSink as Sink>⟧.written self.old)
+            (⟦<MemSink as Sink>⟧.written self.new) result piece.now }
+        ensures cause { PutCause (⟦<MemSink as Sink>⟧.faults self.old)
+            (⟦<MemSink as Sink>⟧.faults self.new) result }
+        ensures quiet { StaysQuiet (⟦<MemSink as Sink>⟧.quiet self.old)
+            (⟦<MemSink as Sink>⟧.quiet self.new) result }
 
         // Exactly the chosen calls fail; any other takes as many bytes as the piece allows, or wants memory.
         ensures fails { IsErrOf result PutFault.Failed ↔ FailsNext (sink_plan self.old) }

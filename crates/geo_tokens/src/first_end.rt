@@ -27,8 +27,10 @@ fn passed_len(bytes: &[u8]) -> Option<usize>
 /// The same, inside the bytes.
 fn next_passed(bytes: &[u8]) -> Option<usize>
     requires { 0 < length bytes.now }
-    ensures passed { MatchOption result (first_word bytes.now ≡ codes "end") (λ n. IsPassed n bytes.now) }
-    ensures inside { MatchOption result (3 ≤ length bytes.now) (λ n. (0 < n) × (n ≤ length bytes.now)) }
+    ensures passed { MatchOption result (first_word bytes.now ≡ codes "end")
+        (λ n. IsPassed n bytes.now) }
+    ensures inside { MatchOption result (3 ≤ length bytes.now)
+        (λ n. (0 < n) × (n ≤ length bytes.now)) }
 {
     passed_len(bytes)
 }

@@ -110,7 +110,8 @@ pub fn line_len(bytes: &[u8]) -> usize
 
 /// The number that the digits write, where it is small enough.
 fn value_of(digits: &[u8]) -> Option<u32>
-    ensures { MatchOption result (1000000000 < value_of digits.now) (λ v. (v ≡ value_of digits.now) × (v ≤ 1000000000)) }
+    ensures { MatchOption result (1000000000 < value_of digits.now)
+        (λ v. (v ≡ value_of digits.now) × (v ≤ 1000000000)) }
 {
     let mut value: u64 = 0;
     for digit in digits {
@@ -125,7 +126,8 @@ fn value_of(digits: &[u8]) -> Option<u32>
 
 /// The longest symbol at the front.
 fn symbol_at(bytes: &[u8]) -> Option<Sym>
-    ensures { MatchOption result ((s : Sym) → Fits s bytes.now → ⊥) (λ s. IsSymbol s (length (symbol_bytes s)) bytes.now) }
+    ensures { MatchOption result ((s : Sym) → Fits s bytes.now → ⊥)
+        (λ s. IsSymbol s (length (symbol_bytes s)) bytes.now) }
 {
     match bytes {
         [] => None,

@@ -84,7 +84,8 @@ const OF_SEVEN: [Keyword; 3] = [Keyword::Implies, Keyword::AtLeast, Keyword::Obj
 
 /// The reserved word that is spelled so.
 pub fn reserved_word(bytes: &[u8]) -> Option<Keyword>
-    ensures { MatchOption result ((w : Keyword) → bytes.now ≡ word_bytes w → ⊥) (λ w. bytes.now ≡ word_bytes w) }
+    ensures { MatchOption result ((w : Keyword) → bytes.now ≡ word_bytes w → ⊥)
+        (λ w. bytes.now ≡ word_bytes w) }
 {
     match bytes.len() {
         2 => word_among(&OF_TWO, bytes),

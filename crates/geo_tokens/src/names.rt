@@ -53,9 +53,11 @@ impl Model for Names {
 
     ghost Value = { NameTable };
 
-    ghost view = { λ n. record { dims = n.dims; shapes = n.shapes.items; objects = n.objects.items } };
+    ghost view = { λ n.
+        record { dims = n.dims; shapes = n.shapes.items; objects = n.objects.items } };
 
-    ghost invariant = { λ n. IsNameTable (record { dims = n.dims; shapes = n.shapes.items; objects = n.objects.items }) };
+    ghost invariant = { λ n. IsNameTable
+        (record { dims = n.dims; shapes = n.shapes.items; objects = n.objects.items }) };
 }
 
 impl Names {
@@ -100,7 +102,8 @@ impl Names {
     pub fn add_shape(&mut self, name: &[u8]) -> Result<(), AllocError>
         requires text { IsNameText name.now }
         requires new_name { Contains self.old.shapes name.now → ⊥ }
-        ensures ok { OnOk result (self.new ≡ record self.old { shapes = self.old.shapes ++ name.now ∷ [] }) }
+        ensures ok { OnOk result
+            (self.new ≡ record self.old { shapes = self.old.shapes ++ name.now ∷ [] }) }
         ensures err { OnErr result (self.new ≡ self.old) }
     {
         let name = Name::new(self.alloc, name)?;
@@ -114,7 +117,8 @@ impl Names {
         requires new_name { Contains (object_names self.old) name.now → ⊥ }
         requires room { length self.old.objects < 200 }
         requires list { IsShapeList (length self.old.shapes) shapes.now }
-        ensures ok { OnOk result (self.new ≡ record self.old { objects = self.old.objects ++ (name.now, shapes.now) ∷ [] }) }
+        ensures ok { OnOk result (self.new
+            ≡ record self.old { objects = self.old.objects ++ (name.now, shapes.now) ∷ [] }) }
         ensures err { OnErr result (self.new ≡ self.old) }
     {
         let name = Name::new(self.alloc, name)?;

@@ -35,7 +35,6 @@ use Rattle.problem_data.specs.Whole.{IsWhole}
 use Rattle.problem_data.specs.Accepted.{IsSaid}
 use Rattle.problem_data.specs.Cells.{range_at, IsSpotOf, IsTuple}
 use Rattle.problem_data.specs.WellFormed.{IsRange, IsObject, IsWellFormed}
-use Rattle.problem_data.proofs.Accepted.{accepted_well_formed}
 use Rattle.problem_text.proofs.Said.{said_table}
 use Rattle.problem_syntax.proofs.WholeText.{is_whole}
 use Rattle.problem_text.proofs.PrintingParts.{IsSmall, IsSome}
@@ -51,10 +50,6 @@ use Rattle.layout_text.proofs.Tuples.{no_line, no_object, spots_length, spot_at}
 use Rattle.layout_text.proofs.TextParts.{all_bytes, tokens_from, parts_are_tokens, parts_stand_whole}
 use Rattle.layout_text.proofs.PrintedParts.{token_parts, token_bytes, token_fits, block_parts, block_bytes, block_fits, CanWriteSpot, CanWriteLine}
 use Rattle.layout_text.proofs.SpelledAgain.{SaysSpot, CanReadLine, GivesTuple, SaysTuple, tuple_again, block_again}
-
--- what some text says is well formed
-pub said_well : (p : ProblemData) → IsSaid p → IsWellFormed p
-said_well p s = accepted_well_formed s.text p s.accepts
 
 -- ---- lists by their items
 

@@ -1,9 +1,8 @@
 ghost use Rattle.std.specs.Prelude.{◌≡◌, ◌+◌, ◌<◌, codes, decimal, length, flat_map, drop};
 ghost use Rattle.geo_base.specs.Boxes.{coordinate};
 ghost use Rattle.geo_base.specs.Tuple.{spot};
-ghost use Rattle.geo_chan.specs.Written.{Writes};
+ghost use Rattle.geo_chan.specs.Written.{Prints};
 ghost use Rattle.problem_data.specs.Cells.{IsShaped};
-ghost use Rattle.problem_data.specs.WellFormed.{IsWellFormed};
 ghost use Rattle.layout_text.specs.Block.{shape_name as shape_name_of, behind, coordinates, head_of, line_of, lines_of, group_of, later_group, token_of, token_line, block_of};
 
 use geo_chan::{Piece, PutFault, Sink, write_all_bytes, write_pieces};
@@ -17,9 +16,9 @@ pub fn print_layout<W: Sink>(
     layout: &Layout,
     sink: &mut W,
 ) -> Result<(), PutFault>
-    requires problem { IsWellFormed problem.now }
     requires layout { IsShaped problem.now layout.now }
-    ensures { Writes (W.written sink.old) (W.written sink.new) (W.faults sink.old) (W.faults sink.new) (W.quiet sink.old) (W.quiet sink.new) result (block_of problem.now layout.now) }
+    ensures { Prints W.written W.faults W.quiet sink.old sink.new result
+        (block_of problem.now layout.now) }
 {
     write_all_bytes(sink, b"layout\n")?;
     write_lines(problem, layout, sink)?;
@@ -33,9 +32,8 @@ pub fn print_token<W: Sink>(
     layout: &Layout,
     sink: &mut W,
 ) -> Result<(), PutFault>
-    requires problem { IsWellFormed problem.now }
     requires layout { IsShaped problem.now layout.now }
-    ensures { Writes (W.written sink.old) (W.written sink.new) (W.faults sink.old) (W.faults sink.new) (W.quiet sink.old) (W.quiet sink.new) result (token_of layout.now) }
+    ensures { Prints W.written W.faults W.quiet sink.old sink.new result (token_of layout.now) }
 {
     write_token(problem, layout, sink)
 }
@@ -45,9 +43,8 @@ fn write_token_line<W: Sink>(
     layout: &Layout,
     sink: &mut W,
 ) -> Result<(), PutFault>
-    requires problem { IsWellFormed problem.now }
     requires layout { IsShaped problem.now layout.now }
-    ensures { Writes (W.written sink.old) (W.written sink.new) (W.faults sink.old) (W.faults sink.new) (W.quiet sink.old) (W.quiet sink.new) result (token_line layout.now) }
+    ensures { Prints W.written W.faults W.quiet sink.old sink.new result (token_line layout.now) }
 {
     write_all_bytes(sink, b"token ")?;
     write_token(problem, layout, sink)?;
@@ -55,10 +52,11 @@ fn write_token_line<W: Sink>(
 }
 
 fn write_lines<W: Sink>(problem: &Problem, layout: &Layout, sink: &mut W) -> Result<(), PutFault>
-    requires problem { IsWellFormed problem.now }
     requires layout { IsShaped problem.now layout.now }
-    ensures { Writes (W.written sink.old) (W.written sink.new) (W.faults sink.old) (W.faults sink.new) (W.quiet sink.old) (W.quiet sink.new) result (lines_of problem.now layout.now) }
+    ensures { Prints W.written W.faults W.quiet sink.old sink.new result
+        (lines_of problem.now layout.now) }
 {
+    problem.is_said();
     for o in 0..layout.len() {
         write_line(problem, layout, ObjId(o as u16), sink)?;
     }
@@ -71,10 +69,10 @@ fn write_line<W: Sink>(
     o: ObjId,
     sink: &mut W,
 ) -> Result<(), PutFault>
-    requires problem { IsWellFormed problem.now }
     requires layout { IsShaped problem.now layout.now }
     requires object { o.0 < length problem.now.objects }
-    ensures { Writes (W.written sink.old) (W.written sink.new) (W.faults sink.old) (W.faults sink.new) (W.quiet sink.old) (W.quiet sink.new) result (line_of problem.now layout.now o.0) }
+    ensures { Prints W.written W.faults W.quiet sink.old sink.new result
+        (line_of problem.now layout.now o.0) }
 {
     write_head(problem, layout, o, sink)?;
     write_coordinates(problem.dims(), layout, o, b" ", sink)?;
@@ -87,10 +85,10 @@ fn write_head<W: Sink>(
     o: ObjId,
     sink: &mut W,
 ) -> Result<(), PutFault>
-    requires problem { IsWellFormed problem.now }
     requires layout { IsShaped problem.now layout.now }
     requires object { o.0 < length problem.now.objects }
-    ensures { Writes (W.written sink.old) (W.written sink.new) (W.faults sink.old) (W.faults sink.new) (W.quiet sink.old) (W.quiet sink.new) result (head_of problem.now layout.now o.0) }
+    ensures { Prints W.written W.faults W.quiet sink.old sink.new result
+        (head_of problem.now layout.now o.0) }
 {
     let object = &problem.objects()[o.0 as usize];
     let pieces = [
@@ -104,11 +102,11 @@ fn write_head<W: Sink>(
 
 // The name of the shape that the layout gives the object.
 fn shape_name<'a>(problem: &'a Problem, layout: &Layout, o: ObjId) -> &'a [u8]
-    requires problem { IsWellFormed problem.now }
     requires layout { IsShaped problem.now layout.now }
     requires object { o.0 < length problem.now.objects }
     ensures { result.now ≡ shape_name_of problem.now layout.now o.0 }
 {
+    problem.is_said();
     let object = &problem.objects()[o.0 as usize];
     let number = object.shapes()[layout.place(o) as usize - 1];
     problem.shapes()[number as usize].name().as_bytes()
@@ -124,7 +122,8 @@ fn write_coordinates<W: Sink>(
 ) -> Result<(), PutFault>
     requires object { o.0 < length layout.now }
     requires dimensions { length (spot layout.now o.0).origin ≡ dims }
-    ensures { Writes (W.written sink.old) (W.written sink.new) (W.faults sink.old) (W.faults sink.new) (W.quiet sink.old) (W.quiet sink.new) result (coordinates mark.now (spot layout.now o.0).origin) }
+    ensures { Prints W.written W.faults W.quiet sink.old sink.new result
+        (coordinates mark.now (spot layout.now o.0).origin) }
 {
     for d in 0..dims {
         write_coordinate(layout, o, d, mark, sink)?;
@@ -142,7 +141,8 @@ fn write_coordinate<W: Sink>(
 ) -> Result<(), PutFault>
     requires object { o.0 < length layout.now }
     requires dimension { d < length (spot layout.now o.0).origin }
-    ensures { Writes (W.written sink.old) (W.written sink.new) (W.faults sink.old) (W.faults sink.new) (W.quiet sink.old) (W.quiet sink.new) result (behind mark.now (coordinate (spot layout.now o.0).origin d)) }
+    ensures { Prints W.written W.faults W.quiet sink.old sink.new result
+        (behind mark.now (coordinate (spot layout.now o.0).origin d)) }
 {
     let pieces = [
         Piece::Bytes(mark),
@@ -152,9 +152,8 @@ fn write_coordinate<W: Sink>(
 }
 
 fn write_token<W: Sink>(problem: &Problem, layout: &Layout, sink: &mut W) -> Result<(), PutFault>
-    requires problem { IsWellFormed problem.now }
     requires layout { IsShaped problem.now layout.now }
-    ensures { Writes (W.written sink.old) (W.written sink.new) (W.faults sink.old) (W.faults sink.new) (W.quiet sink.old) (W.quiet sink.new) result (token_of layout.now) }
+    ensures { Prints W.written W.faults W.quiet sink.old sink.new result (token_of layout.now) }
 {
     if layout.len() == 0 {
         return write_all_bytes(sink, b"-");
@@ -170,11 +169,12 @@ fn write_later_groups<W: Sink>(
     count: usize,
     sink: &mut W,
 ) -> Result<(), PutFault>
-    requires problem { IsWellFormed problem.now }
     requires layout { IsShaped problem.now layout.now }
     requires count { count + 1 ≡ length layout.now }
-    ensures { Writes (W.written sink.old) (W.written sink.new) (W.faults sink.old) (W.faults sink.new) (W.quiet sink.old) (W.quiet sink.new) result (flat_map later_group (drop 1 layout.now)) }
+    ensures { Prints W.written W.faults W.quiet sink.old sink.new result
+        (flat_map later_group (drop 1 layout.now)) }
 {
+    problem.is_said();
     for k in 0..count {
         write_later_group(problem.dims(), layout, ObjId(k as u16 + 1), sink)?;
     }
@@ -189,7 +189,8 @@ fn write_later_group<W: Sink>(
 ) -> Result<(), PutFault>
     requires object { o.0 < length layout.now }
     requires dimensions { length (spot layout.now o.0).origin ≡ dims }
-    ensures { Writes (W.written sink.old) (W.written sink.new) (W.faults sink.old) (W.faults sink.new) (W.quiet sink.old) (W.quiet sink.new) result (later_group (spot layout.now o.0)) }
+    ensures { Prints W.written W.faults W.quiet sink.old sink.new result
+        (later_group (spot layout.now o.0)) }
 {
     write_all_bytes(sink, b"/")?;
     write_group(dims, layout, o, sink)
@@ -203,7 +204,8 @@ fn write_group<W: Sink>(
 ) -> Result<(), PutFault>
     requires object { o.0 < length layout.now }
     requires dimensions { length (spot layout.now o.0).origin ≡ dims }
-    ensures { Writes (W.written sink.old) (W.written sink.new) (W.faults sink.old) (W.faults sink.new) (W.quiet sink.old) (W.quiet sink.new) result (group_of (spot layout.now o.0)) }
+    ensures { Prints W.written W.faults W.quiet sink.old sink.new result
+        (group_of (spot layout.now o.0)) }
 {
     write_place(layout, o, sink)?;
     write_coordinates(dims, layout, o, b",", sink)
@@ -211,7 +213,8 @@ fn write_group<W: Sink>(
 
 fn write_place<W: Sink>(layout: &Layout, o: ObjId, sink: &mut W) -> Result<(), PutFault>
     requires { o.0 < length layout.now }
-    ensures { Writes (W.written sink.old) (W.written sink.new) (W.faults sink.old) (W.faults sink.new) (W.quiet sink.old) (W.quiet sink.new) result (decimal (spot layout.now o.0).place) }
+    ensures { Prints W.written W.faults W.quiet sink.old sink.new result
+        (decimal (spot layout.now o.0).place) }
 {
     let pieces = [Piece::Number(layout.place(o) as i128)];
     write_pieces(sink, &pieces)

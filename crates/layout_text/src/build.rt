@@ -1,7 +1,7 @@
 //! The tuple that lines give.
 
 ghost use Rattle.std.specs.Prelude.{◌≡◌, ◌≤◌, ◌++◌, ◌∷◌, [], length, map, IfOk, OnOk};
-ghost use Rattle.problem_data.specs.WellFormed.{IsWellFormed, IsObject};
+ghost use Rattle.problem_data.specs.WellFormed.{IsObject};
 ghost use Rattle.layout_text.specs.View.{line_view};
 ghost use Rattle.layout_text.specs.Faults.{spot_of, tuple_of};
 
@@ -21,7 +21,8 @@ fn put(
     layout: &mut Layout,
 ) -> Result<(), AllocError>
     requires { IsObject problem.now object.now }
-    ensures { OnOk result (layout.new ≡ layout.old ++ spot_of problem.now object.now (line_view line.now) ∷ []) }
+    ensures { OnOk result (layout.new
+        ≡ layout.old ++ spot_of problem.now object.now (line_view line.now) ∷ []) }
 {
     let place = shape_position(problem, object, &line.shape.name) + 1;
     let origin = values(alloc, line.origin.as_slice())?;
@@ -30,10 +31,10 @@ fn put(
 
 /// The tuple that lines give, of which there are no more than objects.
 pub fn build(alloc: Global, problem: &Problem, lines: &[LineText]) -> Result<Layout, AllocError>
-    requires problem { IsWellFormed problem.now }
     requires lines { length lines.now ≤ length problem.now.objects }
     ensures { IfOk result (λ t. t ≡ tuple_of problem.now (map line_view lines.now)) }
 {
+    problem.is_said();
     let mut layout = Layout::new(alloc);
     for (i, line) in lines.iter().enumerate() {
         let object = &problem.objects()[i];

@@ -2,7 +2,6 @@
 
 ghost use Rattle.std.specs.Prelude.{◌≡◌, map};
 ghost use Rattle.problem_data.specs.Least.{IsLeast};
-ghost use Rattle.problem_data.specs.WellFormed.{IsWellFormed};
 ghost use Rattle.layout_text.specs.View.{line_view, token_view, token_views, layout_view};
 ghost use Rattle.layout_text.specs.Faults.{LinesFault, behind_lines, MissingFault, TokenFault, IsFault};
 
@@ -17,7 +16,6 @@ use problem_data::fault::{Fault, earlier, fault_if};
 use problem_data::problem::Problem;
 
 fn lines_fault(problem: &Problem, lines: &[LineText]) -> Option<Fault>
-    requires { IsWellFormed problem.now }
     ensures { IsLeast (LinesFault problem.now (map line_view lines.now)) result }
 {
     let mut found = None;
@@ -46,16 +44,16 @@ fn missing_fault(problem: &Problem, end: u64, said: &LayoutText) -> Option<Fault
 }
 
 fn token_line_fault(problem: &Problem, lines: &[LineText], line: &TokenText) -> Option<Fault>
-    requires { IsWellFormed problem.now }
-    ensures { IsLeast (TokenFault problem.now (map line_view lines.now) (Some (token_view line.now))) result }
+    ensures { IsLeast (TokenFault problem.now (map line_view lines.now)
+        (Some (token_view line.now))) result }
 {
     let same = same_tuple(problem, lines, line.groups.as_slice());
     fault_if(!same, line.place, FaultWord::Token)
 }
 
 fn token_fault(problem: &Problem, said: &LayoutText) -> Option<Fault>
-    requires { IsWellFormed problem.now }
-    ensures { IsLeast (TokenFault problem.now (layout_view said.now).lines (token_views said.now.token)) result }
+    ensures { IsLeast (TokenFault problem.now (layout_view said.now).lines
+        (token_views said.now.token)) result }
 {
     match &said.token {
         Some(line) => token_line_fault(problem, said.lines.as_slice(), line),
@@ -65,7 +63,6 @@ fn token_fault(problem: &Problem, said: &LayoutText) -> Option<Fault>
 
 /// The first fault of what a text says that ends at `end`.
 pub fn first_fault(problem: &Problem, end: u64, said: &LayoutText) -> Option<Fault>
-    requires { IsWellFormed problem.now }
     ensures { IsLeast (IsFault problem.now end (layout_view said.now)) result }
 {
     let lines = lines_fault(problem, said.lines.as_slice());

@@ -19,7 +19,8 @@ fn name_of_shape(problem: &Problem, shape: u16) -> &Name
 // The position of a name among the names of these shapes, or their number where it is none of them.
 fn position_among(problem: &Problem, shapes: &[u16], name: &Name) -> usize
     requires { All (λ s. s < length problem.now.shapes) shapes.now }
-    ensures value { result ≡ position_or_len (bytes_eq name.now) (map (name_of_shape problem.now) shapes.now) }
+    ensures value { result ≡ position_or_len (bytes_eq name.now)
+        (map (name_of_shape problem.now) shapes.now) }
     ensures within { result ≤ length shapes.now }
 {
     match shapes {
@@ -37,7 +38,8 @@ fn position_among(problem: &Problem, shapes: &[u16], name: &Name) -> usize
 /// The position of a name among the names of the object's shapes, or their number where it is none of them.
 pub fn shape_position(problem: &Problem, object: &ObjectDef, name: &Name) -> usize
     requires { All (λ s. s < length problem.now.shapes) object.now.shapes }
-    ensures value { result ≡ position_or_len (bytes_eq name.now) (shape_names problem.now object.now) }
+    ensures value { result ≡ position_or_len (bytes_eq name.now)
+        (shape_names problem.now object.now) }
     ensures within { result ≤ length object.now.shapes }
 {
     position_among(problem, object.shapes(), name)

@@ -3,7 +3,6 @@
 ghost use Rattle.std.specs.Prelude.{◌≡◌, ◌≤◌, ◌^◌, IfOk, length};
 ghost use Rattle.problem_data.specs.Tuple.{Tuple};
 ghost use Rattle.problem_data.specs.Cells.{IsTuple};
-ghost use Rattle.problem_data.specs.WellFormed.{IsWellFormed};
 ghost use Rattle.layout_text.specs.FirstFault.{most_bytes, AnswersLayout, IsOnlyLayout, IsAnswered};
 ghost use Rattle.layout_text.specs.Block.{block_of};
 
@@ -19,7 +18,6 @@ use std::alloc::Global;
 
 // The tuple that a text spells, or its first fault, with its place in the text.
 fn read_alone(alloc: Global, problem: &Problem, text: &[u8]) -> Result<Layout, TextFault>
-    requires { IsWellFormed problem.now }
     ensures answer { AnswersLayout result problem.now text.now 0 }
     ensures only { IsOnlyLayout result problem.now text.now 0 }
 {
@@ -47,7 +45,8 @@ pub fn read_layout(
     ensures answer { AnswersLayout result problem.now text.now from }
     ensures only { IsOnlyLayout result problem.now text.now from }
     ensures tuple { IfOk result (IsTuple problem.now) }
-    ensures printed { (t : Tuple) → IsTuple problem.now t → text.now ≡ block_of problem.now t → length text.now ≤ most_bytes → IsAnswered result t }
+    ensures printed { (t : Tuple) → IsTuple problem.now t → text.now ≡ block_of problem.now t
+        → length text.now ≤ most_bytes → IsAnswered result t }
 {
     problem.is_said();
     match read_alone(alloc, problem, text) {

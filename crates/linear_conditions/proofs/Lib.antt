@@ -13,7 +13,6 @@ pub mod CondViews
 pub mod Bounds
 pub mod FoldSteps
 pub mod CounterSteps
-pub mod FieldSteps
 pub mod FormSteps
 pub mod CompareSteps
 pub mod Sizes

@@ -47,7 +47,8 @@ impl Model for Counter {
 
     ghost view = { λ k. record { visits = k.visits; leaves = k.leaves; terms = k.terms } };
 
-    ghost invariant = { λ k. are_within (record { visits = k.visits; leaves = k.leaves; terms = k.terms }) ≡ true };
+    ghost invariant = { λ k. are_within
+        (record { visits = k.visits; leaves = k.leaves; terms = k.terms }) ≡ true };
 }
 
 impl Counter {

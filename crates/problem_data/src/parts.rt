@@ -39,7 +39,8 @@ impl Parts {
     }
 
     fn add(&mut self, statement: Statement) -> Result<(), AllocError>
-        ensures { OnOk result (parts_view self.new ≡ add_statement (parts_view self.old) (statement_view statement)) }
+        ensures { OnOk result (parts_view self.new
+            ≡ add_statement (parts_view self.old) (statement_view statement)) }
     {
         match statement {
             Statement::Shape(shape) => self.shapes.push(shape)?,

@@ -4,6 +4,7 @@ ghost use Rattle.std.specs.Prelude.{◌≡◌, map};
 ghost use Rattle.problem_data.specs.View.{body_view};
 ghost use Rattle.problem_data.specs.ProblemView.{range_data, attribute_data, param_data, demand_data};
 ghost use Rattle.problem_data.specs.Accepted.{IsSaid};
+ghost use Rattle.problem_data.specs.WellFormed.{IsWellFormed};
 
 use crate::tree::{MacroBody, ParamKind, Side};
 use geo_tokens::name::Name;
@@ -123,7 +124,12 @@ impl Model for ObjectDef {
 
     ghost coded = { object_code };
 
-    ghost view = { λ o. record { name = o.name; shapes = o.shapes.items; ranges = map range_data o.ranges.items; attributes = map attribute_data o.attributes.items } };
+    ghost view = { λ o. record {
+      name = o.name;
+      shapes = o.shapes.items;
+      ranges = map range_data o.ranges.items;
+      attributes = map attribute_data o.attributes.items;
+    } };
 }
 
 impl ObjectDef {
@@ -134,7 +140,12 @@ impl ObjectDef {
         ranges: Vec<RangeDef>,
         attributes: Vec<AttributeDef>,
     ) -> ObjectDef
-        ensures { result ≡ record { name = name; shapes = shapes.items; ranges = map range_data ranges.items; attributes = map attribute_data attributes.items } }
+        ensures { result ≡ record {
+          name = name;
+          shapes = shapes.items;
+          ranges = map range_data ranges.items;
+          attributes = map attribute_data attributes.items;
+        } }
     {
         ObjectDef {
             name,
@@ -200,13 +211,23 @@ impl Model for MacroDef {
 
     ghost coded = { macro_code };
 
-    ghost view = { λ m. record { place = m.place; name = m.name; params = map param_data m.params.items; body = body_view m.body } };
+    ghost view = { λ m. record {
+      place = m.place;
+      name = m.name;
+      params = map param_data m.params.items;
+      body = body_view m.body;
+    } };
 }
 
 impl MacroDef {
     /// A macro.
     pub fn new(place: u64, name: Name, params: Vec<ParamDef>, body: MacroBody) -> MacroDef
-        ensures { result ≡ record { place = place; name = name; params = map param_data params.items; body = body_view body } }
+        ensures { result ≡ record {
+          place = place;
+          name = name;
+          params = map param_data params.items;
+          body = body_view body;
+        } }
     {
         MacroDef {
             place,
@@ -311,7 +332,7 @@ impl RuleDef {
 }
 
 /// A problem. Some text says it.
-#[derive(Debug, Drop)]
+#[derive(Debug)]
 pub struct Problem {
     dims: usize,
     shapes: Vec<ShapeDef>,
@@ -320,6 +341,21 @@ pub struct Problem {
     rules: Vec<RuleDef>,
     order: Vec<u16>,
     sides: Vec<Side>,
+}
+
+/// Written out, since a derived one, with those of all parts, is made and proved anew in each crate that drops a problem.
+impl Drop for Problem {
+    fn drop(self) {
+        let Problem {
+            dims: _dims,
+            shapes: _shapes,
+            objects: _objects,
+            macros: _macros,
+            rules: _rules,
+            order: _order,
+            sides: _sides,
+        } = self;
+    }
 }
 
 impl Model for Problem {
@@ -332,9 +368,25 @@ impl Model for Problem {
 
     ghost use Rattle.problem_data.specs.Accepted.{IsSaid};
 
-    ghost view = { λ p. record { dims = p.dims; shapes = p.shapes.items; objects = p.objects.items; macros = p.macros.items; rules = p.rules.items; order = p.order.items; sides = p.sides.items } };
+    ghost view = { λ p. record {
+      dims = p.dims;
+      shapes = p.shapes.items;
+      objects = p.objects.items;
+      macros = p.macros.items;
+      rules = p.rules.items;
+      order = p.order.items;
+      sides = p.sides.items;
+    } };
 
-    ghost invariant = { λ p. IsSaid (record { dims = p.dims; shapes = p.shapes.items; objects = p.objects.items; macros = p.macros.items; rules = p.rules.items; order = p.order.items; sides = p.sides.items }) };
+    ghost invariant = { λ p. IsSaid (record {
+      dims = p.dims;
+      shapes = p.shapes.items;
+      objects = p.objects.items;
+      macros = p.macros.items;
+      rules = p.rules.items;
+      order = p.order.items;
+      sides = p.sides.items;
+    }) };
 }
 
 impl Problem {
@@ -348,8 +400,24 @@ impl Problem {
         order: Vec<u16>,
         sides: Vec<Side>,
     ) -> Problem
-        requires { IsSaid (record { dims = dims; shapes = shapes.items; objects = objects.items; macros = macros.items; rules = rules.items; order = order.items; sides = sides.items }) }
-        ensures { result ≡ record { dims = dims; shapes = shapes.items; objects = objects.items; macros = macros.items; rules = rules.items; order = order.items; sides = sides.items } }
+        requires { IsSaid (record {
+          dims = dims;
+          shapes = shapes.items;
+          objects = objects.items;
+          macros = macros.items;
+          rules = rules.items;
+          order = order.items;
+          sides = sides.items;
+        }) }
+        ensures { result ≡ record {
+          dims = dims;
+          shapes = shapes.items;
+          objects = objects.items;
+          macros = macros.items;
+          rules = rules.items;
+          order = order.items;
+          sides = sides.items;
+        } }
     {
         Problem {
             dims,
@@ -362,9 +430,10 @@ impl Problem {
         }
     }
 
-    /// What holds of every problem: some text says it. It does nothing.
+    /// What holds of every problem: some text says it, so it is well formed. It does nothing.
     pub fn is_said(&self)
-        ensures { IsSaid self.now }
+        ensures said { IsSaid self.now }
+        ensures formed { IsWellFormed self.now }
     {
         let _ = &self.dims;
     }

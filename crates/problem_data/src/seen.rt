@@ -77,7 +77,8 @@ impl<'a> SeenNames<'a> {
 
     /// Each of these names is one of the others.
     pub fn is_inside(&self, others: &SeenNames<'_>) -> bool
-        ensures { IsTrue result ↔ ((name : List ℕ) → Contains self.now name → Contains others.now name) }
+        ensures { IsTrue result
+            ↔ ((name : List ℕ) → Contains self.now name → Contains others.now name) }
     {
         self.names.is_subset(&others.names)
     }

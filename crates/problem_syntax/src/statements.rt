@@ -65,7 +65,8 @@ fn statements<'a>(
     levels: u32,
     tokens: &'a [Token],
 ) -> Result<(Vec<Statement>, &'a [Token]), Stop<'a>>
-    ensures { Gives statement_views result (many_at statement_firsts (statement_at text.now levels) tokens.now) }
+    ensures { Gives statement_views result
+        (many_at statement_firsts (statement_at text.now levels) tokens.now) }
 {
     let mut read = Vec::new(alloc);
     let mut rest = tokens;

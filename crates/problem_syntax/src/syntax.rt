@@ -17,8 +17,10 @@ use std::alloc::Global;
 /// token with which they begin no text, or at the end where they are the front of one alone, and with `deep` at the first
 /// token that opens a 65th level where no wrong token stands before it.
 pub fn read_statements(alloc: Global, text: &[u8], list: &[Token]) -> Result<ProblemText, TextFault>
-    ensures answer { AnswersText problem_view result (ProblemWords text.now) 64 (length text.now) list.now }
-    ensures only { IsOnlyAnswer problem_view result (ProblemWords text.now) 64 (length text.now) list.now }
+    ensures answer { AnswersText problem_view result (ProblemWords text.now) 64
+        (length text.now) list.now }
+    ensures only { IsOnlyAnswer problem_view result (ProblemWords text.now) 64
+        (length text.now) list.now }
 {
     match problem(alloc, text, LEVELS, list) {
         Ok((said, rest)) => {

@@ -32,8 +32,10 @@ fn order_among(
     orders: &[OrderText],
 ) -> Result<Vec<u16>, AllocError>
     requires few { length objects.now ≤ 256 }
-    requires differ { met (object_names (map object_view objects.now)) ≡ object_names (map object_view objects.now) }
-    ensures { IfOk result (λ v. v.items ≡ order_of (object_names (map object_view objects.now)) (map order_view orders.now)) }
+    requires differ { met (object_names (map object_view objects.now))
+        ≡ object_names (map object_view objects.now) }
+    ensures { IfOk result (λ v. v.items
+        ≡ order_of (object_names (map object_view objects.now)) (map order_view orders.now)) }
 {
     let (names, _) = met_names(alloc, objects)?;
     build_order(alloc, &names, orders)
@@ -46,8 +48,10 @@ fn objects_among(
     objects: Vec<ObjectText>,
 ) -> Result<Vec<ObjectDef>, AllocError>
     requires few { length shapes.now ≤ 256 }
-    requires differ { met (shape_names (map shape_view shapes.now)) ≡ shape_names (map shape_view shapes.now) }
-    ensures { IfOk result (λ v. v.items ≡ map (object_of (shape_names (map shape_view shapes.now))) (map object_view objects.items)) }
+    requires differ { met (shape_names (map shape_view shapes.now))
+        ≡ shape_names (map shape_view shapes.now) }
+    ensures { IfOk result (λ v. v.items ≡ map (object_of (shape_names (map shape_view shapes.now)))
+        (map object_view objects.items)) }
 {
     let (names, _) = met_names(alloc, shapes)?;
     build_objects(alloc, &names, objects)

@@ -12,7 +12,8 @@ use std::alloc::{AllocError, Global};
 fn add_shapes(shapes: &[ShapeDef], names: &mut Names) -> Result<(), AllocError>
     requires none { names.old.shapes ≡ [] }
     requires table { IsNameTable (record names.old { shapes = map shape_name shapes.now }) }
-    ensures { IfOk result (λ _. names.new ≡ record names.old { shapes = map shape_name shapes.now }) }
+    ensures { IfOk result (λ _. names.new
+        ≡ record names.old { shapes = map shape_name shapes.now }) }
 {
     'shapes: for shape in shapes {
         names.add_shape(shape.name().as_bytes())?;
@@ -24,7 +25,8 @@ fn add_shapes(shapes: &[ShapeDef], names: &mut Names) -> Result<(), AllocError>
 fn add_objects(objects: &[ObjectDef], names: &mut Names) -> Result<(), AllocError>
     requires none { names.old.objects ≡ [] }
     requires table { IsNameTable (record names.old { objects = map named_object objects.now }) }
-    ensures { IfOk result (λ _. names.new ≡ record names.old { objects = map named_object objects.now }) }
+    ensures { IfOk result (λ _. names.new
+        ≡ record names.old { objects = map named_object objects.now }) }
 {
     'objects: for object in objects {
         names.add_object(object.name().as_bytes(), object.shapes())?;

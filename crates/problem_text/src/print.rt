@@ -28,9 +28,12 @@ pub fn print_problem<W: Sink>(
     problem: &Problem,
     sink: &mut W,
 ) -> Result<(), PutFault>
-    ensures bytes { MatchResult result (λ _. Appends (W.written sink.old) (W.written sink.new) (problem_text problem.now)) (λ _. AppendsFront (W.written sink.old) (W.written sink.new) (problem_text problem.now)) }
+    ensures bytes { MatchResult result
+        (λ _. Appends (W.written sink.old) (W.written sink.new) (problem_text problem.now))
+        (λ _. AppendsFront (W.written sink.old) (W.written sink.new) (problem_text problem.now)) }
     ensures cause { PutCause (W.faults sink.old) (W.faults sink.new) result }
-    ensures nothing { W.quiet sink.old ≡ true → IsErrOf result PutFault.Memory → W.written sink.new ≡ W.written sink.old }
+    ensures nothing { W.quiet sink.old ≡ true → IsErrOf result PutFault.Memory
+        → W.written sink.new ≡ W.written sink.old }
     ensures quiet { W.quiet sink.old ≡ true → W.quiet sink.new ≡ true }
     ensures spelled { IsSpelled problem.now }
     ensures read_back { length (problem_text problem.now) ≤ most_bytes → ReadsBack problem.now }

@@ -280,14 +280,8 @@ fn expand_sum_steps(
 {
     let mut made = Vec::new(alloc);
     for step in steps {
-        match expand_sum_step(alloc, problem, tables, in_sight, step, &*scope, room, deep) {
-            Ok(one) => {
-                if let Err(fault) = add_sum(&mut made, one) {
-                    return Err(fault);
-                }
-            }
-            Err(fault) => return Err(fault),
-        }
+        let one = expand_sum_step(alloc, problem, tables, in_sight, step, &*scope, room, deep)?;
+        add_sum(&mut made, one)?;
     }
     Ok(made)
 }
@@ -383,14 +377,8 @@ fn expand_product_steps(
 {
     let mut made = Vec::new(alloc);
     for step in steps {
-        match expand_product_step(alloc, problem, tables, in_sight, step, &*scope, room, deep) {
-            Ok(one) => {
-                if let Err(fault) = add_product(&mut made, one) {
-                    return Err(fault);
-                }
-            }
-            Err(fault) => return Err(fault),
-        }
+        let one = expand_product_step(alloc, problem, tables, in_sight, step, &*scope, room, deep)?;
+        add_product(&mut made, one)?;
     }
     Ok(made)
 }

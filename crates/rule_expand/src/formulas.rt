@@ -308,16 +308,10 @@ fn expand_each(
 {
     let mut parts = Vec::new(alloc);
     for f in fs {
-        match expand_formula(
+        let part = expand_formula(
             alloc, problem, tables, in_sight, f, &*scope, next, room, deep,
-        ) {
-            Ok(part) => {
-                if let Err(fault) = add_formula(&mut parts, part) {
-                    return Err(fault);
-                }
-            }
-            Err(fault) => return Err(fault),
-        }
+        )?;
+        add_formula(&mut parts, part)?;
     }
     Ok(parts)
 }
@@ -345,17 +339,13 @@ fn expand_pair(
         MatchResult result (λ r. PairMade t u next.old room.old deep next.new room.new r.0 r.1)
         (λ e. IsLimitFault (nodes t + nodes u) (max (depth t) (depth u)) room.old deep e) }
 {
-    match expand_formula(
+    let left = expand_formula(
         alloc, problem, tables, in_sight, f, &*scope, next, room, deep,
-    ) {
-        Ok(left) => match expand_formula(
-            alloc, problem, tables, in_sight, g, &*scope, next, room, deep,
-        ) {
-            Ok(right) => Ok((left, right)),
-            Err(fault) => Err(fault),
-        },
-        Err(fault) => Err(fault),
-    }
+    )?;
+    let right = expand_formula(
+        alloc, problem, tables, in_sight, g, &*scope, next, room, deep,
+    )?;
+    Ok((left, right))
 }
 
 #[cycle(formula)]

@@ -73,7 +73,8 @@ pub fn negative(alloc: Global, e: PlainExpr) -> Result<PlainExpr, ExpandFault>
 /// A sum.
 pub fn sum(alloc: Global, first: PlainExpr, steps: Vec<PlainSum>) -> Result<PlainExpr, ExpandFault>
     ensures { MatchResult result (λ q. plain_expr_view q
-        ≡ plain.sum (plain_expr_view first) (plain_sums_view steps.items)) (λ f. f ≡ ExpandFault.Memory) }
+        ≡ plain.sum (plain_expr_view first) (plain_sums_view steps.items))
+        (λ f. f ≡ ExpandFault.Memory) }
 {
     Ok(PlainExpr::Sum(Box::new(alloc, first)?, steps))
 }
@@ -172,7 +173,8 @@ pub fn implication(
     g: PlainFormula,
 ) -> Result<PlainFormula, ExpandFault>
     ensures { MatchResult result (λ q. plain_formula_view q
-        ≡ plain.implication (plain_formula_view f) (plain_formula_view g)) (λ e. e ≡ ExpandFault.Memory) }
+        ≡ plain.implication (plain_formula_view f) (plain_formula_view g))
+        (λ e. e ≡ ExpandFault.Memory) }
 {
     Ok(PlainFormula::Implies(Box::new(alloc, f)?, Box::new(alloc, g)?))
 }
@@ -184,7 +186,8 @@ pub fn equivalence(
     g: PlainFormula,
 ) -> Result<PlainFormula, ExpandFault>
     ensures { MatchResult result (λ q. plain_formula_view q
-        ≡ plain.equivalence (plain_formula_view f) (plain_formula_view g)) (λ e. e ≡ ExpandFault.Memory) }
+        ≡ plain.equivalence (plain_formula_view f) (plain_formula_view g))
+        (λ e. e ≡ ExpandFault.Memory) }
 {
     Ok(PlainFormula::Iff(Box::new(alloc, f)?, Box::new(alloc, g)?))
 }

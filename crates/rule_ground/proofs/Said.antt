@@ -8,25 +8,21 @@ use Rattle.problem_data.specs.Problem.{ObjectData, ProblemData}
 use Rattle.problem_data.specs.Tuple.{object_of}
 use Rattle.problem_data.specs.Accepted.{IsSaid}
 use Rattle.problem_data.specs.WellFormed.{IsWellFormed}
-use Rattle.problem_data.proofs.Accepted.{accepted_well_formed}
 use Rattle.rule_ground.specs.Shapes.{has_several, HasSmallShapes}
 use Rattle.rule_ground.proofs.Settled.{several-there}
 use Rattle.rule_ground.proofs.Accepted.{accepted-small}
 
-pub said-formed : (p : ProblemData) → IsSaid p → IsWellFormed p
-said-formed p s = accepted_well_formed s.text p s.accepts
-
 pub said-small : (p : ProblemData) → IsSaid p → HasSmallShapes p
 said-small p s = accepted-small s.text p s.accepts
 
-pub few-shapes : (p : ProblemData) (o : ℕ) → IsSaid p → length (object_of p o).shapes ≤ 16
-few-shapes p o s = ⊎_elim
-    (λ l. ((said-formed p s).objects o (record { name = []; shapes = []; ranges = []; attributes = [] }) l).few)
+pub few-shapes : (p : ProblemData) (o : ℕ) → IsWellFormed p → length (object_of p o).shapes ≤ 16
+few-shapes p o w = ⊎_elim
+    (λ l. (w.objects o (record { name = []; shapes = []; ranges = []; attributes = [] }) l).few)
     (λ l. let e : length (object_of p o).shapes ≡ 0 = ap (λ (b : ObjectData). length b.shapes) (get_or_past p.objects o (record { name = []; shapes = []; ranges = []; attributes = [] }) l) in omega arith)
     (cases_lt o (length p.objects))
 
-pub small-object : (p : ProblemData) (o n : ℕ) → IsSaid p → n ≡ length (object_of p o).shapes → 1 < n → o < 200
-small-object p o n s e h =
+pub small-object : (p : ProblemData) (o n : ℕ) → IsWellFormed p → n ≡ length (object_of p o).shapes → 1 < n → o < 200
+small-object p o n w e h =
     let several : has_several p o ≡ true = (let i : 1 < length (object_of p o).shapes = omega (arith, e, h) in grind (arith, nat_tests)) in
     let l = several-there p o several in
-    omega (arith, l, (said-formed p s).few)
+    omega (arith, l, w.few)

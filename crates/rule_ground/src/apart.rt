@@ -4,7 +4,7 @@ ghost use Rattle.std.specs.Prelude.{◌≡◌, ◌<◌, ◌+ℤ◌, ◌-ℤ◌, 
 ghost use Rattle.geo_base.specs.Boxes.{coordinate};
 ghost use Rattle.geo_conditions.specs.Form.{IsBounded};
 ghost use Rattle.problem_data.specs.Limits.{IsSize, IsSmall};
-ghost use Rattle.problem_data.specs.WellFormed.{IsBox, IsWellFormed};
+ghost use Rattle.problem_data.specs.WellFormed.{IsBox};
 ghost use Rattle.rule_ground.specs.Apart.{apart_at_place, apart_at_places, apart_behind, apart_condition, apart_conditions, apart_from_box, apart_of, parted_in};
 ghost use Rattle.linear_conditions.specs.CondTree.{cond_view};
 ghost use Rattle.rule_ground.specs.Shapes.{HasSmallShapes, IsPlace, IsSmallBox};
@@ -74,7 +74,6 @@ fn box_condition(
     second: Placed,
     b: &BoxDef,
 ) -> Result<Cond, AllocError>
-    requires problem { IsWellFormed problem.now }
     requires order { first.object.0 < second.object.0 }
     requires first { IsPlace problem.now first.object.0 first.place }
     requires second { IsPlace problem.now second.object.0 second.place }
@@ -102,7 +101,6 @@ fn push_box(
     second: Placed,
     out: &mut Vec<Cond>,
 ) -> Result<(), AllocError>
-    requires problem { IsWellFormed problem.now }
     requires shapes { HasSmallShapes problem.now }
     requires order { first.object.0 < second.object.0 }
     requires first { IsPlace problem.now first.object.0 first.place }
@@ -128,7 +126,6 @@ fn push_shapes(
     second: Placed,
     out: &mut Vec<Cond>,
 ) -> Result<(), AllocError>
-    requires problem { IsWellFormed problem.now }
     requires shapes { HasSmallShapes problem.now }
     requires order { first.object.0 < second.object.0 }
     requires first { IsPlace problem.now first.object.0 first.place }
@@ -151,7 +148,6 @@ fn push_shape(
     j: ObjId,
     out: &mut Vec<Cond>,
 ) -> Result<(), AllocError>
-    requires problem { IsWellFormed problem.now }
     requires shapes { HasSmallShapes problem.now }
     requires order { first.object.0 < j.0 }
     requires first { IsPlace problem.now first.object.0 first.place }
@@ -177,7 +173,6 @@ fn push_objects(
     j: ObjId,
     out: &mut Vec<Cond>,
 ) -> Result<(), AllocError>
-    requires problem { IsWellFormed problem.now }
     requires shapes { HasSmallShapes problem.now }
     requires order { i.0 < j.0 }
     requires j { j.0 < length problem.now.objects }
@@ -201,12 +196,12 @@ fn push_behind(
     i: u16,
     out: &mut Vec<Cond>,
 ) -> Result<(), AllocError>
-    requires problem { IsWellFormed problem.now }
     requires shapes { HasSmallShapes problem.now }
     requires i { i < length problem.now.objects }
     ensures { OnOk result (map cond_view out.new.items ≡ map cond_view out.old.items
         ++ apart_behind problem.now i) }
 {
+    problem.is_said();
     let count = problem.objects().len() as u16;
     for j in i + 1..count {
         push_objects(alloc, problem, ObjId(i), ObjId(j), out)?;
@@ -216,11 +211,11 @@ fn push_behind(
 
 /// Appends the conditions of `apart`, for each two objects in file order, their shapes and their boxes.
 pub fn push_apart(alloc: Global, problem: &Problem, out: &mut Vec<Cond>) -> Result<(), AllocError>
-    requires problem { IsWellFormed problem.now }
     requires shapes { HasSmallShapes problem.now }
     ensures { OnOk result (map cond_view out.new.items ≡ map cond_view out.old.items
         ++ apart_conditions problem.now) }
 {
+    problem.is_said();
     let count = problem.objects().len() as u16;
     for i in 0..count {
         push_behind(alloc, problem, i, out)?;

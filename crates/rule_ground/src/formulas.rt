@@ -210,17 +210,11 @@ fn ground_operands(
 {
     let mut parts = Vec::new(alloc);
     for f in fs {
-        match ground(alloc, problem, f, sign, &*env, &*fixings, counter) {
-            Ok(part) => {
-                let stop = decides(all, &part);
-                if let Err(e) = add_cond(&mut parts, part) {
-                    return Err(e);
-                }
-                if stop {
-                    return Ok(parts);
-                }
-            }
-            Err(e) => return Err(e),
+        let part = ground(alloc, problem, f, sign, &*env, &*fixings, counter)?;
+        let stop = decides(all, &part);
+        add_cond(&mut parts, part)?;
+        if stop {
+            return Ok(parts);
         }
     }
     Ok(parts)
@@ -246,17 +240,12 @@ fn ground_pair(
         (λ j. grounded problem.now (plain_formula_view g.now) g_sign (env_view env.now)
         (fixings_view fixings.now) j) counter.old) counter.new result }
 {
-    let first = match ground(alloc, problem, f, f_sign, &*env, &*fixings, counter) {
-        Ok(first) => first,
-        Err(e) => return Err(e),
-    };
+    let first = ground(alloc, problem, f, f_sign, &*env, &*fixings, counter)?;
     if decides(all, &first) {
         return joined_one(alloc, all, first);
     }
-    match ground(alloc, problem, g, g_sign, &*env, &*fixings, counter) {
-        Ok(second) => joined_two(alloc, all, first, second),
-        Err(e) => Err(e),
-    }
+    let second = ground(alloc, problem, g, g_sign, &*env, &*fixings, counter)?;
+    joined_two(alloc, all, first, second)
 }
 
 // Both hold or neither; under minus one of them alone.
@@ -276,21 +265,16 @@ fn ground_equivalence(
         (plain.equivalence (plain_formula_view f.now) (plain_formula_view g.now)) sign
         (env_view env.now) (fixings_view fixings.now) counter.old) counter.new result }
 {
-    let first = match ground_pair(
+    let first = ground_pair(
         alloc, problem, true, f, true, g, sign, &*env, &*fixings, counter,
-    ) {
-        Ok(first) => first,
-        Err(e) => return Err(e),
-    };
+    )?;
     if decides(false, &first) {
         return joined_one(alloc, false, first);
     }
-    match ground_pair(
+    let second = ground_pair(
         alloc, problem, true, f, false, g, !sign, &*env, &*fixings, counter,
-    ) {
-        Ok(second) => joined_two(alloc, false, first, second),
-        Err(e) => Err(e),
-    }
+    )?;
+    joined_two(alloc, false, first, second)
 }
 
 // A quantifier: its visit, then its elements.
@@ -492,7 +476,7 @@ fn ground_places(
         counter.new result }
 {
     for before in 0..place_count(problem, object) {
-        match ground_place(
+        let child = ground_place(
             alloc,
             problem,
             &*site,
@@ -501,14 +485,8 @@ fn ground_places(
             before + 1,
             &*fixings,
             counter,
-        ) {
-            Ok(child) => {
-                if let Err(e) = add_cond(children, child) {
-                    return Err(e);
-                }
-            }
-            Err(e) => return Err(e),
-        }
+        )?;
+        add_cond(children, child)?;
     }
     Ok(())
 }

@@ -8,7 +8,7 @@ ghost use Rattle.problem_data.specs.Cells.{IsTuple};
 ghost use Rattle.problem_data.specs.Layouts.{DemandHolds};
 ghost use Rattle.problem_data.specs.Problem.{RuleData};
 ghost use Rattle.problem_data.specs.ProblemView.{range_data};
-ghost use Rattle.problem_data.specs.WellFormed.{IsRange, IsWellFormed};
+ghost use Rattle.problem_data.specs.WellFormed.{IsRange};
 ghost use Rattle.rule_expand.specs.PlainView.{plain_formula_view};
 ghost use Rattle.rule_expand.specs.Rules.{PlainRuleData, body_data, expansion_fault, plain, plain_rule_data, rules_expanded};
 ghost use Rattle.rule_ground.specs.Answers.{Appends};
@@ -56,7 +56,6 @@ fn ground_apart(
     counter: &mut Counter,
     out: &mut Vec<Cond>,
 ) -> Result<(), GroundFault>
-    requires problem { IsWellFormed problem.now }
     requires shapes { HasSmallShapes problem.now }
     ensures { Appends
         (as_leaves
@@ -79,7 +78,6 @@ fn ground_within(
     counter: &mut Counter,
     out: &mut Vec<Cond>,
 ) -> Result<(), GroundFault>
-    requires problem { IsWellFormed problem.now }
     requires shapes { HasSmallShapes problem.now }
     requires ranges { All IsRange (map range_data ranges.now) }
     requires dims { length ranges.now ≡ problem.now.dims }
@@ -138,7 +136,6 @@ fn ground_body(
     counter: &mut Counter,
     out: &mut Vec<Cond>,
 ) -> Result<(), GroundFault>
-    requires problem { IsWellFormed problem.now }
     requires shapes { HasSmallShapes problem.now }
     requires ranges { HasRanges problem.now (body_data body.now) }
     ensures { Appends
@@ -158,7 +155,6 @@ fn ground_each(
     problem: &Problem,
     rules: &[PlainRule],
 ) -> Result<Vec<Cond>, TextFault>
-    requires problem { IsWellFormed problem.now }
     requires shapes { HasSmallShapes problem.now }
     requires ranges { All (λ (r : PlainRuleData). HasRanges problem.now r.demand)
         (map plain_rule_data rules.now) }

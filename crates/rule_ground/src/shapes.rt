@@ -2,7 +2,7 @@
 
 ghost use Rattle.std.specs.Prelude.{◌≡◌, ◌<◌, ◌++◌, All, OnOk, length, map};
 ghost use Rattle.problem_data.specs.Tuple.{object_of};
-ghost use Rattle.problem_data.specs.WellFormed.{IsBox, IsWellFormed};
+ghost use Rattle.problem_data.specs.WellFormed.{IsBox};
 ghost use Rattle.linear_conditions.specs.CondTree.{cond_view};
 ghost use Rattle.rule_ground.specs.Shapes.{IsPlace, has_several, other_shape};
 ghost use Rattle.rule_values.specs.Shapes.{boxes_at};
@@ -29,7 +29,6 @@ pub fn boxes<'a>(problem: &'a Problem, at: Placed) -> &'a [BoxDef]
 
 // Whether the object has several shapes to choose from.
 pub fn has_several(problem: &Problem, o: ObjId) -> bool
-    requires problem { IsWellFormed problem.now }
     requires o { o.0 < length problem.now.objects }
     ensures { result ≡ has_several problem.now o.0 }
 {
@@ -39,17 +38,16 @@ pub fn has_several(problem: &Problem, o: ObjId) -> bool
 
 // How many shapes the object may have.
 pub fn places(problem: &Problem, o: ObjId) -> u8
-    requires problem { IsWellFormed problem.now }
     requires o { o.0 < length problem.now.objects }
     ensures { result ≡ length (object_of problem.now o.0).shapes }
 {
+    problem.is_said();
     let object = &problem.objects()[o.0 as usize];
     object.shapes().len() as u8
 }
 
 // Appends that the object has another shape, where it may have one.
 pub fn push_other_shape(problem: &Problem, at: Placed, parts: &mut Conds) -> Result<(), AllocError>
-    requires problem { IsWellFormed problem.now }
     requires at { IsPlace problem.now at.object.0 at.place }
     ensures { OnOk result (map cond_view parts.new.items.items
         ≡ map cond_view parts.old.items.items ++ other_shape problem.now at.object.0 at.place) }

@@ -6,7 +6,7 @@ ghost use Rattle.geo_conditions.specs.Form.{IsBounded};
 ghost use Rattle.problem_data.specs.Cells.{range_at};
 ghost use Rattle.problem_data.specs.Limits.{IsSize, IsSmall};
 ghost use Rattle.problem_data.specs.ProblemView.{range_data};
-ghost use Rattle.problem_data.specs.WellFormed.{IsBox, IsRange, IsWellFormed};
+ghost use Rattle.problem_data.specs.WellFormed.{IsBox, IsRange};
 ghost use Rattle.linear_conditions.specs.CondTree.{at_least, cond_view, conds, shape_is_not};
 ghost use Rattle.rule_ground.specs.Shapes.{HasSmallShapes, IsPlace, IsSmallBox};
 ghost use Rattle.rule_ground.specs.Within.{from_low, to_high, unless_other, within_at_place, within_conditions, within_in, within_of, within_of_box};
@@ -67,7 +67,6 @@ fn other_or(alloc: Global, at: Placed, c: Cond) -> Result<Cond, AllocError>
 
 // The condition, where the object has that shape.
 fn unless_other(alloc: Global, problem: &Problem, at: Placed, c: Cond) -> Result<Cond, AllocError>
-    requires problem { IsWellFormed problem.now }
     requires at { IsPlace problem.now at.object.0 at.place }
     ensures { IfOk result (λ r. cond_view r
         ≡ unless_other problem.now at.object.0 at.place (cond_view c)) }
@@ -98,7 +97,6 @@ fn low_condition(
     b: &BoxDef,
     d: usize,
 ) -> Result<Cond, AllocError>
-    requires problem { IsWellFormed problem.now }
     requires ranges { All IsRange (map range_data ranges.now) }
     requires at { IsPlace problem.now at.object.0 at.place }
     requires b { d < length b.now.offsets }
@@ -121,7 +119,6 @@ fn high_condition(
     b: &BoxDef,
     d: usize,
 ) -> Result<Cond, AllocError>
-    requires problem { IsWellFormed problem.now }
     requires ranges { All IsRange (map range_data ranges.now) }
     requires at { IsPlace problem.now at.object.0 at.place }
     requires b { (d < length b.now.offsets) × (d < length b.now.sizes) }
@@ -145,7 +142,6 @@ fn push_dimension(
     d: usize,
     out: &mut Vec<Cond>,
 ) -> Result<(), AllocError>
-    requires problem { IsWellFormed problem.now }
     requires ranges { All IsRange (map range_data ranges.now) }
     requires at { IsPlace problem.now at.object.0 at.place }
     requires b { (d < length b.now.offsets) × (d < length b.now.sizes) }
@@ -169,7 +165,6 @@ fn push_box(
     b: &BoxDef,
     out: &mut Vec<Cond>,
 ) -> Result<(), AllocError>
-    requires problem { IsWellFormed problem.now }
     requires ranges { All IsRange (map range_data ranges.now) }
     requires dims { length ranges.now ≡ problem.now.dims }
     requires at { IsPlace problem.now at.object.0 at.place }
@@ -192,7 +187,6 @@ fn push_shape(
     at: Placed,
     out: &mut Vec<Cond>,
 ) -> Result<(), AllocError>
-    requires problem { IsWellFormed problem.now }
     requires shapes { HasSmallShapes problem.now }
     requires ranges { All IsRange (map range_data ranges.now) }
     requires dims { length ranges.now ≡ problem.now.dims }
@@ -215,7 +209,6 @@ fn push_object(
     o: ObjId,
     out: &mut Vec<Cond>,
 ) -> Result<(), AllocError>
-    requires problem { IsWellFormed problem.now }
     requires shapes { HasSmallShapes problem.now }
     requires ranges { All IsRange (map range_data ranges.now) }
     requires dims { length ranges.now ≡ problem.now.dims }
@@ -240,13 +233,13 @@ pub fn push_within(
     ranges: &[RangeDef],
     out: &mut Vec<Cond>,
 ) -> Result<(), AllocError>
-    requires problem { IsWellFormed problem.now }
     requires shapes { HasSmallShapes problem.now }
     requires ranges { All IsRange (map range_data ranges.now) }
     requires dims { length ranges.now ≡ problem.now.dims }
     ensures { OnOk result (map cond_view out.new.items ≡ map cond_view out.old.items
         ++ within_conditions problem.now (map range_data ranges.now)) }
 {
+    problem.is_said();
     let count = problem.objects().len() as u16;
     for o in 0..count {
         push_object(alloc, problem, ranges, ObjId(o), out)?;

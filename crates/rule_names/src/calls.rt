@@ -48,7 +48,8 @@ fn passed_mistake(
     given: &Argument,
 ) -> Option<Mistake>
     requires { AreTables problem.now tables.now }
-    ensures { result ≡ first_of (passed_mistakes problem.now (scope_view scope.now) (param_data param.now) (argument_view given.now)) }
+    ensures { result ≡ first_of (passed_mistakes problem.now (scope_view scope.now)
+        (param_data param.now) (argument_view given.now)) }
 {
     let Argument { place, value } = given;
     match kind_given(problem, tables, scope, value) {
@@ -69,7 +70,8 @@ fn all_passed(
     given: &[Argument],
 ) -> Option<Mistake>
     requires { AreTables problem.now tables.now }
-    ensures { result ≡ first_of (all_passed problem.now (scope_view scope.now) (map param_data params.now) (arguments (map argument_view given.now))) }
+    ensures { result ≡ first_of (all_passed problem.now (scope_view scope.now)
+        (map param_data params.now) (arguments (map argument_view given.now))) }
 {
     let mut found = None;
     'params: for (i, param) in params.iter().enumerate() {
@@ -133,7 +135,8 @@ fn call_of_macro(
     called: &MacroDef,
 ) -> Option<Mistake>
     requires { AreTables problem.now tables.now }
-    ensures { result ≡ first_of (call_of_macro problem.now (scope_view scope.now) formula place (arguments (map argument_view given.now)) called.now) }
+    ensures { result ≡ first_of (call_of_macro problem.now (scope_view scope.now)
+        formula place (arguments (map argument_view given.now)) called.now) }
 {
     let params = called.params();
     let marked = differs(formula, is_formula(called.body()));
@@ -157,7 +160,8 @@ pub fn call_mistake(
     given: &[Argument],
 ) -> Option<Mistake>
     requires { AreTables problem.now tables.now }
-    ensures { result ≡ first_of (call_mistakes problem.now statement (scope_view scope.now) formula place name.now (arguments (map argument_view given.now))) }
+    ensures { result ≡ first_of (call_mistakes problem.now statement (scope_view scope.now)
+        formula place name.now (arguments (map argument_view given.now))) }
 {
     match macro_called(problem, tables, statement, &name.name) {
         Some(called) => call_of_macro(problem, tables, scope, formula, place, given, called),

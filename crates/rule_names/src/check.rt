@@ -29,7 +29,8 @@ fn body_mistake(
     body: &MacroBody,
 ) -> Result<Option<Mistake>, AllocError>
     requires { AreTables problem.now tables.now }
-    ensures { IfOk result (λ o. o ≡ first_of (body_mistakes problem.now statement (map param_data params.now) (body_view body.now))) }
+    ensures { IfOk result (λ o. o ≡ first_of
+        (body_mistakes problem.now statement (map param_data params.now) (body_view body.now))) }
 {
     let scope = Scope::Parameters(params);
     match body {
@@ -74,7 +75,8 @@ fn demand_mistake(
     demand: &Demand,
 ) -> Result<Option<Mistake>, AllocError>
     requires { AreTables problem.now tables.now }
-    ensures { IfOk result (λ o. o ≡ first_of (demand_mistakes problem.now statement (demand_data demand.now))) }
+    ensures { IfOk result (λ o. o ≡ first_of
+        (demand_mistakes problem.now statement (demand_data demand.now))) }
 {
     match demand {
         Demand::Apart => Ok(None),

@@ -25,7 +25,10 @@ fn listed_name_mistake(
     is_new: bool,
 ) -> Option<Mistake>
     requires { AreTables problem.now tables.now }
-    ensures { result ≡ first_of (mistake_if (not (is_some (object_position problem.now name.now.name))) name.now.place Flaw.UnknownName ++ mistake_if (not is_new) name.now.place Flaw.RepeatedName) }
+    ensures { result ≡ first_of
+        (mistake_if (not (is_some (object_position problem.now name.now.name))) name.now.place
+        Flaw.UnknownName
+        ++ mistake_if (not is_new) name.now.place Flaw.RepeatedName) }
 {
     let known = position_of(&tables.objects, name.name.as_bytes()).is_some();
     let unknown = mistake_if(!known, name.place, Flaw::UnknownName);
@@ -81,7 +84,8 @@ pub fn coll_mistake(
     coll: &Coll,
 ) -> Result<Option<Mistake>, AllocError>
     requires { AreTables problem.now tables.now }
-    ensures { IfOk result (λ o. o ≡ first_of (coll_mistakes problem.now (scope_view scope.now) (coll_view coll.now))) }
+    ensures { IfOk result (λ o. o ≡ first_of
+        (coll_mistakes problem.now (scope_view scope.now) (coll_view coll.now))) }
 {
     match coll {
         Coll::Objects => Ok(None),

@@ -28,7 +28,8 @@ pub fn expr_mistake(
     e: &Expr,
 ) -> Option<Mistake>
     requires { AreTables problem.now tables.now }
-    ensures { result ≡ first_of (expr_mistakes problem.now statement (scope_view scope.now) any_kind (expr_view e.now)) }
+    ensures { result ≡ first_of (expr_mistakes problem.now statement (scope_view scope.now)
+        any_kind (expr_view e.now)) }
 {
     match e {
         Expr::Num(_place, _n) => None,
@@ -74,7 +75,8 @@ fn sums_mistake(
     steps: &[SumStep],
 ) -> Option<Mistake>
     requires { AreTables problem.now tables.now }
-    ensures { result ≡ first_of (sums_mistakes problem.now statement (scope_view scope.now) (sums (map sum_view steps.now))) }
+    ensures { result ≡ first_of (sums_mistakes problem.now statement (scope_view scope.now)
+        (sums (map sum_view steps.now))) }
 {
     let mut found = None;
     'steps: for step in steps {
@@ -93,7 +95,8 @@ fn sum_mistake(
     step: &SumStep,
 ) -> Option<Mistake>
     requires { AreTables problem.now tables.now }
-    ensures { result ≡ first_of (sum_mistakes problem.now statement (scope_view scope.now) (sum_view step.now)) }
+    ensures { result ≡ first_of
+        (sum_mistakes problem.now statement (scope_view scope.now) (sum_view step.now)) }
 {
     match step {
         SumStep::Plus(term) => expr_mistake(problem, tables, statement, scope, false, term),
@@ -110,7 +113,8 @@ fn products_mistake(
     steps: &[ProdStep],
 ) -> Option<Mistake>
     requires { AreTables problem.now tables.now }
-    ensures { result ≡ first_of (products_mistakes problem.now statement (scope_view scope.now) (products (map product_view steps.now))) }
+    ensures { result ≡ first_of (products_mistakes problem.now statement (scope_view scope.now)
+        (products (map product_view steps.now))) }
 {
     let mut found = None;
     'steps: for step in steps {
@@ -129,7 +133,8 @@ fn product_mistake(
     step: &ProdStep,
 ) -> Option<Mistake>
     requires { AreTables problem.now tables.now }
-    ensures { result ≡ first_of (product_mistakes problem.now statement (scope_view scope.now) (product_view step.now)) }
+    ensures { result ≡ first_of (product_mistakes problem.now statement (scope_view scope.now)
+        (product_view step.now)) }
 {
     match step {
         ProdStep::Times(factor) => expr_mistake(problem, tables, statement, scope, false, factor),
@@ -148,7 +153,8 @@ pub fn arguments_mistake(
     given: &[Argument],
 ) -> Option<Mistake>
     requires { AreTables problem.now tables.now }
-    ensures { result ≡ first_of (arguments_mistakes problem.now statement (scope_view scope.now) (arguments (map argument_view given.now))) }
+    ensures { result ≡ first_of (arguments_mistakes problem.now statement (scope_view scope.now)
+        (arguments (map argument_view given.now))) }
 {
     let mut found = None;
     'arguments: for argument in given {
@@ -167,7 +173,8 @@ fn argument_mistake(
     argument: &Argument,
 ) -> Option<Mistake>
     requires { AreTables problem.now tables.now }
-    ensures { result ≡ first_of (argument_mistakes problem.now statement (scope_view scope.now) (argument_view argument.now)) }
+    ensures { result ≡ first_of (argument_mistakes problem.now statement (scope_view scope.now)
+        (argument_view argument.now)) }
 {
     let Argument { place: _, value } = argument;
     expr_mistake(problem, tables, statement, scope, true, value)

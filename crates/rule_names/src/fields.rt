@@ -64,7 +64,8 @@ pub fn field_mistake(
     field: &PlacedName,
 ) -> Option<Mistake>
     requires { AreTables problem.now tables.now }
-    ensures { result ≡ first_of (field_mistakes problem.now (scope_view scope.now) of.now dot field.now) }
+    ensures { result ≡ first_of
+        (field_mistakes problem.now (scope_view scope.now) of.now dot field.now) }
 {
     match kind_of(problem, tables, scope, &of.name) {
         None => mistake_if(true, of.place, Flaw::UnknownName),
@@ -96,7 +97,8 @@ pub fn bare_mistake(
     name: &PlacedName,
 ) -> Option<Mistake>
     requires { AreTables problem.now tables.now }
-    ensures { result ≡ first_of (bare_mistakes problem.now (scope_view scope.now) any_kind name.now) }
+    ensures { result ≡ first_of
+        (bare_mistakes problem.now (scope_view scope.now) any_kind name.now) }
 {
     match kind_of(problem, tables, scope, &name.name) {
         None => mistake_if(true, name.place, Flaw::UnknownName),

@@ -30,7 +30,10 @@ fn comparison_mistake(
     right: &Expr,
 ) -> Option<Mistake>
     requires { AreTables problem.now tables.now }
-    ensures { result ≡ first_of (expr_mistakes problem.now statement (scope_view scope.now) false (expr_view left.now) ++ expr_mistakes problem.now statement (scope_view scope.now) false (expr_view right.now)) }
+    ensures { result ≡ first_of
+        (expr_mistakes problem.now statement (scope_view scope.now) false (expr_view left.now)
+        ++ expr_mistakes problem.now statement (scope_view scope.now) false
+        (expr_view right.now)) }
 {
     let one = expr_mistake(problem, tables, statement, scope, false, left);
     let other = expr_mistake(problem, tables, statement, scope, false, right);
@@ -48,7 +51,8 @@ pub fn formula_mistake(
     f: &Formula,
 ) -> Result<Option<Mistake>, AllocError>
     requires { AreTables problem.now tables.now }
-    ensures { IfOk result (λ o. o ≡ first_of (formula_mistakes problem.now statement (scope_view scope.now) (formula_view f.now))) }
+    ensures { IfOk result (λ o. o ≡ first_of
+        (formula_mistakes problem.now statement (scope_view scope.now) (formula_view f.now))) }
 {
     match f {
         Formula::True(_place) => Ok(None),
@@ -102,7 +106,11 @@ fn quantified_mistake(
     body: &Formula,
 ) -> Result<Option<Mistake>, AllocError>
     requires { AreTables problem.now tables.now }
-    ensures { IfOk result (λ o. o ≡ first_of (coll_mistakes problem.now (scope_view scope.now) (coll_view coll.now) ++ formula_mistakes problem.now statement (binding v.now.name (element_kind (coll_view coll.now)) (scope_view scope.now)) (formula_view body.now))) }
+    ensures { IfOk result (λ o. o ≡ first_of
+        (coll_mistakes problem.now (scope_view scope.now) (coll_view coll.now)
+        ++ formula_mistakes problem.now statement
+        (binding v.now.name (element_kind (coll_view coll.now)) (scope_view scope.now))
+        (formula_view body.now))) }
 {
     let range = coll_mistake(alloc, problem, tables, &*scope, coll)?;
     let kind = element_kind(coll);
@@ -128,7 +136,9 @@ fn formulas_mistake(
     parts: &[Formula],
 ) -> Result<Option<Mistake>, AllocError>
     requires { AreTables problem.now tables.now }
-    ensures { IfOk result (λ o. o ≡ first_of (formulas_mistakes problem.now statement (scope_view scope.now) (formulas (map formula_view parts.now)))) }
+    ensures { IfOk result (λ o. o ≡ first_of
+        (formulas_mistakes problem.now statement (scope_view scope.now)
+        (formulas (map formula_view parts.now)))) }
 {
     let mut found = None;
     'parts: for part in parts {

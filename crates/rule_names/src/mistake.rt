@@ -89,7 +89,8 @@ fn earlier_of(a: Option<Mistake>, b: Option<Mistake>) -> Option<Mistake>
 /// The one of two that comes first: the first of two lists, from the first of each.
 pub fn earlier(a: Option<Mistake>, b: Option<Mistake>) -> Option<Mistake>
     ensures value { result ≡ earlier a b }
-    ensures lists { (ms ns : List Mistake) → a ≡ first_of ms → b ≡ first_of ns → result ≡ first_of (ms ++ ns) }
+    ensures lists { (ms ns : List Mistake) → a ≡ first_of ms → b ≡ first_of ns
+        → result ≡ first_of (ms ++ ns) }
 {
     earlier_of(a, b)
 }

@@ -26,7 +26,8 @@ pub struct Tables<'a> {
 
 /// Adds a name at a position, if it is not there yet.
 fn add<'a>(table: &mut NameTable<'a>, name: &'a [u8], position: usize) -> Result<(), AllocError>
-    ensures { IfOk result (λ _. (n : List ℕ) → found table.new n ≡ later (found table.old n) n name.now position) }
+    ensures { IfOk result (λ _. (n : List ℕ) → found table.new n
+        ≡ later (found table.old n) n name.now position) }
 {
     if position_of(table, name).is_some() {
         return Ok(());
@@ -91,7 +92,8 @@ pub fn macro_table<'a>(alloc: Global, macros: &'a [MacroDef]) -> Result<NameTabl
 
 /// Adds the names of an object's attributes.
 fn add_attributes<'a>(table: &mut NameTable<'a>, object: &'a ObjectDef) -> Result<(), AllocError>
-    ensures { IfOk result (λ _. (n : List ℕ) → is_some (found table.new n) ≡ (is_some (found table.old n) || lists_attribute object.now n)) }
+    ensures { IfOk result (λ _. (n : List ℕ) → is_some (found table.new n)
+        ≡ (is_some (found table.old n) || lists_attribute object.now n)) }
 {
     let attributes = object.attributes();
     for (i, attribute) in attributes.iter().enumerate() {
@@ -105,7 +107,8 @@ pub fn attribute_table<'a>(
     alloc: Global,
     objects: &'a [ObjectDef],
 ) -> Result<NameTable<'a>, AllocError>
-    ensures { IfOk result (λ t. (n : List ℕ) → is_some (found t n) ≡ list_any (λ o. lists_attribute o n) objects.now) }
+    ensures { IfOk result (λ t. (n : List ℕ) → is_some (found t n)
+        ≡ list_any (λ o. lists_attribute o n) objects.now) }
 {
     let mut table = NameTable {
         positions: HashMap::new(alloc),

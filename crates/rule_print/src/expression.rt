@@ -19,7 +19,8 @@ pub fn spell_expression<'a>(
     rank: ExprRank,
     into: &mut Vec<Lexeme<'a>>,
 ) -> Result<(), AllocError>
-    ensures { IfOk result (λ _. map written into.new.items ≡ map written into.old.items ++ expr_spelling rank (expr_view e.now)) }
+    ensures { IfOk result (λ _. map written into.new.items ≡ map written into.old.items
+        ++ expr_spelling rank (expr_view e.now)) }
 {
     match e {
         Expr::Num(_, n) => push(Lexeme::Number(u64::from(*n)), into),
@@ -78,7 +79,8 @@ pub fn spell_expression<'a>(
 /// Spells the steps of a sum behind its first term.
 #[cycle(spell)]
 fn spell_sum_steps<'a>(steps: &'a [SumStep], into: &mut Vec<Lexeme<'a>>) -> Result<(), AllocError>
-    ensures { IfOk result (λ _. map written into.new.items ≡ map written into.old.items ++ sum_spelling (sums (map sum_view steps.now))) }
+    ensures { IfOk result (λ _. map written into.new.items ≡ map written into.old.items
+        ++ sum_spelling (sums (map sum_view steps.now))) }
 {
     'steps: for step in steps {
         spell_sum_step(step, into)?;
@@ -88,7 +90,8 @@ fn spell_sum_steps<'a>(steps: &'a [SumStep], into: &mut Vec<Lexeme<'a>>) -> Resu
 
 #[cycle(spell)]
 fn spell_sum_step<'a>(step: &'a SumStep, into: &mut Vec<Lexeme<'a>>) -> Result<(), AllocError>
-    ensures { IfOk result (λ _. map written into.new.items ≡ map written into.old.items ++ sum_step_spelling (sum_view step.now)) }
+    ensures { IfOk result (λ _. map written into.new.items ≡ map written into.old.items
+        ++ sum_step_spelling (sum_view step.now)) }
 {
     match step {
         SumStep::Plus(term) => {
@@ -108,7 +111,8 @@ fn spell_product_steps<'a>(
     steps: &'a [ProdStep],
     into: &mut Vec<Lexeme<'a>>,
 ) -> Result<(), AllocError>
-    ensures { IfOk result (λ _. map written into.new.items ≡ map written into.old.items ++ product_spelling (products (map product_view steps.now))) }
+    ensures { IfOk result (λ _. map written into.new.items ≡ map written into.old.items
+        ++ product_spelling (products (map product_view steps.now))) }
 {
     'steps: for step in steps {
         spell_product_step(step, into)?;
@@ -118,7 +122,8 @@ fn spell_product_steps<'a>(
 
 #[cycle(spell)]
 fn spell_product_step<'a>(step: &'a ProdStep, into: &mut Vec<Lexeme<'a>>) -> Result<(), AllocError>
-    ensures { IfOk result (λ _. map written into.new.items ≡ map written into.old.items ++ product_step_spelling (product_view step.now)) }
+    ensures { IfOk result (λ _. map written into.new.items ≡ map written into.old.items
+        ++ product_step_spelling (product_view step.now)) }
 {
     match step {
         ProdStep::Times(factor) => {
@@ -142,7 +147,8 @@ pub fn spell_arguments<'a>(
     given: &'a [Argument],
     into: &mut Vec<Lexeme<'a>>,
 ) -> Result<(), AllocError>
-    ensures { IfOk result (λ _. map written into.new.items ≡ map written into.old.items ++ in_list (arguments_spelling (arguments (map argument_view given.now)))) }
+    ensures { IfOk result (λ _. map written into.new.items ≡ map written into.old.items
+        ++ in_list (arguments_spelling (arguments (map argument_view given.now)))) }
 {
     push_symbol(Sym::ParenOpen, into)?;
     let mut is_first = true;

@@ -28,7 +28,8 @@ fn rel_symbol(rel: Rel) -> Sym
 
 /// Spells the first words of a quantifier.
 fn spell_quantifier<'a>(kind: QuantKind, into: &mut Vec<Lexeme<'a>>) -> Result<(), AllocError>
-    ensures { IfOk result (λ _. map written into.new.items ≡ map written into.old.items ++ quantifier_spelling kind) }
+    ensures { IfOk result (λ _. map written into.new.items ≡ map written into.old.items
+        ++ quantifier_spelling kind) }
 {
     match kind {
         QuantKind::ForAll => push_word(Keyword::ForAll, into),
@@ -46,7 +47,8 @@ fn spell_quantifier<'a>(kind: QuantKind, into: &mut Vec<Lexeme<'a>>) -> Result<(
 
 /// Spells names with commas between them.
 fn spell_names<'a>(names: &'a [PlacedName], into: &mut Vec<Lexeme<'a>>) -> Result<(), AllocError>
-    ensures { IfOk result (λ _. map written into.new.items ≡ map written into.old.items ++ names_spelling names.now) }
+    ensures { IfOk result (λ _. map written into.new.items ≡ map written into.old.items
+        ++ names_spelling names.now) }
 {
     let mut is_first = true;
     'names: for name in names {
@@ -58,7 +60,8 @@ fn spell_names<'a>(names: &'a [PlacedName], into: &mut Vec<Lexeme<'a>>) -> Resul
 }
 
 fn spell_collection<'a>(coll: &'a Coll, into: &mut Vec<Lexeme<'a>>) -> Result<(), AllocError>
-    ensures { IfOk result (λ _. map written into.new.items ≡ map written into.old.items ++ coll_spelling (coll_view coll.now)) }
+    ensures { IfOk result (λ _. map written into.new.items ≡ map written into.old.items
+        ++ coll_spelling (coll_view coll.now)) }
 {
     match coll {
         Coll::Objects => push_word(Keyword::Objects, into),
@@ -83,7 +86,8 @@ pub fn spell_formula<'a>(
     rank: FormulaRank,
     into: &mut Vec<Lexeme<'a>>,
 ) -> Result<(), AllocError>
-    ensures { IfOk result (λ _. map written into.new.items ≡ map written into.old.items ++ formula_spelling rank (formula_view f.now)) }
+    ensures { IfOk result (λ _. map written into.new.items ≡ map written into.old.items
+        ++ formula_spelling rank (formula_view f.now)) }
 {
     match f {
         Formula::True(_) => push_word(Keyword::True, into),
@@ -152,7 +156,8 @@ fn push_mark<'a>(
     mark: Keyword,
     into: &mut Vec<Lexeme<'a>>,
 ) -> Result<(), AllocError>
-    ensures { IfOk result (λ _. map written into.new.items ≡ map written into.old.items ++ mark_before is_first mark) }
+    ensures { IfOk result (λ _. map written into.new.items ≡ map written into.old.items
+        ++ mark_before is_first mark) }
 {
     if !is_first {
         push_word(mark, into)?;
@@ -168,7 +173,8 @@ fn spell_operands<'a>(
     rank: FormulaRank,
     into: &mut Vec<Lexeme<'a>>,
 ) -> Result<(), AllocError>
-    ensures { IfOk result (λ _. map written into.new.items ≡ map written into.old.items ++ operands_spelling mark rank (formulas (map formula_view operands.now))) }
+    ensures { IfOk result (λ _. map written into.new.items ≡ map written into.old.items
+        ++ operands_spelling mark rank (formulas (map formula_view operands.now))) }
 {
     let mut is_first = true;
     'operands: for operand in operands {

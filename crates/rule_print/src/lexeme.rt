@@ -102,7 +102,8 @@ pub fn is_close(before: Lexeme<'_>, behind: Lexeme<'_>) -> bool
 
 /// Appends the bytes of a lexeme.
 pub fn push_lexeme(lexeme: Lexeme<'_>, text: &mut Vec<u8>) -> Result<(), AllocError>
-    ensures { IfOk result (λ _. text.new.items ≡ text.old.items ++ spelling (written lexeme.entry)) }
+    ensures { IfOk result (λ _. text.new.items ≡ text.old.items
+        ++ spelling (written lexeme.entry)) }
 {
     match lexeme {
         Lexeme::Name(bytes) => text.extend_from_slice(bytes),
@@ -115,7 +116,8 @@ pub fn push_lexeme(lexeme: Lexeme<'_>, text: &mut Vec<u8>) -> Result<(), AllocEr
 
 /// Appends a lexeme to a list.
 pub fn push<'a>(lexeme: Lexeme<'a>, into: &mut Vec<Lexeme<'a>>) -> Result<(), AllocError>
-    ensures { IfOk result (λ _. map written into.new.items ≡ map written into.old.items ++ written lexeme.entry ∷ []) }
+    ensures { IfOk result (λ _. map written into.new.items ≡ map written into.old.items
+        ++ written lexeme.entry ∷ []) }
 {
     into.push(lexeme)?;
     Ok(())
@@ -123,14 +125,16 @@ pub fn push<'a>(lexeme: Lexeme<'a>, into: &mut Vec<Lexeme<'a>>) -> Result<(), Al
 
 /// Appends a symbol.
 pub fn push_symbol<'a>(mark: Sym, into: &mut Vec<Lexeme<'a>>) -> Result<(), AllocError>
-    ensures { IfOk result (λ _. map written into.new.items ≡ map written into.old.items ++ symbol mark ∷ []) }
+    ensures { IfOk result (λ _. map written into.new.items ≡ map written into.old.items
+        ++ symbol mark ∷ []) }
 {
     push(Lexeme::Symbol(mark), into)
 }
 
 /// Appends a symbol where it is needed.
 pub fn push_if<'a>(needed: bool, mark: Sym, into: &mut Vec<Lexeme<'a>>) -> Result<(), AllocError>
-    ensures { IfOk result (λ _. map written into.new.items ≡ map written into.old.items ++ (if needed then symbol mark ∷ [] else [])) }
+    ensures { IfOk result (λ _. map written into.new.items ≡ map written into.old.items
+        ++ (if needed then symbol mark ∷ [] else [])) }
 {
     if needed {
         push_symbol(mark, into)?;
@@ -140,14 +144,16 @@ pub fn push_if<'a>(needed: bool, mark: Sym, into: &mut Vec<Lexeme<'a>>) -> Resul
 
 /// Appends a reserved word.
 pub fn push_word<'a>(keyword: Keyword, into: &mut Vec<Lexeme<'a>>) -> Result<(), AllocError>
-    ensures { IfOk result (λ _. map written into.new.items ≡ map written into.old.items ++ word keyword ∷ []) }
+    ensures { IfOk result (λ _. map written into.new.items ≡ map written into.old.items
+        ++ word keyword ∷ []) }
 {
     push(Lexeme::Word(keyword), into)
 }
 
 /// Appends a name.
 pub fn push_name<'a>(named: &'a PlacedName, into: &mut Vec<Lexeme<'a>>) -> Result<(), AllocError>
-    ensures { IfOk result (λ _. map written into.new.items ≡ map written into.old.items ++ name named.now.name ∷ []) }
+    ensures { IfOk result (λ _. map written into.new.items ≡ map written into.old.items
+        ++ name named.now.name ∷ []) }
 {
     push(Lexeme::Name(named.name.as_bytes()), into)
 }

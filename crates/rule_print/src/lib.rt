@@ -25,9 +25,12 @@ use std::alloc::{AllocError, Global};
 /// Appends the canonical spelling of a formula. Where memory runs out nothing is appended. What is appended for a formula
 /// that `read_formula` gives for some text is read back as the same formula, places aside, and nothing is left of it.
 pub fn print_formula(alloc: Global, f: &Formula, out: &mut Vec<u8>) -> Result<(), AllocError>
-    ensures text { IfOk result (λ _. out.new.items ≡ out.old.items ++ formula_text (formula_view f.now)) }
+    ensures text { IfOk result (λ _. out.new.items ≡ out.old.items
+        ++ formula_text (formula_view f.now)) }
     ensures kept { OnErr result (out.new.items ≡ out.old.items) }
-    ensures read_back { IsRead FormulaWords (formula_view f.now) → ReadsBack FormulaWords bare_formula (formula_text (formula_view f.now)) (formula_view f.now) }
+    ensures read_back { IsRead FormulaWords (formula_view f.now)
+        → ReadsBack FormulaWords bare_formula (formula_text (formula_view f.now))
+        (formula_view f.now) }
 {
     let mut lexemes = Vec::new(alloc);
     spell_formula(f, FormulaRank::Equivalence, &mut lexemes)?;
@@ -39,7 +42,8 @@ pub fn print_formula(alloc: Global, f: &Formula, out: &mut Vec<u8>) -> Result<()
 pub fn print_expr(alloc: Global, e: &Expr, out: &mut Vec<u8>) -> Result<(), AllocError>
     ensures text { IfOk result (λ _. out.new.items ≡ out.old.items ++ expr_text (expr_view e.now)) }
     ensures kept { OnErr result (out.new.items ≡ out.old.items) }
-    ensures read_back { IsRead ExprWords (expr_view e.now) → ReadsBack ExprWords bare_expr (expr_text (expr_view e.now)) (expr_view e.now) }
+    ensures read_back { IsRead ExprWords (expr_view e.now)
+        → ReadsBack ExprWords bare_expr (expr_text (expr_view e.now)) (expr_view e.now) }
 {
     let mut lexemes = Vec::new(alloc);
     spell_expression(e, ExprRank::Sum, &mut lexemes)?;

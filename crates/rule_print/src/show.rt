@@ -12,7 +12,8 @@ fn push_gap(
     behind: Lexeme<'_>,
     text: &mut Vec<u8>,
 ) -> Result<(), AllocError>
-    ensures { IfOk result (λ _. text.new.items ≡ text.old.items ++ gap (option_map written before.entry) (written behind.entry)) }
+    ensures { IfOk result (λ _. text.new.items ≡ text.old.items
+        ++ gap (option_map written before.entry) (written behind.entry)) }
 {
     if let Some(before) = before {
         if !is_close(before, behind) {

@@ -140,7 +140,8 @@ fn formula_call<'a>(
     levels: u32,
     tokens: &'a [Token],
 ) -> Result<(Formula, &'a [Token]), Stop<'a>>
-    ensures { Gives formula_view result (formula_call_at text.now (args_at text.now levels) tokens.now) }
+    ensures { Gives formula_view result
+        (formula_call_at text.now (args_at text.now levels) tokens.now) }
 {
     let (first, rest) = token(tokens, Kind::Symbol(Sym::At))?;
     let (name, rest) = placed_name(alloc, text, rest)?;
@@ -187,7 +188,8 @@ fn quantified<'a>(
     below: u32,
     tokens: &'a [Token],
 ) -> Result<(Formula, &'a [Token]), Stop<'a>>
-    ensures { Gives formula_view result (quantified_at text.now (unary_at text.now below) tokens.now) }
+    ensures { Gives formula_view result
+        (quantified_at text.now (unary_at text.now below) tokens.now) }
 {
     let ((place, kind), rest) = quantifier(tokens)?;
     let (variable, rest) = placed_name(alloc, text, rest)?;
@@ -208,7 +210,9 @@ fn flat_unary<'a>(
     text: &[u8],
     tokens: &'a [Token],
 ) -> Result<(Formula, &'a [Token]), Stop<'a>>
-    ensures { Gives formula_view result (unary_over_at text.now (cut_at (word keywords.Not)) (cut_at (symbol syms.BracketOpen)) (args_at text.now 0) (cut_at quantifiers) (expr_at text.now 0) tokens.now) }
+    ensures { Gives formula_view result
+        (unary_over_at text.now (cut_at (word keywords.Not)) (cut_at (symbol syms.BracketOpen))
+        (args_at text.now 0) (cut_at quantifiers) (expr_at text.now 0) tokens.now) }
 {
     if next_is(tokens, Kind::Word(Keyword::True)) {
         truth(tokens)
@@ -236,7 +240,11 @@ fn nested_unary<'a>(
     tokens: &'a [Token],
 ) -> Result<(Formula, &'a [Token]), Stop<'a>>
     requires { 0 < levels }
-    ensures { Gives formula_view result (unary_over_at text.now (not_at (unary_at text.now (levels - 1))) (brackets_at (formula_at text.now (levels - 1))) (args_at text.now levels) (quantified_at text.now (unary_at text.now (levels - 1))) (expr_at text.now levels) tokens.now) }
+    ensures { Gives formula_view result
+        (unary_over_at text.now (not_at (unary_at text.now (levels - 1)))
+        (brackets_at (formula_at text.now (levels - 1))) (args_at text.now levels)
+        (quantified_at text.now (unary_at text.now (levels - 1))) (expr_at text.now levels)
+        tokens.now) }
 {
     if next_is(tokens, Kind::Word(Keyword::True)) {
         truth(tokens)
@@ -294,7 +302,8 @@ fn more_unaries<'a>(
     levels: u32,
     tokens: &'a [Token],
 ) -> Result<(Vec<Formula>, &'a [Token]), Stop<'a>>
-    ensures { Gives formula_views result (many_at (word keywords.And) (and_unary_at text.now levels) tokens.now) }
+    ensures { Gives formula_views result
+        (many_at (word keywords.And) (and_unary_at text.now levels) tokens.now) }
 {
     let mut operands = Vec::new(alloc);
     let mut rest = tokens;
@@ -308,7 +317,8 @@ fn more_unaries<'a>(
 
 /// A conjunction of one operand is that operand.
 fn and_of(place: u64, first: Formula, others: Vec<Formula>) -> Result<Formula, AllocError>
-    ensures { IfOk result (λ f. formula_view f ≡ and_of place (formula_view first, formula_views others)) }
+    ensures { IfOk result (λ f. formula_view f
+        ≡ and_of place (formula_view first, formula_views others)) }
 {
     if others.is_empty() {
         return Ok(first);
@@ -356,7 +366,8 @@ fn more_conjunctions<'a>(
     levels: u32,
     tokens: &'a [Token],
 ) -> Result<(Vec<Formula>, &'a [Token]), Stop<'a>>
-    ensures { Gives formula_views result (many_at (word keywords.Or) (or_conjunction_at text.now levels) tokens.now) }
+    ensures { Gives formula_views result
+        (many_at (word keywords.Or) (or_conjunction_at text.now levels) tokens.now) }
 {
     let mut operands = Vec::new(alloc);
     let mut rest = tokens;
@@ -370,7 +381,8 @@ fn more_conjunctions<'a>(
 
 /// A disjunction of one operand is that operand.
 fn or_of(place: u64, first: Formula, others: Vec<Formula>) -> Result<Formula, AllocError>
-    ensures { IfOk result (λ f. formula_view f ≡ or_of place (formula_view first, formula_views others)) }
+    ensures { IfOk result (λ f. formula_view f
+        ≡ or_of place (formula_view first, formula_views others)) }
 {
     if others.is_empty() {
         return Ok(first);
@@ -404,7 +416,8 @@ fn implied<'a>(
     levels: u32,
     tokens: &'a [Token],
 ) -> Result<(Option<Formula>, &'a [Token]), Stop<'a>>
-    ensures { Gives behind_view result (behind_at (word keywords.Implies) (disjunction_at text.now levels) tokens.now) }
+    ensures { Gives behind_view result
+        (behind_at (word keywords.Implies) (disjunction_at text.now levels) tokens.now) }
 {
     if !next_is(tokens, Kind::Word(Keyword::Implies)) {
         return Ok((None, tokens));
@@ -421,7 +434,8 @@ fn implication_of(
     first: Formula,
     second: Option<Formula>,
 ) -> Result<Formula, AllocError>
-    ensures { IfOk result (λ f. formula_view f ≡ implication_of place (formula_view first, behind_view second)) }
+    ensures { IfOk result (λ f. formula_view f
+        ≡ implication_of place (formula_view first, behind_view second)) }
 {
     match second {
         None => Ok(first),
@@ -460,7 +474,8 @@ fn equivalent<'a>(
     levels: u32,
     tokens: &'a [Token],
 ) -> Result<(Option<Formula>, &'a [Token]), Stop<'a>>
-    ensures { Gives behind_view result (behind_at (word keywords.Iff) (implication_at text.now levels) tokens.now) }
+    ensures { Gives behind_view result
+        (behind_at (word keywords.Iff) (implication_at text.now levels) tokens.now) }
 {
     if !next_is(tokens, Kind::Word(Keyword::Iff)) {
         return Ok((None, tokens));
@@ -477,7 +492,8 @@ fn equivalence_of(
     first: Formula,
     second: Option<Formula>,
 ) -> Result<Formula, AllocError>
-    ensures { IfOk result (λ f. formula_view f ≡ equivalence_of place (formula_view first, behind_view second)) }
+    ensures { IfOk result (λ f. formula_view f
+        ≡ equivalence_of place (formula_view first, behind_view second)) }
 {
     match second {
         None => Ok(first),

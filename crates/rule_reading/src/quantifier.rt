@@ -101,7 +101,8 @@ fn more_names<'a>(
     text: &[u8],
     tokens: &'a [Token],
 ) -> Result<(Vec<PlacedName>, &'a [Token]), Stop<'a>>
-    ensures { Gives names_view result (many_at (symbol syms.Comma) (next_name_at text.now) tokens.now) }
+    ensures { Gives names_view result
+        (many_at (symbol syms.Comma) (next_name_at text.now) tokens.now) }
 {
     let mut names = Vec::new(alloc);
     let mut rest = tokens;

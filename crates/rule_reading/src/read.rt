@@ -59,7 +59,8 @@ pub fn read_formula(
     from: usize,
 ) -> Result<(Formula, usize), TextFault>
     requires { from ≤ length list.now }
-    ensures { ReadsFrom formula_view result (FormulaWords text.now) 64 (length text.now) list.now from }
+    ensures { ReadsFrom formula_view result (FormulaWords text.now) 64
+        (length text.now) list.now from }
 {
     match formula(alloc, text, LEVELS, left_from(list, from)) {
         Ok((tree, rest)) => Ok((tree, list.len() - rest.len())),

@@ -79,7 +79,8 @@ fn more_arguments<'a>(
     below: u32,
     tokens: &'a [Token],
 ) -> Result<(Vec<Argument>, &'a [Token]), Stop<'a>>
-    ensures { Gives argument_views result (many_at (symbol syms.Comma) (next_argument_at (expr_at text.now below)) tokens.now) }
+    ensures { Gives argument_views result
+        (many_at (symbol syms.Comma) (next_argument_at (expr_at text.now below)) tokens.now) }
 {
     let mut arguments = Vec::new(alloc);
     let mut rest = tokens;
@@ -135,7 +136,8 @@ fn value_call<'a>(
     below: u32,
     tokens: &'a [Token],
 ) -> Result<(Expr, &'a [Token]), Stop<'a>>
-    ensures { Gives expr_view result (value_call_at text.now (args_over_at (expr_at text.now below)) tokens.now) }
+    ensures { Gives expr_view result
+        (value_call_at text.now (args_over_at (expr_at text.now below)) tokens.now) }
 {
     let (first, rest) = token(tokens, Kind::Symbol(Sym::Dollar))?;
     let (name, rest) = placed_name(alloc, text, rest)?;
@@ -185,7 +187,10 @@ fn nested_factor<'a>(
     tokens: &'a [Token],
 ) -> Result<(Expr, &'a [Token]), Stop<'a>>
     requires { 0 < levels }
-    ensures { Gives expr_view result (factor_over_at text.now (negative_at (factor_at text.now (levels - 1))) (parens_at (expr_at text.now (levels - 1))) (args_over_at (expr_at text.now (levels - 1))) (pair_at (expr_at text.now (levels - 1))) tokens.now) }
+    ensures { Gives expr_view result
+        (factor_over_at text.now (negative_at (factor_at text.now (levels - 1)))
+        (parens_at (expr_at text.now (levels - 1))) (args_over_at (expr_at text.now (levels - 1)))
+        (pair_at (expr_at text.now (levels - 1))) tokens.now) }
 {
     if next_is(tokens, Kind::Number(0)) {
         number(tokens)
@@ -248,7 +253,8 @@ fn more_factors<'a>(
     levels: u32,
     tokens: &'a [Token],
 ) -> Result<(Vec<ProdStep>, &'a [Token]), Stop<'a>>
-    ensures { Gives product_views result (many_at product_marks (product_step_at (factor_at text.now levels)) tokens.now) }
+    ensures { Gives product_views result
+        (many_at product_marks (product_step_at (factor_at text.now levels)) tokens.now) }
 {
     let mut steps = Vec::new(alloc);
     let mut rest = tokens;
@@ -267,7 +273,8 @@ fn product_of(
     first: Expr,
     others: Vec<ProdStep>,
 ) -> Result<Expr, AllocError>
-    ensures { IfOk result (λ e. expr_view e ≡ product_of place (expr_view first, product_views others)) }
+    ensures { IfOk result (λ e. expr_view e
+        ≡ product_of place (expr_view first, product_views others)) }
 {
     if others.is_empty() {
         return Ok(first);
@@ -324,7 +331,9 @@ fn more_terms<'a>(
     levels: u32,
     tokens: &'a [Token],
 ) -> Result<(Vec<SumStep>, &'a [Token]), Stop<'a>>
-    ensures { Gives sum_views result (many_at (symbols syms.Plus syms.Minus) (sum_step_at (term_at text.now levels)) tokens.now) }
+    ensures { Gives sum_views result
+        (many_at (symbols syms.Plus syms.Minus) (sum_step_at (term_at text.now levels))
+        tokens.now) }
 {
     let mut steps = Vec::new(alloc);
     let mut rest = tokens;

@@ -127,7 +127,8 @@ fn refused_pair(tokens: &[Token]) -> Result<((Expr, Expr), &[Token]), Stop<'_>>
 
 /// The least or the greatest of two, by its word.
 pub fn extreme_of(alloc: Global, word: Token, first: Expr, second: Expr) -> Result<Expr, AllocError>
-    ensures { IfOk result (λ e. expr_view e ≡ extreme_in word.kind word.start (expr_view first) (expr_view second)) }
+    ensures { IfOk result (λ e. expr_view e
+        ≡ extreme_in word.kind word.start (expr_view first) (expr_view second)) }
 {
     let first = Box::new(alloc, first)?;
     let second = Box::new(alloc, second)?;
@@ -153,7 +154,8 @@ fn flat_call<'a>(
     text: &[u8],
     tokens: &'a [Token],
 ) -> Result<(Expr, &'a [Token]), Stop<'a>>
-    ensures { Gives expr_view result (value_call_at text.now (cut_at (symbol syms.ParenOpen)) tokens.now) }
+    ensures { Gives expr_view result
+        (value_call_at text.now (cut_at (symbol syms.ParenOpen)) tokens.now) }
 {
     let (first, rest) = token(tokens, Kind::Symbol(Sym::Dollar))?;
     let (name, rest) = placed_name(alloc, text, rest)?;
@@ -176,7 +178,9 @@ pub fn flat_factor<'a>(
     text: &[u8],
     tokens: &'a [Token],
 ) -> Result<(Expr, &'a [Token]), Stop<'a>>
-    ensures { Gives expr_view result (factor_over_at text.now (cut_at (symbol syms.Minus)) (cut_at (symbol syms.ParenOpen)) (cut_at (symbol syms.ParenOpen)) (cut_at (symbol syms.ParenOpen)) tokens.now) }
+    ensures { Gives expr_view result
+        (factor_over_at text.now (cut_at (symbol syms.Minus)) (cut_at (symbol syms.ParenOpen))
+        (cut_at (symbol syms.ParenOpen)) (cut_at (symbol syms.ParenOpen)) tokens.now) }
 {
     if next_is(tokens, Kind::Number(0)) {
         number(tokens)

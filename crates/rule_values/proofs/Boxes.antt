@@ -8,9 +8,7 @@ use Rattle.std.proofs.lemmas.List.{get_or_past}
 use Rattle.std.proofs.lemmas.List.Elements.{All-nil}
 use Rattle.problem_data.specs.Problem.{BoxData, ShapeData, ProblemData}
 use Rattle.problem_data.specs.Tuple.{object_of, boxes_of_shape}
-use Rattle.problem_data.specs.Accepted.{IsSaid}
 use Rattle.problem_data.specs.WellFormed.{IsBox, IsWellFormed}
-use Rattle.problem_data.proofs.Accepted.{accepted_well_formed}
 use Rattle.rule_values.specs.Shapes.{boxes_at}
 
 -- the boxes of a shape that is not there are none
@@ -29,6 +27,3 @@ boxes-all P p o s all = by_option (if s == 0 then None else slice_get (object_of
 
 pub boxes-good : (p : ProblemData) (o s : ℕ) → IsWellFormed p → All (IsBox p.dims) (boxes_at p o s)
 boxes-good p o s w = boxes-all (IsBox p.dims) p o s w.boxes
-
-pub boxes-said : (p : ProblemData) (o s : ℕ) (xs : List BoxData) → IsSaid p → xs ≡ boxes_at p o s → All (IsBox p.dims) xs
-boxes-said p o s xs h e = subst (All (IsBox p.dims)) (sym e) (boxes-good p o s (accepted_well_formed h.text p h.accepts))

@@ -25,7 +25,8 @@ fn lesser_place(a: Option<u64>, b: Option<u64>) -> Option<u64>
 /// The lesser of two places, where there are any: the least of two lists, from the least of each.
 fn lesser(a: Option<u64>, b: Option<u64>) -> Option<u64>
     ensures value { result ≡ lesser a b }
-    ensures lists { (ms ns : List ℕ) → a ≡ least_in ms → b ≡ least_in ns → result ≡ least_in (ms ++ ns) }
+    ensures lists { (ms ns : List ℕ) → a ≡ least_in ms → b ≡ least_in ns
+        → result ≡ least_in (ms ++ ns) }
 {
     lesser_place(a, b)
 }

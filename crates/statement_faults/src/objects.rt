@@ -94,7 +94,8 @@ fn each_object(
     made: &SeenNames<'_>,
     objects: &[ObjectText],
 ) -> Result<Option<Fault>, AllocError>
-    ensures { IfOk result (IsLeast (Among (λ before. ObjectFault k made.now) (map object_view objects.now))) }
+    ensures { IfOk result (IsLeast
+        (Among (λ before. ObjectFault k made.now) (map object_view objects.now))) }
 {
     let mut found = None;
     for object in objects {

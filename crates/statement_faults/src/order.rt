@@ -21,7 +21,8 @@ fn order_fault(
     index: usize,
     order: &OrderText,
 ) -> Result<Option<Fault>, AllocError>
-    ensures { IfOk result (λ o. (before : List OrderTree) → length before ≡ index → IsLeast (OrderFault made.now before (order_view order.now)) o) }
+    ensures { IfOk result (λ o. (before : List OrderTree) → length before ≡ index
+        → IsLeast (OrderFault made.now before (order_view order.now)) o) }
 {
     let names = order.names.as_slice();
     let second = fault_if(index >= 1, order.place, FaultWord::Twice);
@@ -61,7 +62,8 @@ fn first_side(sides: &[SideText]) -> u64
 
 /// The first fault of sides that have so many statements of sides before them.
 fn some_sides_fault(k: usize, index: usize, sides: &SidesText) -> Option<Fault>
-    ensures { (before : List SidesTree) → length before ≡ index → IsLeast (SidesFault k before (sides_view sides.now)) result }
+    ensures { (before : List SidesTree) → length before ≡ index
+        → IsLeast (SidesFault k before (sides_view sides.now)) result }
 {
     let list = sides.sides.as_slice();
     let second = fault_if(index >= 1, sides.place, FaultWord::Twice);

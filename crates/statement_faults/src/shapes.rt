@@ -20,7 +20,8 @@ const MOST_BOXES: usize = 16;
 
 /// The first fault of a box that has so many boxes before it.
 fn box_fault(k: usize, index: usize, part: &BoxText) -> Option<Fault>
-    ensures { (before : List BoxTree) → length before ≡ index → IsLeast (BoxFault k before (box_view part.now)) result }
+    ensures { (before : List BoxTree) → length before ≡ index
+        → IsLeast (BoxFault k before (box_view part.now)) result }
 {
     let past = fault_if(index >= MOST_BOXES, part.place, FaultWord::Limit);
     let offsets = offsets_fault(k, &part.offsets);

@@ -5,7 +5,7 @@ ghost use Rattle.geo_tokens.specs.declared.fault.FaultWord.TheVariants.{Limit};
 ghost use Rattle.problem_data.specs.declared.tree.Int.{Int};
 ghost use Rattle.problem_data.specs.Least.{IsLeast};
 ghost use Rattle.problem_data.specs.ProblemView.{range_data};
-ghost use Rattle.problem_data.specs.WellFormed.{IsWellFormed, IsObject};
+ghost use Rattle.problem_data.specs.WellFormed.{IsObject};
 ghost use Rattle.layout_text.specs.View.{line_view};
 ghost use Rattle.layout_text.specs.Faults.{NameFault, ShapeFault, CountFault, OutsideFault, RangesFault, LineFault};
 
@@ -84,9 +84,10 @@ fn object_line_fault(problem: &Problem, object: &ObjectDef, line: &LineText) -> 
 
 /// The first fault of a line that has so many lines before it.
 pub fn line_fault(problem: &Problem, index: usize, line: &LineText) -> Option<Fault>
-    requires { IsWellFormed problem.now }
-    ensures { IsLeast (LineFault problem.now (slice_get problem.now.objects index) (line_view line.now)) result }
+    ensures { IsLeast (LineFault problem.now (slice_get problem.now.objects index)
+        (line_view line.now)) result }
 {
+    problem.is_said();
     let objects = problem.objects();
     if index >= objects.len() {
         return fault_if(true, line.name.place, FaultWord::Order);

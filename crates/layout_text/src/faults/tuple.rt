@@ -2,7 +2,7 @@
 
 ghost use Rattle.std.specs.Prelude.{◌≡◌, ◌↔◌, IsTrue, All, map};
 ghost use Rattle.problem_data.specs.Meaning.{number_of};
-ghost use Rattle.problem_data.specs.WellFormed.{IsWellFormed, IsObject};
+ghost use Rattle.problem_data.specs.WellFormed.{IsObject};
 ghost use Rattle.layout_text.specs.View.{line_view, group_view};
 ghost use Rattle.layout_text.specs.Faults.{spot_of, spots_of, tuple_of, spot_in};
 
@@ -29,7 +29,8 @@ fn same_numbers(a: &[Int], b: &[Int]) -> bool
 // The group gives the spot that the line gives the object.
 fn same_spot(problem: &Problem, object: &ObjectDef, line: &LineText, group: &GroupText) -> bool
     requires { IsObject problem.now object.now }
-    ensures { IsTrue result ↔ (spot_in (group_view group.now) ≡ spot_of problem.now object.now (line_view line.now)) }
+    ensures { IsTrue result
+        ↔ (spot_in (group_view group.now) ≡ spot_of problem.now object.now (line_view line.now)) }
 {
     let place = shape_position(problem, object, &line.shape.name) + 1;
     group.shape as usize == place && same_numbers(group.origin.as_slice(), line.origin.as_slice())
@@ -43,7 +44,9 @@ fn same_spots(
     groups: &[GroupText],
 ) -> bool
     requires { All (IsObject problem.now) objects.now }
-    ensures { IsTrue result ↔ (map spot_in (map group_view groups.now) ≡ spots_of problem.now objects.now (map line_view lines.now)) }
+    ensures { IsTrue result
+        ↔ (map spot_in (map group_view groups.now)
+        ≡ spots_of problem.now objects.now (map line_view lines.now)) }
 {
     match objects {
         [object, objects @ ..] => match lines {
@@ -62,8 +65,10 @@ fn same_spots(
 
 /// The groups give the tuple of the lines.
 pub fn same_tuple(problem: &Problem, lines: &[LineText], groups: &[GroupText]) -> bool
-    requires { IsWellFormed problem.now }
-    ensures { IsTrue result ↔ (map spot_in (map group_view groups.now) ≡ tuple_of problem.now (map line_view lines.now)) }
+    ensures { IsTrue result
+        ↔ (map spot_in (map group_view groups.now)
+        ≡ tuple_of problem.now (map line_view lines.now)) }
 {
+    problem.is_said();
     same_spots(problem, problem.objects(), lines, groups)
 }

@@ -15,7 +15,8 @@ pub fn push_line(
     lexemes: &[Lexeme<'_>],
     text: &mut Vec<u8>,
 ) -> Result<(), AllocError>
-    ensures { IfOk result (λ _. text.new.items ≡ text.old.items ++ line_text (map written lexemes.now)) }
+    ensures { IfOk result (λ _. text.new.items ≡ text.old.items
+        ++ line_text (map written lexemes.now)) }
 {
     let line = shown(alloc, lexemes)?;
     text.extend_from_slice(line.as_slice())?;
@@ -25,7 +26,8 @@ pub fn push_line(
 
 /// Appends a name to a list of lexemes.
 pub fn push_name<'a>(own: &'a Name, into: &mut Vec<Lexeme<'a>>) -> Result<(), AllocError>
-    ensures { IfOk result (λ _. map written into.new.items ≡ map written into.old.items ++ name own.now ∷ []) }
+    ensures { IfOk result (λ _. map written into.new.items ≡ map written into.old.items
+        ++ name own.now ∷ []) }
 {
     push(Lexeme::Name(own.as_bytes()), into)
 }

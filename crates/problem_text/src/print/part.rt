@@ -17,7 +17,8 @@ use rule_print::rank::{ExprRank, FormulaRank};
 use std::alloc::AllocError;
 
 fn spell_int<'a>(value: i64, into: &mut Vec<Lexeme<'a>>) -> Result<(), AllocError>
-    ensures { IfOk result (λ _. map written into.new.items ≡ map written into.old.items ++ int_spelling value) }
+    ensures { IfOk result (λ _. map written into.new.items ≡ map written into.old.items
+        ++ int_spelling value) }
 {
     if value < 0 {
         push(Lexeme::Sign, into)?;
@@ -26,7 +27,8 @@ fn spell_int<'a>(value: i64, into: &mut Vec<Lexeme<'a>>) -> Result<(), AllocErro
 }
 
 fn spell_ints<'a>(values: &[i64], into: &mut Vec<Lexeme<'a>>) -> Result<(), AllocError>
-    ensures { IfOk result (λ _. map written into.new.items ≡ map written into.old.items ++ ints_spelling values.now) }
+    ensures { IfOk result (λ _. map written into.new.items ≡ map written into.old.items
+        ++ ints_spelling values.now) }
 {
     'values: for value in values {
         spell_int(*value, into)?;
@@ -35,7 +37,8 @@ fn spell_ints<'a>(values: &[i64], into: &mut Vec<Lexeme<'a>>) -> Result<(), Allo
 }
 
 fn spell_range<'a>(range: RangeDef, into: &mut Vec<Lexeme<'a>>) -> Result<(), AllocError>
-    ensures { IfOk result (λ _. map written into.new.items ≡ map written into.old.items ++ range_spelling (range_data range)) }
+    ensures { IfOk result (λ _. map written into.new.items ≡ map written into.old.items
+        ++ range_spelling (range_data range)) }
 {
     spell_int(range.low, into)?;
     push_symbol(Sym::DotDot, into)?;
@@ -43,7 +46,8 @@ fn spell_range<'a>(range: RangeDef, into: &mut Vec<Lexeme<'a>>) -> Result<(), Al
 }
 
 pub fn spell_ranges<'a>(ranges: &[RangeDef], into: &mut Vec<Lexeme<'a>>) -> Result<(), AllocError>
-    ensures { IfOk result (λ _. map written into.new.items ≡ map written into.old.items ++ ranges_spelling (map range_data ranges.now)) }
+    ensures { IfOk result (λ _. map written into.new.items ≡ map written into.old.items
+        ++ ranges_spelling (map range_data ranges.now)) }
 {
     'each: for range in ranges {
         spell_range(*range, into)?;
@@ -52,7 +56,8 @@ pub fn spell_ranges<'a>(ranges: &[RangeDef], into: &mut Vec<Lexeme<'a>>) -> Resu
 }
 
 fn spell_box<'a>(own: &BoxDef, into: &mut Vec<Lexeme<'a>>) -> Result<(), AllocError>
-    ensures { IfOk result (λ _. map written into.new.items ≡ map written into.old.items ++ box_spelling own.now) }
+    ensures { IfOk result (λ _. map written into.new.items ≡ map written into.old.items
+        ++ box_spelling own.now) }
 {
     push_word(Keyword::Box, into)?;
     spell_ints(own.offsets(), into)?;
@@ -61,7 +66,8 @@ fn spell_box<'a>(own: &BoxDef, into: &mut Vec<Lexeme<'a>>) -> Result<(), AllocEr
 }
 
 pub fn spell_boxes<'a>(boxes: &[BoxDef], into: &mut Vec<Lexeme<'a>>) -> Result<(), AllocError>
-    ensures { IfOk result (λ _. map written into.new.items ≡ map written into.old.items ++ flat_map box_spelling boxes.now) }
+    ensures { IfOk result (λ _. map written into.new.items ≡ map written into.old.items
+        ++ flat_map box_spelling boxes.now) }
 {
     'boxes: for own in boxes {
         spell_box(own, into)?;
@@ -73,7 +79,8 @@ fn spell_attribute<'a>(
     attribute: &'a AttributeDef,
     into: &mut Vec<Lexeme<'a>>,
 ) -> Result<(), AllocError>
-    ensures { IfOk result (λ _. map written into.new.items ≡ map written into.old.items ++ attribute_spelling (attribute_data attribute.now)) }
+    ensures { IfOk result (λ _. map written into.new.items ≡ map written into.old.items
+        ++ attribute_spelling (attribute_data attribute.now)) }
 {
     push_name(&attribute.name, into)?;
     push_symbol(Sym::Equal, into)?;
@@ -84,7 +91,8 @@ fn spell_attribute_list<'a>(
     attributes: &'a [AttributeDef],
     into: &mut Vec<Lexeme<'a>>,
 ) -> Result<(), AllocError>
-    ensures { IfOk result (λ _. map written into.new.items ≡ map written into.old.items ++ listed attribute_spelling (map attribute_data attributes.now)) }
+    ensures { IfOk result (λ _. map written into.new.items ≡ map written into.old.items
+        ++ listed attribute_spelling (map attribute_data attributes.now)) }
 {
     let mut is_first = true;
     'attributes: for attribute in attributes {
@@ -100,7 +108,8 @@ pub fn spell_attributes<'a>(
     attributes: &'a [AttributeDef],
     into: &mut Vec<Lexeme<'a>>,
 ) -> Result<(), AllocError>
-    ensures { IfOk result (λ _. map written into.new.items ≡ map written into.old.items ++ attributes_spelling (map attribute_data attributes.now)) }
+    ensures { IfOk result (λ _. map written into.new.items ≡ map written into.old.items
+        ++ attributes_spelling (map attribute_data attributes.now)) }
 {
     match attributes {
         [] => Ok(()),
@@ -122,7 +131,8 @@ fn kind_word(kind: ParamKind) -> Keyword
 }
 
 fn spell_param<'a>(param: &'a ParamDef, into: &mut Vec<Lexeme<'a>>) -> Result<(), AllocError>
-    ensures { IfOk result (λ _. map written into.new.items ≡ map written into.old.items ++ param_spelling (param_data param.now)) }
+    ensures { IfOk result (λ _. map written into.new.items ≡ map written into.old.items
+        ++ param_spelling (param_data param.now)) }
 {
     push_name(&param.name, into)?;
     push_symbol(Sym::Colon, into)?;
@@ -134,7 +144,8 @@ pub fn spell_params<'a>(
     params: &'a [ParamDef],
     into: &mut Vec<Lexeme<'a>>,
 ) -> Result<(), AllocError>
-    ensures { IfOk result (λ _. map written into.new.items ≡ map written into.old.items ++ listed param_spelling (map param_data params.now)) }
+    ensures { IfOk result (λ _. map written into.new.items ≡ map written into.old.items
+        ++ listed param_spelling (map param_data params.now)) }
 {
     let mut is_first = true;
     'params: for param in params {
@@ -147,7 +158,8 @@ pub fn spell_params<'a>(
 
 /// What a macro stands for, with its word.
 pub fn spell_body<'a>(body: &'a MacroBody, into: &mut Vec<Lexeme<'a>>) -> Result<(), AllocError>
-    ensures { IfOk result (λ _. map written into.new.items ≡ map written into.old.items ++ body_spelling (body_view body.now)) }
+    ensures { IfOk result (λ _. map written into.new.items ≡ map written into.old.items
+        ++ body_spelling (body_view body.now)) }
 {
     match body {
         MacroBody::Means(formula) => {
@@ -163,7 +175,8 @@ pub fn spell_body<'a>(body: &'a MacroBody, into: &mut Vec<Lexeme<'a>>) -> Result
 
 /// What a rule asks for.
 pub fn spell_demand<'a>(demand: &'a Demand, into: &mut Vec<Lexeme<'a>>) -> Result<(), AllocError>
-    ensures { IfOk result (λ _. map written into.new.items ≡ map written into.old.items ++ demand_spelling (demand_data demand.now)) }
+    ensures { IfOk result (λ _. map written into.new.items ≡ map written into.old.items
+        ++ demand_spelling (demand_data demand.now)) }
 {
     match demand {
         Demand::Apart => push_word(Keyword::Apart, into),
@@ -176,7 +189,8 @@ pub fn spell_demand<'a>(demand: &'a Demand, into: &mut Vec<Lexeme<'a>>) -> Resul
 }
 
 pub fn spell_sides<'a>(sides: &[Side], into: &mut Vec<Lexeme<'a>>) -> Result<(), AllocError>
-    ensures { IfOk result (λ _. map written into.new.items ≡ map written into.old.items ++ flat_map side_spelling sides.now) }
+    ensures { IfOk result (λ _. map written into.new.items ≡ map written into.old.items
+        ++ flat_map side_spelling sides.now) }
 {
     'sides: for side in sides {
         spell_side(*side, into)?;
@@ -185,7 +199,8 @@ pub fn spell_sides<'a>(sides: &[Side], into: &mut Vec<Lexeme<'a>>) -> Result<(),
 }
 
 fn spell_side<'a>(side: Side, into: &mut Vec<Lexeme<'a>>) -> Result<(), AllocError>
-    ensures { IfOk result (λ _. map written into.new.items ≡ map written into.old.items ++ side_spelling side) }
+    ensures { IfOk result (λ _. map written into.new.items ≡ map written into.old.items
+        ++ side_spelling side) }
 {
     match side {
         Side::Low => push_word(Keyword::Low, into),

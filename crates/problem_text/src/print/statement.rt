@@ -18,7 +18,8 @@ use std::alloc::{AllocError, Global};
 
 /// Appends the line of a shape.
 pub fn push_shape(alloc: Global, shape: &ShapeDef, text: &mut Vec<u8>) -> Result<(), AllocError>
-    ensures { IfOk result (λ _. text.new.items ≡ text.old.items ++ line_text (shape_spelling shape.now)) }
+    ensures { IfOk result (λ _. text.new.items ≡ text.old.items
+        ++ line_text (shape_spelling shape.now)) }
 {
     let mut lexemes = Vec::new(alloc);
     push_word(Keyword::Shape, &mut lexemes)?;
@@ -44,7 +45,8 @@ fn spell_shape_names<'a>(
     positions: &[u16],
     into: &mut Vec<Lexeme<'a>>,
 ) -> Result<(), AllocError>
-    ensures { IfOk result (λ _. map written into.new.items ≡ map written into.old.items ++ listed (λ i. name_spelling (name_at (map (λ s. s.name) shapes.now) i)) positions.now) }
+    ensures { IfOk result (λ _. map written into.new.items ≡ map written into.old.items
+        ++ listed (λ i. name_spelling (name_at (map (λ s. s.name) shapes.now) i)) positions.now) }
 {
     let mut is_first = true;
     'positions: for position in positions {
@@ -62,7 +64,8 @@ pub fn push_object(
     object: &ObjectDef,
     text: &mut Vec<u8>,
 ) -> Result<(), AllocError>
-    ensures { IfOk result (λ _. text.new.items ≡ text.old.items ++ line_text (object_spelling (map (λ s. s.name) shapes.now) object.now)) }
+    ensures { IfOk result (λ _. text.new.items ≡ text.old.items
+        ++ line_text (object_spelling (map (λ s. s.name) shapes.now) object.now)) }
 {
     let mut lexemes = Vec::new(alloc);
     push_word(Keyword::Object, &mut lexemes)?;
@@ -78,7 +81,8 @@ pub fn push_object(
 
 /// Appends the line of a macro.
 pub fn push_macro(alloc: Global, own: &MacroDef, text: &mut Vec<u8>) -> Result<(), AllocError>
-    ensures { IfOk result (λ _. text.new.items ≡ text.old.items ++ line_text (macro_spelling own.now)) }
+    ensures { IfOk result (λ _. text.new.items ≡ text.old.items
+        ++ line_text (macro_spelling own.now)) }
 {
     let mut lexemes = Vec::new(alloc);
     push_word(Keyword::Macro, &mut lexemes)?;
@@ -93,7 +97,8 @@ pub fn push_macro(alloc: Global, own: &MacroDef, text: &mut Vec<u8>) -> Result<(
 
 /// Appends the line of a rule.
 pub fn push_rule(alloc: Global, rule: &RuleDef, text: &mut Vec<u8>) -> Result<(), AllocError>
-    ensures { IfOk result (λ _. text.new.items ≡ text.old.items ++ line_text (rule_spelling rule.now)) }
+    ensures { IfOk result (λ _. text.new.items ≡ text.old.items
+        ++ line_text (rule_spelling rule.now)) }
 {
     let mut lexemes = Vec::new(alloc);
     push_word(Keyword::Rule, &mut lexemes)?;
@@ -120,7 +125,8 @@ fn spell_object_names<'a>(
     positions: &[u16],
     into: &mut Vec<Lexeme<'a>>,
 ) -> Result<(), AllocError>
-    ensures { IfOk result (λ _. map written into.new.items ≡ map written into.old.items ++ listed (λ i. name_spelling (name_at (map (λ o. o.name) objects.now) i)) positions.now) }
+    ensures { IfOk result (λ _. map written into.new.items ≡ map written into.old.items
+        ++ listed (λ i. name_spelling (name_at (map (λ o. o.name) objects.now) i)) positions.now) }
 {
     let mut is_first = true;
     'positions: for position in positions {
@@ -138,7 +144,8 @@ pub fn push_order(
     order: &[u16],
     text: &mut Vec<u8>,
 ) -> Result<(), AllocError>
-    ensures { IfOk result (λ _. text.new.items ≡ text.old.items ++ line_text (order_spelling (map (λ o. o.name) objects.now) order.now)) }
+    ensures { IfOk result (λ _. text.new.items ≡ text.old.items
+        ++ line_text (order_spelling (map (λ o. o.name) objects.now) order.now)) }
 {
     let mut lexemes = Vec::new(alloc);
     push_word(Keyword::Order, &mut lexemes)?;
@@ -149,7 +156,8 @@ pub fn push_order(
 
 /// Appends the line of the sides.
 pub fn push_sides(alloc: Global, sides: &[Side], text: &mut Vec<u8>) -> Result<(), AllocError>
-    ensures { IfOk result (λ _. text.new.items ≡ text.old.items ++ line_text (sides_spelling sides.now)) }
+    ensures { IfOk result (λ _. text.new.items ≡ text.old.items
+        ++ line_text (sides_spelling sides.now)) }
 {
     let mut lexemes = Vec::new(alloc);
     push_word(Keyword::Sides, &mut lexemes)?;

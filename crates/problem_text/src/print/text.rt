@@ -17,7 +17,8 @@ use rule_print::lexeme::{Lexeme, push, push_word};
 use std::alloc::{AllocError, Global};
 
 fn push_head(alloc: Global, problem: &Problem, text: &mut Vec<u8>) -> Result<(), AllocError>
-    ensures { IfOk result (λ _. text.new.items ≡ text.old.items ++ line_text (head_spelling problem.now)) }
+    ensures { IfOk result (λ _. text.new.items ≡ text.old.items
+        ++ line_text (head_spelling problem.now)) }
 {
     let mut lexemes = Vec::new(alloc);
     push_word(Keyword::Geost, &mut lexemes)?;
@@ -28,7 +29,8 @@ fn push_head(alloc: Global, problem: &Problem, text: &mut Vec<u8>) -> Result<(),
 }
 
 fn push_shapes(alloc: Global, shapes: &[ShapeDef], text: &mut Vec<u8>) -> Result<(), AllocError>
-    ensures { IfOk result (λ _. text.new.items ≡ text.old.items ++ flat_map (λ s. line_text (shape_spelling s)) shapes.now) }
+    ensures { IfOk result (λ _. text.new.items ≡ text.old.items
+        ++ flat_map (λ s. line_text (shape_spelling s)) shapes.now) }
 {
     'shapes: for shape in shapes {
         push_shape(alloc, shape, text)?;
@@ -42,7 +44,9 @@ fn push_objects(
     objects: &[ObjectDef],
     text: &mut Vec<u8>,
 ) -> Result<(), AllocError>
-    ensures { IfOk result (λ _. text.new.items ≡ text.old.items ++ flat_map (λ o. line_text (object_spelling (map (λ s. s.name) shapes.now) o)) objects.now) }
+    ensures { IfOk result (λ _. text.new.items ≡ text.old.items
+        ++ flat_map (λ o. line_text (object_spelling (map (λ s. s.name) shapes.now) o))
+        objects.now) }
 {
     'objects: for object in objects {
         push_object(alloc, shapes, object, text)?;
@@ -51,7 +55,8 @@ fn push_objects(
 }
 
 fn push_macros(alloc: Global, macros: &[MacroDef], text: &mut Vec<u8>) -> Result<(), AllocError>
-    ensures { IfOk result (λ _. text.new.items ≡ text.old.items ++ flat_map (λ m. line_text (macro_spelling m)) macros.now) }
+    ensures { IfOk result (λ _. text.new.items ≡ text.old.items
+        ++ flat_map (λ m. line_text (macro_spelling m)) macros.now) }
 {
     'macros: for own in macros {
         push_macro(alloc, own, text)?;
@@ -60,7 +65,8 @@ fn push_macros(alloc: Global, macros: &[MacroDef], text: &mut Vec<u8>) -> Result
 }
 
 fn push_rules(alloc: Global, rules: &[RuleDef], text: &mut Vec<u8>) -> Result<(), AllocError>
-    ensures { IfOk result (λ _. text.new.items ≡ text.old.items ++ flat_map (λ r. line_text (rule_spelling r)) rules.now) }
+    ensures { IfOk result (λ _. text.new.items ≡ text.old.items
+        ++ flat_map (λ r. line_text (rule_spelling r)) rules.now) }
 {
     'rules: for rule in rules {
         push_rule(alloc, rule, text)?;
@@ -96,7 +102,8 @@ fn some_high(sides: &[Side]) -> bool
 }
 
 fn push_end(alloc: Global, text: &mut Vec<u8>) -> Result<(), AllocError>
-    ensures { IfOk result (λ _. text.new.items ≡ text.old.items ++ line_text (word keywords.End ∷ [])) }
+    ensures { IfOk result (λ _. text.new.items ≡ text.old.items
+        ++ line_text (word keywords.End ∷ [])) }
 {
     let mut lexemes = Vec::new(alloc);
     push_word(Keyword::End, &mut lexemes)?;
@@ -105,7 +112,10 @@ fn push_end(alloc: Global, text: &mut Vec<u8>) -> Result<(), AllocError>
 
 /// Appends the lines of the search order and of the sides, where they are needed.
 fn push_ways(alloc: Global, problem: &Problem, text: &mut Vec<u8>) -> Result<(), AllocError>
-    ensures { IfOk result (λ _. text.new.items ≡ text.old.items ++ (line_if (not (counts_from 0 problem.now.order)) (order_spelling (object_names problem.now) problem.now.order) ++ line_if (list_any is_high problem.now.sides) (sides_spelling problem.now.sides))) }
+    ensures { IfOk result (λ _. text.new.items ≡ text.old.items
+        ++ (line_if (not (counts_from 0 problem.now.order))
+        (order_spelling (object_names problem.now) problem.now.order)
+        ++ line_if (list_any is_high problem.now.sides) (sides_spelling problem.now.sides))) }
 {
     if !is_file_order(problem.search_order()) {
         push_order(alloc, problem.objects(), problem.search_order(), text)?;

@@ -2,7 +2,6 @@
 
 ghost use Rattle.std.specs.Prelude.{◌≡◌, IfOk};
 ghost use Rattle.geo_conditions.specs.Walk.{NamesEach};
-ghost use Rattle.problem_data.specs.WellFormed.{IsWellFormed};
 ghost use Rattle.rule_ground.specs.Order.{order_of, runs_down};
 ghost use Rattle.rule_ground.specs.Start.{first_state};
 
@@ -21,13 +20,14 @@ fn is_downwards(side: Side) -> bool
     }
 }
 
-// The objects one after another, and the ends from which values are tried.
-fn made_order(alloc: Global, problem: &Problem) -> Result<SearchOrder, AllocError>
-    requires problem { IsWellFormed problem.now }
+/// The search order of a problem: its objects one after another, and for each dimension whether its values are tried from
+/// the high end down. It names each object once.
+pub fn search_order(alloc: Global, problem: &Problem) -> Result<SearchOrder, AllocError>
     ensures value { IfOk result (λ order. order ≡ order_of problem.now) }
     ensures names { IfOk result
         (λ order. NamesEach problem.now.dims (first_state problem.now) order) }
 {
+    problem.is_said();
     let mut objects = Vec::new(alloc);
     for o in problem.search_order() {
         objects.push(ObjId(*o))?;
@@ -37,15 +37,4 @@ fn made_order(alloc: Global, problem: &Problem) -> Result<SearchOrder, AllocErro
         down.push(is_downwards(*side))?;
     }
     SearchOrder::new(alloc, objects.as_slice(), down.as_slice())
-}
-
-/// The search order of a problem: its objects one after another, and for each dimension whether its values are tried from
-/// the high end down. It names each object once.
-pub fn search_order(alloc: Global, problem: &Problem) -> Result<SearchOrder, AllocError>
-    ensures value { IfOk result (λ order. order ≡ order_of problem.now) }
-    ensures names { IfOk result
-        (λ order. NamesEach problem.now.dims (first_state problem.now) order) }
-{
-    problem.is_said();
-    made_order(alloc, problem)
 }

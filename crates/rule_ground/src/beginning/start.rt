@@ -6,7 +6,6 @@ ghost use Rattle.geo_base.specs.Tuple.{Tuple};
 ghost use Rattle.geo_conditions.specs.Reach.{TupleIn};
 ghost use Rattle.geo_conditions.specs.Regions.{region_of};
 ghost use Rattle.problem_data.specs.Cells.{IsTuple};
-ghost use Rattle.problem_data.specs.WellFormed.{IsWellFormed};
 ghost use Rattle.rule_ground.specs.Start.{HasSmallEnds, first_state, whole_region};
 
 use geo_base::{KBox, Point};
@@ -30,22 +29,6 @@ fn region<const K: usize>(object: &ObjectDef) -> KBox<K>
     KBox::new(lo, hi)
 }
 
-// All that is open to each object.
-fn first_state<const K: usize>(alloc: Global, problem: &Problem) -> Result<State<K>, AllocError>
-    requires problem { IsWellFormed problem.now }
-    requires dims { problem.now.dims ≡ K }
-    ensures value { IfOk result (λ s. s ≡ first_state problem.now) }
-    ensures tuples { IfOk result (λ s. (t : Tuple) → TupleIn t s ↔ IsTuple problem.now t) }
-    ensures ends { IfOk result HasSmallEnds }
-{
-    let mut state = State::new(alloc);
-    for object in problem.objects() {
-        let shapes = object.shapes().len() as u8;
-        state.add_object(shapes, region(object))?;
-    }
-    Ok(state)
-}
-
 /// The state in which a search for a layout of the problem begins: each object has all its shapes, by their places from 1,
 /// and its ranges. Its tuples are those of the problem. K is the number of dimensions.
 pub fn start_state<const K: usize>(alloc: Global, problem: &Problem) -> Result<State<K>, AllocError>
@@ -55,5 +38,10 @@ pub fn start_state<const K: usize>(alloc: Global, problem: &Problem) -> Result<S
     ensures ends { IfOk result HasSmallEnds }
 {
     problem.is_said();
-    first_state(alloc, problem)
+    let mut state = State::new(alloc);
+    for object in problem.objects() {
+        let shapes = object.shapes().len() as u8;
+        state.add_object(shapes, region(object))?;
+    }
+    Ok(state)
 }

@@ -67,8 +67,8 @@ returns-in-Some-clause-only c =
     c.in_ok-list.ensures.only.1 (layout_view c.in_ok-said.said) c.in_ok-said.ensures.answer c.in_ok-said.ensures.only.0 c.in_ok-said.ensures.only.1 c.in-Some.fault
     (subst (λ o. IsLeast (IsFault c.args.problem.now (length c.args.text.now) (layout_view c.in_ok-said.said)) o) c.in-Some.is c.first_fault.ensures)).only
 
-pub build-requires-clause-lines : goal.build-requires-clause-lines
-build-requires-clause-lines c =
+pub build-requires : goal.build-requires
+build-requires c =
     let right : (f : Fault) → IsFault c.args.problem.now (length c.args.text.now) (layout_view c.in_ok-said.said) f → ⊥ = subst (λ o. IsLeast (IsFault c.args.problem.now (length c.args.text.now) (layout_view c.in_ok-said.said)) o) c.in-None.is c.first_fault.ensures in
     let many : length (map line_view c.in_ok-said.said.lines.items) ≡ length c.args.problem.now.objects = as_many c.args.problem.now (length c.args.text.now) (layout_view c.in_ok-said.said) right in
     let size : length c.as_slice-in-None.result.now ≡ length c.in_ok-said.said.lines.items = ap length c.as_slice-in-None.ensures.value in

@@ -18,18 +18,18 @@ without_objects t h = record {
 }
 
 pub new-names-requires : goal.new-names-requires
-new-names-requires c = subst (λ (n : ℕ). n ≤ 1000000000) (sym c.dims.ensures) (said_table c.args.problem.now c.is_said.ensures).dims
+new-names-requires c = subst (λ (n : ℕ). n ≤ 1000000000) (sym c.dims.ensures) (said_table c.args.problem.now c.is_said.ensures.said).dims
 
 pub add_shapes-requires-clause-table : goal.add_shapes-requires-clause-table
 add_shapes-requires-clause-table c =
     let dims : c.args.problem.now.dims ≡ c.new-names.result.dims = sym (ap (λ (t : NameTable). t.dims) c.new-names.ensures ∙ c.dims.ensures) in
     let shapes : c.args.problem.now.shapes ≡ c.shapes.result.now = sym c.shapes.ensures in
     let objects : [] ≡ c.new-names.result.objects = sym (ap (λ (t : NameTable). t.objects) c.new-names.ensures) in
-    subst IsNameTable (λ i. record { dims = dims i; shapes = map shape_name (shapes i); objects = objects i }) (without_objects (name_table c.args.problem.now) (said_table c.args.problem.now c.is_said.ensures))
+    subst IsNameTable (λ i. record { dims = dims i; shapes = map shape_name (shapes i); objects = objects i }) (without_objects (name_table c.args.problem.now) (said_table c.args.problem.now c.is_said.ensures.said))
 
 pub add_objects-requires-clause-table : goal.add_objects-requires-clause-table
 add_objects-requires-clause-table c =
     let dims : c.args.problem.now.dims ≡ c.add_shapes.new.names.dims = sym (ap (λ (t : NameTable). t.dims) c.in_ok-add_shapes.ensures ∙ ap (λ (t : NameTable). t.dims) c.new-names.ensures ∙ c.dims.ensures) in
     let shapes : map shape_name c.args.problem.now.shapes ≡ c.add_shapes.new.names.shapes = sym (ap (λ (t : NameTable). t.shapes) c.in_ok-add_shapes.ensures ∙ ap (λ (ss : List ShapeData). map shape_name ss) c.shapes.ensures) in
     let objects : c.args.problem.now.objects ≡ c.objects.result.now = sym c.objects.ensures in
-    subst IsNameTable (λ i. record { dims = dims i; shapes = shapes i; objects = map named_object (objects i) }) (said_table c.args.problem.now c.is_said.ensures)
+    subst IsNameTable (λ i. record { dims = dims i; shapes = shapes i; objects = map named_object (objects i) }) (said_table c.args.problem.now c.is_said.ensures.said)

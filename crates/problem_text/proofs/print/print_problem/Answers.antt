@@ -10,16 +10,16 @@ returns-clause-bytes g c =
     written_as _ _ c.write_all_bytes.result c.as_slice.result.now (problem_text c.args.problem.now) e c.write_all_bytes.ensures.bytes
 
 pub returns-clause-spelled : goal.returns-clause-spelled
-returns-clause-spelled g c = said_spelled c.args.problem.now c.is_said.ensures
+returns-clause-spelled g c = said_spelled c.args.problem.now c.is_said.ensures.said
 
 pub returns-clause-read_back : goal.returns-clause-read_back
-returns-clause-read_back g c short = said_again c.args.problem.now c.is_said.ensures short
+returns-clause-read_back g c short = said_again c.args.problem.now c.is_said.ensures.said short
 
 pub returns-in_err-text-clause-spelled : goal.returns-in_err-text-clause-spelled
-returns-in_err-text-clause-spelled g c = said_spelled c.args.problem.now c.is_said.ensures
+returns-in_err-text-clause-spelled g c = said_spelled c.args.problem.now c.is_said.ensures.said
 
 pub returns-in_err-text-clause-read_back : goal.returns-in_err-text-clause-read_back
-returns-in_err-text-clause-read_back g c short = said_again c.args.problem.now c.is_said.ensures short
+returns-in_err-text-clause-read_back g c short = said_again c.args.problem.now c.is_said.ensures.said short
 
 pub returns-clause-nothing : goal.returns-clause-nothing
 returns-clause-nothing g c quiet wants = absurd ((c.write_all_bytes.ensures.quiet quiet).1 wants)

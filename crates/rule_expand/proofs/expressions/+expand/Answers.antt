@@ -1,5 +1,6 @@
 use Rattle.std.proofs.Common.{◌∙◌, ℕ, List, ap, sym, map, length, subst, arith}
 use Rattle.std.specs.Prelude.{Option}
+use Rattle.std.proofs.lemmas.Result.{err_from_is_err_and}
 use Rattle.rule_syntax.specs.Tree as tree
 use Rattle.rule_syntax.specs.View.{expr_view, argument_view}
 use Rattle.rule_expand.specs.Plain.{PlainExprTree}
@@ -48,9 +49,10 @@ expand_sum_steps-expand_sum_step-requires t c =
     let h = sums-cost-at (costs_of c.args.problem.now c.args.in_sight) c.args.problem.now (prices c.args.problem.now c.args.scope.now) c.args.steps.now c.loop-step.step-index c.step-item.result c.loop-step-test.true c.step-item.is in
     (omega (arith, h), c.requires)
 
-pub expand_sum_steps-returns-in-Err : goal.expand_sum_steps-returns-in-Err
-expand_sum_steps-returns-in-Err t c =
-    sums-fault (expansions_of c.args.problem.now c.args.in_sight) c.args.problem.now (scope_view c.args.problem.now c.args.scope.now) c.args.steps.now c.loop-step.step-index c.args.room.now c.args.deep c.loop-step.room c.loop-step.made.items c.step-item.result c.in-Err.fault c.loop-step.invariant c.loop-step-test.true c.step-item.is c.in-Err.ensures
+pub expand_sum_steps-returns-in_err-one : goal.expand_sum_steps-returns-in_err-one
+expand_sum_steps-returns-in_err-one t c =
+    let r = err_from_is_err_and c.from_residual.result c.from_residual.ensures.1 in
+    rw (r.1, r.2) (sums-fault (expansions_of c.args.problem.now c.args.in_sight) c.args.problem.now (scope_view c.args.problem.now c.args.scope.now) c.args.steps.now c.loop-step.step-index c.args.room.now c.args.deep c.loop-step.room c.loop-step.made.items c.step-item.result _ c.loop-step.invariant c.loop-step-test.true c.step-item.is c.in_err-one.ensures)
 
 pub expand_sum_steps-returns : goal.expand_sum_steps-returns
 expand_sum_steps-returns t c =
@@ -58,16 +60,17 @@ expand_sum_steps-returns t c =
 
 pub expand_sum_steps-loop-step-preserved : goal.expand_sum_steps-loop-step-preserved
 expand_sum_steps-loop-step-preserved t c =
-    sums-step (expansions_of c.args.problem.now c.args.in_sight) c.args.problem.now (scope_view c.args.problem.now c.args.scope.now) c.args.steps.now c.loop-step.step-index c.args.room.now c.args.deep c.loop-step.room c.expand_sum_step.new.room c.loop-step.made.items c.add_sum.new.steps.items c.step-item.result c.in-Ok.one c.loop-step.invariant c.loop-step-test.true c.step-item.is c.in-Ok.ensures c.in_default.ensures
+    sums-step (expansions_of c.args.problem.now c.args.in_sight) c.args.problem.now (scope_view c.args.problem.now c.args.scope.now) c.args.steps.now c.loop-step.step-index c.args.room.now c.args.deep c.loop-step.room c.expand_sum_step.new.room c.loop-step.made.items c.add_sum.new.steps.items c.step-item.result c.in_ok-one.one c.loop-step.invariant c.loop-step-test.true c.step-item.is c.in_ok-one.ensures c.in_ok-add_sum.ensures
 
 pub expand_product_steps-expand_product_step-requires : goal.expand_product_steps-expand_product_step-requires
 expand_product_steps-expand_product_step-requires t c =
     let h = products-cost-at (costs_of c.args.problem.now c.args.in_sight) c.args.problem.now (prices c.args.problem.now c.args.scope.now) c.args.steps.now c.loop-step.step-index c.step-item.result c.loop-step-test.true c.step-item.is in
     (omega (arith, h), c.requires)
 
-pub expand_product_steps-returns-in-Err : goal.expand_product_steps-returns-in-Err
-expand_product_steps-returns-in-Err t c =
-    products-fault (expansions_of c.args.problem.now c.args.in_sight) c.args.problem.now (scope_view c.args.problem.now c.args.scope.now) c.args.steps.now c.loop-step.step-index c.args.room.now c.args.deep c.loop-step.room c.loop-step.made.items c.step-item.result c.in-Err.fault c.loop-step.invariant c.loop-step-test.true c.step-item.is c.in-Err.ensures
+pub expand_product_steps-returns-in_err-one : goal.expand_product_steps-returns-in_err-one
+expand_product_steps-returns-in_err-one t c =
+    let r = err_from_is_err_and c.from_residual.result c.from_residual.ensures.1 in
+    rw (r.1, r.2) (products-fault (expansions_of c.args.problem.now c.args.in_sight) c.args.problem.now (scope_view c.args.problem.now c.args.scope.now) c.args.steps.now c.loop-step.step-index c.args.room.now c.args.deep c.loop-step.room c.loop-step.made.items c.step-item.result _ c.loop-step.invariant c.loop-step-test.true c.step-item.is c.in_err-one.ensures)
 
 pub expand_product_steps-returns : goal.expand_product_steps-returns
 expand_product_steps-returns t c =
@@ -75,4 +78,4 @@ expand_product_steps-returns t c =
 
 pub expand_product_steps-loop-step-preserved : goal.expand_product_steps-loop-step-preserved
 expand_product_steps-loop-step-preserved t c =
-    products-step (expansions_of c.args.problem.now c.args.in_sight) c.args.problem.now (scope_view c.args.problem.now c.args.scope.now) c.args.steps.now c.loop-step.step-index c.args.room.now c.args.deep c.loop-step.room c.expand_product_step.new.room c.loop-step.made.items c.add_product.new.steps.items c.step-item.result c.in-Ok.one c.loop-step.invariant c.loop-step-test.true c.step-item.is c.in-Ok.ensures c.in_default.ensures
+    products-step (expansions_of c.args.problem.now c.args.in_sight) c.args.problem.now (scope_view c.args.problem.now c.args.scope.now) c.args.steps.now c.loop-step.step-index c.args.room.now c.args.deep c.loop-step.room c.expand_product_step.new.room c.loop-step.made.items c.add_product.new.steps.items c.step-item.result c.in_ok-one.one c.loop-step.invariant c.loop-step-test.true c.step-item.is c.in_ok-one.ensures c.in_ok-add_product.ensures

@@ -3,4 +3,4 @@ use Rattle.rule_ground.proofs.Said.{few-shapes}
 use Rattle.rule_ground.proofs.elements.place_count.Goals as goal
 
 pub overflow_cast-result : goal.overflow_cast-result
-overflow_cast-result c = let h = few-shapes c.args.problem.now c.args.object.0 c.is_said.ensures in omega (arith, h, c.shape_count.ensures)
+overflow_cast-result c = let h = few-shapes c.args.problem.now c.args.object.0 c.is_said.ensures.formed in omega (arith, h, c.shape_count.ensures)

@@ -1,4 +1,5 @@
 use Rattle.std.proofs.Common.{◌≡◌, ℕ, ◌+◌, List, [], ◌∷◌, drop, map, not, true, false, sym, ap, ◌∙◌, arith, subst}
+use Rattle.std.proofs.lemmas.Result.{err_from_is_err_and}
 use Rattle.linear_conditions.specs.CondTree.{cond_view, CondTree}
 use Rattle.linear_conditions.specs.Counts.{Counts, Outcome, Done, and_then, one_leaf, one_visit, visit, within_limits}
 use Rattle.linear_conditions.specs.Faults.{IsFault}
@@ -124,33 +125,35 @@ ground_elements-returns t c =
     _ c.loop-i.counter c.loop-i.children.items c.loop-i.invariant
     (elements-over (element_of c.args.problem.now c.args.asked (fixings_view c.args.fixings.now)) (elements_view c.args.things.now) c.loop-i.i (omega (arith, c.loop-i-test.false, c.len-i-end.ensures)))
 
-pub ground_equivalence-returns-in-Err : goal.ground_equivalence-returns-in-Err
-ground_equivalence-returns-in-Err t c =
+pub ground_equivalence-returns-in_err-first : goal.ground_equivalence-returns-in_err-first
+ground_equivalence-returns-in_err-first t c =
+    let r = err_from_is_err_and c.from_residual.result c.from_residual.ensures.1 in
     let first : Counts → Outcome CondTree = λ j. in_turn true (λ i. grounded c.args.problem.now (plain_formula_view c.args.f.now) true (env_view c.args.env.now) (fixings_view c.args.fixings.now) i) (λ i. grounded c.args.problem.now (plain_formula_view c.args.g.now) c.args.sign (env_view c.args.env.now) (fixings_view c.args.fixings.now) i) j in
     let second : Counts → Outcome CondTree = λ j. in_turn true (λ i. grounded c.args.problem.now (plain_formula_view c.args.f.now) false (env_view c.args.env.now) (fixings_view c.args.fixings.now) i) (λ i. grounded c.args.problem.now (plain_formula_view c.args.g.now) (not c.args.sign) (env_view c.args.env.now) (fixings_view c.args.fixings.now) i) j in
-    turn-fault false first second c.args.counter.now c.in-Err.e c.in-Err.ensures
+    rw (r.1, r.2) (turn-fault false first second c.args.counter.now _ c.in_err-first.ensures)
 
 pub ground_equivalence-returns-then-decides : goal.ground_equivalence-returns-then-decides
 ground_equivalence-returns-then-decides t c =
     let first : Counts → Outcome CondTree = λ j. in_turn true (λ i. grounded c.args.problem.now (plain_formula_view c.args.f.now) true (env_view c.args.env.now) (fixings_view c.args.fixings.now) i) (λ i. grounded c.args.problem.now (plain_formula_view c.args.g.now) c.args.sign (env_view c.args.env.now) (fixings_view c.args.fixings.now) i) j in
     let second : Counts → Outcome CondTree = λ j. in_turn true (λ i. grounded c.args.problem.now (plain_formula_view c.args.f.now) false (env_view c.args.env.now) (fixings_view c.args.fixings.now) i) (λ i. grounded c.args.problem.now (plain_formula_view c.args.g.now) (not c.args.sign) (env_view c.args.env.now) (fixings_view c.args.fixings.now) i) j in
     both_ways _ _ _ _ _ _ _ c.joined_one.ensures
-    (λ x v. turn-stop false first second c.args.counter.now c.ground_pair.new.counter (cond_view c.in-Ok.first) (cond_view x) c.in-Ok.ensures (sym c.decides.ensures ∙ c.if-decides.true) v)
+    (λ x v. turn-stop false first second c.args.counter.now c.ground_pair.new.counter (cond_view c.in_ok-first.first) (cond_view x) c.in_ok-first.ensures (sym c.decides.ensures ∙ c.if-decides.true) v)
     (λ e v. free CondTree (in_turn false first second c.args.counter.now) e v)
 
-pub ground_equivalence-returns-in-Ok-ground_pair : goal.ground_equivalence-returns-in-Ok-ground_pair
-ground_equivalence-returns-in-Ok-ground_pair t c =
+pub ground_equivalence-returns : goal.ground_equivalence-returns
+ground_equivalence-returns t c =
     let first : Counts → Outcome CondTree = λ j. in_turn true (λ i. grounded c.args.problem.now (plain_formula_view c.args.f.now) true (env_view c.args.env.now) (fixings_view c.args.fixings.now) i) (λ i. grounded c.args.problem.now (plain_formula_view c.args.g.now) c.args.sign (env_view c.args.env.now) (fixings_view c.args.fixings.now) i) j in
     let second : Counts → Outcome CondTree = λ j. in_turn true (λ i. grounded c.args.problem.now (plain_formula_view c.args.f.now) false (env_view c.args.env.now) (fixings_view c.args.fixings.now) i) (λ i. grounded c.args.problem.now (plain_formula_view c.args.g.now) (not c.args.sign) (env_view c.args.env.now) (fixings_view c.args.fixings.now) i) j in
     both_ways _ _ _ _ _ _ _ c.joined_two.ensures
-    (λ x v. turn-done false first second c.args.counter.now c.ground_pair.new.counter c.ground_pair-2.new.counter (cond_view c.in-Ok.first) (cond_view c.in-Ok-ground_pair.second) (cond_view x) c.in-Ok.ensures (sym c.decides.ensures ∙ c.if-decides.false) c.in-Ok-ground_pair.ensures v)
+    (λ x v. turn-done false first second c.args.counter.now c.ground_pair.new.counter c.ground_pair-2.new.counter (cond_view c.in_ok-first.first) (cond_view c.in_ok-second.second) (cond_view x) c.in_ok-first.ensures (sym c.decides.ensures ∙ c.if-decides.false) c.in_ok-second.ensures v)
     (λ e v. free CondTree (in_turn false first second c.args.counter.now) e v)
 
-pub ground_equivalence-returns-in-Err-ground_pair : goal.ground_equivalence-returns-in-Err-ground_pair
-ground_equivalence-returns-in-Err-ground_pair t c =
+pub ground_equivalence-returns-in_err-second : goal.ground_equivalence-returns-in_err-second
+ground_equivalence-returns-in_err-second t c =
+    let r = err_from_is_err_and c.from_residual-in_err-second.result c.from_residual-in_err-second.ensures.1 in
     let first : Counts → Outcome CondTree = λ j. in_turn true (λ i. grounded c.args.problem.now (plain_formula_view c.args.f.now) true (env_view c.args.env.now) (fixings_view c.args.fixings.now) i) (λ i. grounded c.args.problem.now (plain_formula_view c.args.g.now) c.args.sign (env_view c.args.env.now) (fixings_view c.args.fixings.now) i) j in
     let second : Counts → Outcome CondTree = λ j. in_turn true (λ i. grounded c.args.problem.now (plain_formula_view c.args.f.now) false (env_view c.args.env.now) (fixings_view c.args.fixings.now) i) (λ i. grounded c.args.problem.now (plain_formula_view c.args.g.now) (not c.args.sign) (env_view c.args.env.now) (fixings_view c.args.fixings.now) i) j in
-    turn-late false first second c.args.counter.now c.ground_pair.new.counter (cond_view c.in-Ok.first) c.in-Err-ground_pair.e c.in-Ok.ensures (sym c.decides.ensures ∙ c.if-decides.false) c.in-Err-ground_pair.ensures
+    rw (r.1, r.2) (turn-late false first second c.args.counter.now c.ground_pair.new.counter (cond_view c.in_ok-first.first) _ c.in_ok-first.ensures (sym c.decides.ensures ∙ c.if-decides.false) c.in_err-second.ensures)
 
 pub ground_group-returns-in-Ok : goal.ground_group-returns-in-Ok
 ground_group-returns-in-Ok t c =
@@ -174,21 +177,22 @@ pub ground_operands-returns-then-stop : goal.ground_operands-returns-then-stop
 ground_operands-returns-then-stop t c =
     walk-stop c.args.problem.now c.args.all c.args.sign (env_view c.args.env.now) (fixings_view c.args.fixings.now)
     (ground_operands c.args.problem.now (plain_formulas_view c.args.fs.now) c.args.all c.args.sign (env_view c.args.env.now) (fixings_view c.args.fixings.now) c.args.counter.now)
-    c.args.fs.now c.loop-f.f-index c.f-item.result c.loop-f.counter c.ground.new.counter c.loop-f.parts.items c.add_cond.new.parts.items c.in-Ok.part c.loop-f.invariant (omega arith) c.f-item.is c.in-Ok.ensures
-    (sym c.decides-stop.ensures ∙ c.if-stop.true) c.in_default.ensures
+    c.args.fs.now c.loop-f.f-index c.f-item.result c.loop-f.counter c.ground.new.counter c.loop-f.parts.items c.add_cond.new.parts.items c.in_ok-part.part c.loop-f.invariant (omega arith) c.f-item.is c.in_ok-part.ensures
+    (sym c.decides-stop.ensures ∙ c.if-stop.true) c.in_ok-add_cond.ensures
 
-pub ground_operands-returns-in-Err : goal.ground_operands-returns-in-Err
-ground_operands-returns-in-Err t c =
-    walk-fault c.args.problem.now c.args.all c.args.sign (env_view c.args.env.now) (fixings_view c.args.fixings.now)
+pub ground_operands-returns-in_err-part : goal.ground_operands-returns-in_err-part
+ground_operands-returns-in_err-part t c =
+    let r = err_from_is_err_and c.from_residual.result c.from_residual.ensures.1 in
+    rw (r.1, r.2) (walk-fault c.args.problem.now c.args.all c.args.sign (env_view c.args.env.now) (fixings_view c.args.fixings.now)
     (ground_operands c.args.problem.now (plain_formulas_view c.args.fs.now) c.args.all c.args.sign (env_view c.args.env.now) (fixings_view c.args.fixings.now) c.args.counter.now)
-    c.args.fs.now c.loop-f.f-index c.f-item.result c.loop-f.counter c.loop-f.parts.items c.in-Err.e c.loop-f.invariant (omega arith) c.f-item.is c.in-Err.ensures
+    c.args.fs.now c.loop-f.f-index c.f-item.result c.loop-f.counter c.loop-f.parts.items _ c.loop-f.invariant (omega arith) c.f-item.is c.in_err-part.ensures)
 
 pub ground_operands-loop-f-preserved : goal.ground_operands-loop-f-preserved
 ground_operands-loop-f-preserved t c =
     walk-step c.args.problem.now c.args.all c.args.sign (env_view c.args.env.now) (fixings_view c.args.fixings.now)
     (ground_operands c.args.problem.now (plain_formulas_view c.args.fs.now) c.args.all c.args.sign (env_view c.args.env.now) (fixings_view c.args.fixings.now) c.args.counter.now)
-    c.args.fs.now c.loop-f.f-index c.f-item.result c.loop-f.counter c.ground.new.counter c.loop-f.parts.items c.add_cond.new.parts.items c.in-Ok.part c.loop-f.invariant (omega arith) c.f-item.is c.in-Ok.ensures
-    (sym c.decides-stop.ensures ∙ c.if-stop.false) c.in_default.ensures
+    c.args.fs.now c.loop-f.f-index c.f-item.result c.loop-f.counter c.ground.new.counter c.loop-f.parts.items c.add_cond.new.parts.items c.in_ok-part.part c.loop-f.invariant (omega arith) c.f-item.is c.in_ok-part.ensures
+    (sym c.decides-stop.ensures ∙ c.if-stop.false) c.in_ok-add_cond.ensures
 
 pub ground_operands-returns : goal.ground_operands-returns
 ground_operands-returns t c =
@@ -196,33 +200,35 @@ ground_operands-returns t c =
     (ground_operands c.args.problem.now (plain_formulas_view c.args.fs.now) c.args.all c.args.sign (env_view c.args.env.now) (fixings_view c.args.fixings.now) c.args.counter.now)
     c.args.fs.now c.loop-f.f-index c.loop-f.counter c.loop-f.parts.items c.loop-f.invariant (omega arith)
 
-pub ground_pair-returns-in-Err : goal.ground_pair-returns-in-Err
-ground_pair-returns-in-Err t c =
+pub ground_pair-returns-in_err-first : goal.ground_pair-returns-in_err-first
+ground_pair-returns-in_err-first t c =
+    let r = err_from_is_err_and c.from_residual.result c.from_residual.ensures.1 in
     let first : Counts → Outcome CondTree = λ j. grounded c.args.problem.now (plain_formula_view c.args.f.now) c.args.f_sign (env_view c.args.env.now) (fixings_view c.args.fixings.now) j in
     let second : Counts → Outcome CondTree = λ j. grounded c.args.problem.now (plain_formula_view c.args.g.now) c.args.g_sign (env_view c.args.env.now) (fixings_view c.args.fixings.now) j in
-    turn-fault c.args.all first second c.args.counter.now c.in-Err.e c.in-Err.ensures
+    rw (r.1, r.2) (turn-fault c.args.all first second c.args.counter.now _ c.in_err-first.ensures)
 
 pub ground_pair-returns-then-decides : goal.ground_pair-returns-then-decides
 ground_pair-returns-then-decides t c =
     let first : Counts → Outcome CondTree = λ j. grounded c.args.problem.now (plain_formula_view c.args.f.now) c.args.f_sign (env_view c.args.env.now) (fixings_view c.args.fixings.now) j in
     let second : Counts → Outcome CondTree = λ j. grounded c.args.problem.now (plain_formula_view c.args.g.now) c.args.g_sign (env_view c.args.env.now) (fixings_view c.args.fixings.now) j in
     both_ways _ _ _ _ _ _ _ c.joined_one.ensures
-    (λ x v. turn-stop c.args.all first second c.args.counter.now c.ground.new.counter (cond_view c.in-Ok.first) (cond_view x) c.in-Ok.ensures (sym c.decides.ensures ∙ c.if-decides.true) v)
+    (λ x v. turn-stop c.args.all first second c.args.counter.now c.ground.new.counter (cond_view c.in_ok-first.first) (cond_view x) c.in_ok-first.ensures (sym c.decides.ensures ∙ c.if-decides.true) v)
     (λ e v. free CondTree (in_turn c.args.all first second c.args.counter.now) e v)
 
-pub ground_pair-returns-in-Ok-ground : goal.ground_pair-returns-in-Ok-ground
-ground_pair-returns-in-Ok-ground t c =
+pub ground_pair-returns : goal.ground_pair-returns
+ground_pair-returns t c =
     let first : Counts → Outcome CondTree = λ j. grounded c.args.problem.now (plain_formula_view c.args.f.now) c.args.f_sign (env_view c.args.env.now) (fixings_view c.args.fixings.now) j in
     let second : Counts → Outcome CondTree = λ j. grounded c.args.problem.now (plain_formula_view c.args.g.now) c.args.g_sign (env_view c.args.env.now) (fixings_view c.args.fixings.now) j in
     both_ways _ _ _ _ _ _ _ c.joined_two.ensures
-    (λ x v. turn-done c.args.all first second c.args.counter.now c.ground.new.counter c.ground-2.new.counter (cond_view c.in-Ok.first) (cond_view c.in-Ok-ground.second) (cond_view x) c.in-Ok.ensures (sym c.decides.ensures ∙ c.if-decides.false) c.in-Ok-ground.ensures v)
+    (λ x v. turn-done c.args.all first second c.args.counter.now c.ground.new.counter c.ground-2.new.counter (cond_view c.in_ok-first.first) (cond_view c.in_ok-second.second) (cond_view x) c.in_ok-first.ensures (sym c.decides.ensures ∙ c.if-decides.false) c.in_ok-second.ensures v)
     (λ e v. free CondTree (in_turn c.args.all first second c.args.counter.now) e v)
 
-pub ground_pair-returns-in-Err-ground : goal.ground_pair-returns-in-Err-ground
-ground_pair-returns-in-Err-ground t c =
+pub ground_pair-returns-in_err-second : goal.ground_pair-returns-in_err-second
+ground_pair-returns-in_err-second t c =
+    let r = err_from_is_err_and c.from_residual-in_err-second.result c.from_residual-in_err-second.ensures.1 in
     let first : Counts → Outcome CondTree = λ j. grounded c.args.problem.now (plain_formula_view c.args.f.now) c.args.f_sign (env_view c.args.env.now) (fixings_view c.args.fixings.now) j in
     let second : Counts → Outcome CondTree = λ j. grounded c.args.problem.now (plain_formula_view c.args.g.now) c.args.g_sign (env_view c.args.env.now) (fixings_view c.args.fixings.now) j in
-    turn-late c.args.all first second c.args.counter.now c.ground.new.counter (cond_view c.in-Ok.first) c.in-Err-ground.e c.in-Ok.ensures (sym c.decides.ensures ∙ c.if-decides.false) c.in-Err-ground.ensures
+    rw (r.1, r.2) (turn-late c.args.all first second c.args.counter.now c.ground.new.counter (cond_view c.in_ok-first.first) _ c.in_ok-first.ensures (sym c.decides.ensures ∙ c.if-decides.false) c.in_err-second.ensures)
 
 pub ground_place-returns-in-Err : goal.ground_place-returns-in-Err
 ground_place-returns-in-Err t c = then-fault Counts CondTree (within_limits (one_leaf (one_visit c.args.counter.now))) _ c.in-Err.e (past-fault (within_limits (one_leaf (one_visit c.args.counter.now))) c.in-Err.e c.in-Err.ensures)
@@ -247,16 +253,17 @@ ground_place-returns-in-Err-ground t c =
     step-fault (within_limits (one_leaf (one_visit c.args.counter.now))) _ c.visit_split.new.self c.in-Err-ground.e c.in_default.ensures
     (then-fault CondTree CondTree o _ c.in-Err-ground.e (subst (λ u. IsFault CondTree u c.in-Err-ground.e) (sym e) c.in-Err-ground.ensures))
 
-pub ground_places-returns-in-Err : goal.ground_places-returns-in-Err
-ground_places-returns-in-Err t c =
+pub ground_places-returns-in_err-child : goal.ground_places-returns-in_err-child
+ground_places-returns-in_err-child t c =
+    let r = err_from_is_err_and c.from_residual.result c.from_residual.ensures.1 in
     let body = body_at c.args.problem.now c.args.site.now in
     let fix = fixings_view c.args.fixings.now in
     let go : ℕ → Counts → Outcome (List CondTree) = λ s j. alone (ground_place body c.args.manner fix c.args.object.0 s j) in
     let whole = ground_places c.args.problem.now body c.args.manner fix c.args.object.0 c.args.counter.now in
-    fault-behind (map cond_view c.args.children.now.items) whole c.in-Err.e
-    (gather-failed ℕ go (behind (map cond_view c.args.children.now.items) whole) (drop c.loop-before.before (places c.args.problem.now c.args.object.0)) (drop (c.loop-before.before + 1) (places c.args.problem.now c.args.object.0)) (c.loop-before.before + 1) c.loop-before.counter c.loop-before.children.items c.in-Err.e c.loop-before.invariant
+    rw (r.1, r.2) (fault-behind (map cond_view c.args.children.now.items) whole _
+    (gather-failed ℕ go (behind (map cond_view c.args.children.now.items) whole) (drop c.loop-before.before (places c.args.problem.now c.args.object.0)) (drop (c.loop-before.before + 1) (places c.args.problem.now c.args.object.0)) (c.loop-before.before + 1) c.loop-before.counter c.loop-before.children.items _ c.loop-before.invariant
     (place-at c.args.problem.now c.args.object.0 c.loop-before.before c.place_count-before-end.result c.place_count-before-end.ensures c.loop-before-test.true)
-    (alone-fault (ground_place body c.args.manner fix c.args.object.0 (c.loop-before.before + 1) c.loop-before.counter) c.in-Err.e c.in-Err.ensures))
+    (alone-fault (ground_place body c.args.manner fix c.args.object.0 (c.loop-before.before + 1) c.loop-before.counter) _ c.in_err-child.ensures)))
 
 pub ground_places-loop-before-preserved : goal.ground_places-loop-before-preserved
 ground_places-loop-before-preserved t c =
@@ -266,7 +273,7 @@ ground_places-loop-before-preserved t c =
     let whole = ground_places c.args.problem.now body c.args.manner fix c.args.object.0 c.args.counter.now in
     gather-walk ℕ go (behind (map cond_view c.args.children.now.items) whole) (drop c.loop-before.before (places c.args.problem.now c.args.object.0)) (drop (c.loop-before.before + 1) (places c.args.problem.now c.args.object.0)) (c.loop-before.before + 1) c.loop-before.counter c.ground_place.new.counter c.loop-before.children.items c.add_cond.new.parts.items c.loop-before.invariant
     (place-at c.args.problem.now c.args.object.0 c.loop-before.before c.place_count-before-end.result c.place_count-before-end.ensures c.loop-before-test.true)
-    (appended c.loop-before.children.items c.add_cond.new.parts.items (ground_place body c.args.manner fix c.args.object.0 (c.loop-before.before + 1) c.loop-before.counter) c.in-Ok.child c.ground_place.new.counter c.in-Ok.ensures c.in_default.ensures)
+    (appended c.loop-before.children.items c.add_cond.new.parts.items (ground_place body c.args.manner fix c.args.object.0 (c.loop-before.before + 1) c.loop-before.counter) c.in_ok-child.child c.ground_place.new.counter c.in_ok-child.ensures c.in_ok-add_cond.ensures)
 
 pub ground_places-returns : goal.ground_places-returns
 ground_places-returns t c =

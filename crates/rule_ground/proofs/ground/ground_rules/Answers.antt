@@ -7,18 +7,15 @@ use Rattle.rule_ground.proofs.CalmRules.{all-calm}
 use Rattle.rule_ground.proofs.Fit.{grounded-fit}
 use Rattle.rule_ground.proofs.Grounded.{of-conditions, of-problem, told}
 use Rattle.rule_ground.proofs.Meaning.{all-ranges, ground-meant}
-use Rattle.rule_ground.proofs.Said.{said-formed, said-small}
+use Rattle.rule_ground.proofs.Said.{said-small}
 use Rattle.rule_ground.proofs.ground.ground_rules.Goals as goal
 
-pub ground_each-requires-clause-problem : goal.ground_each-requires-clause-problem
-ground_each-requires-clause-problem c = said-formed c.args.problem.now c.is_said.ensures
-
 pub ground_each-requires-clause-shapes : goal.ground_each-requires-clause-shapes
-ground_each-requires-clause-shapes c = said-small c.args.problem.now c.is_said.ensures
+ground_each-requires-clause-shapes c = said-small c.args.problem.now c.is_said.ensures.said
 
 pub ground_each-requires-clause-ranges : goal.ground_each-requires-clause-ranges
 ground_each-requires-clause-ranges c =
-    subst (All (λ (r : PlainRuleData). HasRanges c.args.problem.now r.demand)) (sym c.requires.rules) (all-ranges c.args.problem.now (said-formed c.args.problem.now c.is_said.ensures))
+    subst (All (λ (r : PlainRuleData). HasRanges c.args.problem.now r.demand)) (sym c.requires.rules) (all-ranges c.args.problem.now c.is_said.ensures.formed)
 
 pub returns-clause-conditions : goal.returns-clause-conditions
 returns-clause-conditions c = told c.args.problem.now _ (of-problem c.args.problem.now (map plain_rule_data c.args.rules.now) _ c.requires.rules c.ground_each.ensures)
@@ -26,14 +23,14 @@ returns-clause-conditions c = told c.args.problem.now _ (of-problem c.args.probl
 pub returns-clause-meaning : goal.returns-clause-meaning
 returns-clause-meaning c =
     of-conditions c.args.problem.now _ _ (of-problem c.args.problem.now (map plain_rule_data c.args.rules.now) _ c.requires.rules c.ground_each.ensures)
-    (λ v h. ground-meant c.args.problem.now v.items (said-formed c.args.problem.now c.is_said.ensures) c.requires.expands h)
+    (λ v h. ground-meant c.args.problem.now v.items c.is_said.ensures.formed c.requires.expands h)
 
 pub returns-clause-fit : goal.returns-clause-fit
 returns-clause-fit c =
     of-conditions c.args.problem.now _ _ (of-problem c.args.problem.now (map plain_rule_data c.args.rules.now) _ c.requires.rules c.ground_each.ensures)
-    (λ v h. grounded-fit c.args.problem.now (said-formed c.args.problem.now c.is_said.ensures) v.items h)
+    (λ v h. grounded-fit c.args.problem.now c.is_said.ensures.formed v.items h)
 
 pub returns-clause-calm : goal.returns-clause-calm
 returns-clause-calm c =
     of-conditions c.args.problem.now _ _ (of-problem c.args.problem.now (map plain_rule_data c.args.rules.now) _ c.requires.rules c.ground_each.ensures)
-    (λ v h t is. subst (λ rs. AreCalm c.args.problem.now t rs) (sym c.requires.rules) (all-calm c.args.problem.now t _ (said-formed c.args.problem.now c.is_said.ensures) is c.requires.expands h))
+    (λ v h t is. subst (λ rs. AreCalm c.args.problem.now t rs) (sym c.requires.rules) (all-calm c.args.problem.now t _ c.is_said.ensures.formed is c.requires.expands h))

@@ -1,7 +1,7 @@
 use Rattle.std.proofs.Common.{◌≡◌, map, take}
 use Rattle.geo_conditions.specs.Order.{numbers_of}
 use Rattle.rule_ground.specs.Order.{runs_down}
-use Rattle.rule_ground.proofs.beginning.order.made_order.Given as goal
+use Rattle.rule_ground.proofs.beginning.order.search_order.Given as goal
 
 abbrev pub invariant-loop-o : goal.invariant-loop-o
 invariant-loop-o l = numbers_of l.objects.items ≡ take l.o-index l.o-items
