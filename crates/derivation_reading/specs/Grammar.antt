@@ -10,9 +10,10 @@
 --   covers = '[' { NAME cover } ']'
 --   cover  = 'by' NUM | 'cut' NUM int cover cover | 'from' NUM int cover cover
 --   int    = [ '-' ] NUM
-use Rattle.std.specs.Prelude.{◌≡◌, ◌-◌, ◌<◌, ◌≤◌, ◌==◌, ◌&&◌, nat_le, ℕ, ℤ, pos, neg_ℤ, suc, List, [], ◌∷◌, ◌++◌, map, length, codes, slice_index_or, Option, Some, None, if◌then◌else◌}
+use Rattle.std.specs.Prelude.{◌≡◌, ◌-◌, ◌<◌, ◌≤◌, ◌==◌, ◌&&◌, nat_le, ℕ, Bool, ℤ, pos, neg_ℤ, suc, List, [], ◌∷◌, ◌++◌, length, codes, slice_index_or, Option, Some, None, option_map, if◌then◌else◌}
+use Rattle.std.specs.List.{position}
 use Rattle.std.specs.Str.{bytes_eq}
-use Rattle.geo_tokens.specs.Names.{NameTable, object_names}
+use Rattle.geo_tokens.specs.Names.{NameTable}
 use Rattle.geo_conditions.specs.declared.object.ObjId.{ObjId}
 use Rattle.derivation.specs.declared.event.Event.{Event}
 use Rattle.derivation.specs.declared.event.Event.TheVariants as events
@@ -35,20 +36,19 @@ pub record Lookup : Type 0 where
   pub place : ℕ → List ℕ → Option ℕ
   pub dimension : ℕ → Option ℕ
 
--- the position of the first that is the same, where the list begins with the position n
-abbrev pub position_from : ℕ → List (List ℕ) → List ℕ → Option ℕ
-position_from n [] name = None
-position_from n (x ∷ xs) name = if bytes_eq x name then Some n else position_from (suc n) xs name
+-- the shape at that position has this name
+abbrev pub has_name : NameTable → List ℕ → ℕ → Bool
+has_name n name s = bytes_eq name (slice_index_or n.shapes s [])
 
--- the names of the object's shapes, in the order of its list
-abbrev pub shape_names : NameTable → ℕ → List (List ℕ)
-shape_names n o = map (λ s. slice_index_or n.shapes s []) (slice_index_or n.objects o ([], [])).1
+-- the positions of the object's shapes
+abbrev pub shapes_of : NameTable → ℕ → List ℕ
+shapes_of n o = (slice_index_or n.objects o ([], [])).1
 
 -- by a table of names
 abbrev pub lookup : NameTable → Lookup
 lookup n = record {
-  object = λ name. position_from 0 (object_names n) name;
-  place = λ o name. position_from 1 (shape_names n o) name;
+  object = λ name. position (λ o. bytes_eq name o.0) n.objects;
+  place = λ o name. option_map suc (position (has_name n name) (shapes_of n o));
   dimension = λ d. if nat_le 1 d && nat_le d n.dims then Some (d - 1) else None;
 }
 
