@@ -86,6 +86,10 @@ node_by w more =
   else if bytes_eq w (codes "dead") then goes (DeadNumber ∷ more)
   else Wrong
 
+-- the words that begin a text
+abbrev pub text_by : List ℕ → Next
+text_by w = if bytes_eq w (codes "none") then goes (Node ∷ Qed ∷ []) else node_by w (Qed ∷ [])
+
 -- the words that begin a cover
 abbrev pub cover_by : List ℕ → Next
 cover_by w =
@@ -121,7 +125,7 @@ cut_at From d v = events.CutFrom d v
 
 -- the productions
 abbrev pub next : Lookup → Symbol → Terminal → List ℕ → Next
-next L Text terminals.Name w = if bytes_eq w (codes "none") then goes (Node ∷ Qed ∷ []) else node_by w (Qed ∷ [])
+next L Text terminals.Name w = text_by w
 next L Node terminals.Name w = node_by w []
 next L Qed terminals.Qed w = goes []
 next L SplitObject terminals.Name w = known (L.object w) (λ o. goes (SplitBy (an o) ∷ []))

@@ -1,5 +1,6 @@
 pub mod Terminals
 pub mod Grammar
+pub mod Outcomes
 pub mod Machine
 pub mod Begins
 pub mod FirstFault

@@ -2,7 +2,8 @@
 #![tactic(auto)]
 
 mod names;
+mod production;
 mod symbol;
 
-pub use names::{dimension_of, object_of, place_of};
+pub use production::{Behind, Outcome, next};
 pub use symbol::{Part, Sign, Symbol, Terminal, terminal_of};

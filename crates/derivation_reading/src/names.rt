@@ -6,14 +6,25 @@ ghost use Rattle.derivation_reading.specs.Grammar.{has_name, lookup};
 use geo_conditions::ObjId;
 use geo_tokens::names::Names;
 
-/// The number of the object with this name.
-pub fn object_of(names: &Names, name: &[u8]) -> Option<usize>
-    ensures { result ≡ (lookup names.now).object name.now }
+// The number of the first object with this name.
+fn number_of(names: &Names, name: &[u8]) -> Option<usize>
+    ensures number { result ≡ (lookup names.now).object name.now }
+    ensures within { MatchOption result ⊤ (λ o. o < 200) }
 {
     names
         .objects()
         .iter()
         .position(|o| name == o.name().as_bytes())
+}
+
+/// The object with this name.
+pub fn object_of(names: &Names, name: &[u8]) -> Option<ObjId>
+    ensures { option_map (λ o. o.0) result ≡ (lookup names.now).object name.now }
+{
+    match number_of(names, name) {
+        Some(number) => Some(ObjId(number as u16)),
+        None => None,
+    }
 }
 
 fn has_name(names: &Names, name: &[u8], shape: u16) -> bool
@@ -41,11 +52,10 @@ fn position_among(names: &Names, shapes: &[u16], name: &[u8]) -> Option<usize>
 
 /// The place, from 1, of the shape with this name in the list of the object.
 pub fn place_of(names: &Names, o: ObjId, name: &[u8]) -> Option<u8>
-    requires { o.0 < length names.now.objects }
     ensures { result ≡ (lookup names.now).place o.0 name.now }
 {
-    let shapes = names.objects()[o.0 as usize].shapes();
-    let at = position_among(names, shapes, name)?;
+    let object = names.objects().get(o.0 as usize)?;
+    let at = position_among(names, object.shapes(), name)?;
     Some(at as u8 + 1)
 }
 
