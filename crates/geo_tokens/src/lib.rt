@@ -3,9 +3,9 @@
 
 pub mod fault;
 pub mod first_end;
-mod front;
+pub mod front;
 pub mod lexer;
-mod lookup;
+pub mod lookup;
 pub mod name;
 pub mod names;
 pub mod stop;
