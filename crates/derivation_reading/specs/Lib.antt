@@ -4,3 +4,4 @@ pub mod Outcomes
 pub mod Machine
 pub mod Begins
 pub mod FirstFault
+pub mod Feeding

@@ -1,0 +1,60 @@
+-- How far the reading of a text in pieces has come.
+use Rattle.std.specs.Prelude.{◌≡◌, ◌+◌, ◌≤◌, ◌^◌, ℕ, List, ◌∷◌, ◌++◌, Bool, true, false, length, reverse, Result, Ok, Err}
+use Rattle.geo_tokens.specs.declared.token.Token.{Token}
+use Rattle.geo_tokens.specs.declared.fault.TextFault.{TextFault}
+use Rattle.geo_tokens.specs.declared.fault.TextFault.TheVariants as faults
+use Rattle.geo_tokens.specs.Names.{NameTable}
+use Rattle.token_stream.specs.Stream.{Has}
+use Rattle.derivation.specs.declared.event.Event.{Event}
+use Rattle.derivation_reading.specs.declared.symbol.Symbol.{Symbol}
+use Rattle.derivation_reading.specs.declared.feeder.Progress.{Progress}
+use Rattle.derivation_reading.specs.declared.feeder.Progress.TheVariants.{Open, Done, Failed}
+use Rattle.derivation_reading.specs.declared.feeder.Feeder.{Feeder}
+use Rattle.derivation_reading.specs.Terminals.{lexemes}
+use Rattle.derivation_reading.specs.Grammar.{lookup}
+use Rattle.derivation_reading.specs.Machine.{Opens}
+use Rattle.derivation_reading.specs.FirstFault.{most_bytes, IsText, HasFirstFault}
+
+-- The text so far: its whole tokens begin a derivation, behind them this symbol may come, and these events are whole.
+pub record IsOpen (f : Feeder) (text : List ℕ) (es : List Event) (s : Symbol) : Type 0 where
+  pub tokens : List Token
+  pub has : Has f.stream text tokens
+  pub opens : Opens (lookup f.names.now) (lexemes text tokens) (s ∷ reverse f.behind.items) es
+  pub short : length text ≤ most_bytes
+
+-- the first fault of the text, which begins at the place `from` of the input
+abbrev pub HasFaultFrom : NameTable → ℕ → List ℕ → TextFault → Type 0
+HasFaultFrom n from text (faults.At place word) = (within : ℕ) × (place ≡ from + within) × HasFirstFault n text within word
+HasFaultFrom n from text faults.Memory = Unit {0}
+
+-- Where this text has come, with these events, the reading is that far. Whatever comes behind `qed` or a fault changes nothing.
+abbrev pub IsAt : Feeder → Progress → List ℕ → List Event → Type 0
+IsAt f (Open s) text es = IsOpen f text es s
+IsAt f Done text es = (more : List ℕ) → IsText f.names.now (text ++ more) es
+IsAt f (Failed fault) text es = (more : List ℕ) → HasFaultFrom f.names.now f.place (text ++ more) fault
+
+pub record HasCome (f : Feeder) (text : List ℕ) (es : List Event) : Type 0 where
+  pub place : f.place ≤ 2 ^ 62
+  pub far : IsAt f f.progress text es
+
+-- and where the text has ended
+abbrev pub IsAtEnd : Feeder → Progress → List ℕ → List Event → Type 0
+IsAtEnd f (Open s) text es = ⊥
+IsAtEnd f Done text es = IsText f.names.now text es
+IsAtEnd f (Failed fault) text es = HasFaultFrom f.names.now f.place text fault
+
+-- A piece was taken, and the events that are whole with it were recorded.
+abbrev pub Comes : Feeder → Feeder → List ℕ → List Event → List Event → Type 0
+Comes old new piece before later = (text : List ℕ) (es : List Event) → HasCome old text es
+    → (more : List Event) × (later ≡ before ++ more) × HasCome new (text ++ piece) (es ++ more)
+
+-- The text has ended, and the events that are whole with its end were recorded.
+abbrev pub Ends : Feeder → Feeder → List Event → List Event → Type 0
+Ends old new before later = (text : List ℕ) (es : List Event) → HasCome old text es
+    → (more : List Event) × (later ≡ before ++ more) × IsAtEnd new new.progress text (es ++ more)
+
+-- what is answered
+abbrev pub answer_of : Progress → Result Bool TextFault
+answer_of (Open s) = Ok false
+answer_of Done = Ok true
+answer_of (Failed fault) = Err fault

@@ -1,0 +1,204 @@
+//! Reading a derivation in pieces.
+
+ghost use Rattle.std.specs.Prelude.{◌≡◌, ◌≤◌, ◌^◌, [], ◌∷◌, IfOk};
+ghost use Rattle.derivation_reading.specs.Feeding.{Comes, Ends, HasCome, answer_of};
+
+use crate::production::{Behind, Outcome, next};
+use crate::symbol::{Symbol, terminal_of};
+use derivation::{Log, Recorder};
+use geo_tokens::fault::{FaultWord, TextFault};
+use geo_tokens::names::Names;
+use geo_tokens::token::{Kind, Token};
+use std::alloc::{AllocError, Global};
+use std::cmp::Ordering;
+use token_stream::{Taken, TokenStream};
+
+/// How many bytes a text may have up to its word `qed`.
+const MOST_BYTES: u64 = 1 << 40;
+
+/// How far the reading has come.
+#[derive(Clone, Copy)]
+pub enum Progress {
+    /// What may come next.
+    Open(Symbol),
+    /// The word `qed` came.
+    Done,
+    /// The text is no derivation.
+    Failed(TextFault),
+}
+
+/// A derivation that comes in pieces. Of its text only what is open is kept.
+#[derive(Drop)]
+pub struct Feeder<'a> {
+    names: &'a Names,
+    place: u64,
+    stream: TokenStream,
+    progress: Progress,
+    /// What may come behind it, the next one last.
+    behind: Vec<Symbol>,
+}
+
+impl<'a> Feeder<'a> {
+    /// Before the first piece of a text that begins at this place of the input. It takes no memory.
+    pub fn start(alloc: Global, names: &'a Names, place: u64) -> Feeder<'a>
+        requires place { place ≤ 2 ^ 62 }
+        ensures { HasCome result [] [] }
+    {
+        Feeder {
+            names,
+            place,
+            stream: TokenStream::start(),
+            progress: Progress::Open(Symbol::Text),
+            behind: Vec::new(alloc),
+        }
+    }
+
+    /// Takes the next piece, and records the events that are whole with it. True where the word `qed` came.
+    pub fn feed(&mut self, piece: &[u8], out: &mut Log) -> Result<bool, TextFault>
+        ensures come { Comes self.old self.new piece.now out.old.events out.new.events }
+        ensures answer { result ≡ answer_of self.new.progress }
+    {
+        for byte in piece {
+            self.take(*byte, out);
+        }
+        self.answer()
+    }
+
+    /// The text has ended. It is true where it is a derivation.
+    pub fn finish(&mut self, out: &mut Log) -> Result<bool, TextFault>
+        ensures ended { Ends self.old self.new out.old.events out.new.events }
+        ensures answer { result ≡ answer_of self.new.progress }
+    {
+        if let Progress::Open(symbol) = self.progress {
+            self.end(symbol, out);
+        }
+        self.answer()
+    }
+
+    fn answer(&self) -> Result<bool, TextFault>
+        ensures { result ≡ answer_of self.now.progress }
+    {
+        match self.progress {
+            Progress::Open(_) => Ok(false),
+            Progress::Done => Ok(true),
+            Progress::Failed(fault) => Err(fault),
+        }
+    }
+
+    fn fail(&mut self, place: u64, word: FaultWord) {
+        let place = self.place.saturating_add(place);
+        self.progress = Progress::Failed(TextFault::At(place, word));
+    }
+
+    // Takes a byte, unless the reading has ended.
+    fn take(&mut self, byte: u8, out: &mut Log)
+        ensures { Comes self.old self.new (byte ∷ []) out.old.events out.new.events }
+    {
+        if let Progress::Open(symbol) = self.progress {
+            match self.stream.count().cmp(&MOST_BYTES) {
+                Ordering::Less => self.take_next(symbol, byte, out),
+                Ordering::Equal => self.take_last(symbol, byte, out),
+                Ordering::Greater => {}
+            }
+        }
+    }
+
+    // Takes a byte that a text may have.
+    fn take_next(&mut self, symbol: Symbol, byte: u8, out: &mut Log) {
+        match self.stream.take(byte) {
+            Taken::Nothing => {}
+            Taken::Token(token) => self.accept(symbol, token, out),
+            Taken::Fault(place, word) => self.fail(place, word),
+            Taken::TokenAndFault(token, place) => {
+                self.accept(symbol, token, out);
+                if let Progress::Open(_) = self.progress {
+                    self.fail(place, FaultWord::Byte);
+                }
+            }
+        }
+    }
+
+    // Takes the byte behind the last one that a text may have.
+    fn take_last(&mut self, symbol: Symbol, byte: u8, out: &mut Log) {
+        match self.stream.take(byte) {
+            Taken::Token(token) | Taken::TokenAndFault(token, _) => self.accept(symbol, token, out),
+            Taken::Fault(place, word) if place < MOST_BYTES => self.fail(place, word),
+            _ => {}
+        }
+        if let Progress::Open(_) = self.progress {
+            self.fail(MOST_BYTES, FaultWord::Long);
+        }
+    }
+
+    // The text has ended where this may come next.
+    fn end(&mut self, symbol: Symbol, out: &mut Log) {
+        match self.stream.finish() {
+            Taken::Token(token) => self.accept(symbol, token, out),
+            Taken::Fault(place, word) => self.fail(place, word),
+            _ => {}
+        }
+        if let Progress::Open(_) = self.progress {
+            let count = self.stream.count();
+            let word = if count < MOST_BYTES { FaultWord::Syntax } else { FaultWord::Long };
+            self.fail(count, word);
+        }
+    }
+
+    // A token is whole.
+    fn accept(&mut self, symbol: Symbol, token: Token, out: &mut Log) {
+        let name = match token.kind {
+            Kind::Name => self.stream.name(),
+            _ => b"".as_slice(),
+        };
+        match next(self.names, symbol, terminal_of(token.kind), name) {
+            Outcome::Wrong => self.fail(token.start, FaultWord::Syntax),
+            Outcome::Unknown => self.fail(token.start, FaultWord::Unknown),
+            Outcome::Goes(behind) => self.go_on(behind),
+            Outcome::Gives(event, behind) => match out.add(event) {
+                Ok(()) => self.go_on(behind),
+                Err(AllocError) => self.progress = Progress::Failed(TextFault::Memory),
+            },
+        }
+    }
+
+    // This comes in the place of what was open.
+    fn go_on(&mut self, behind: Behind) {
+        match behind {
+            Behind::Nothing => self.close(),
+            Behind::One(symbol) => self.progress = Progress::Open(symbol),
+            Behind::Two(symbol, other) => self.open(symbol, other),
+        }
+    }
+
+    // What was open is whole.
+    fn close(&mut self) {
+        self.progress = match self.behind.pop() {
+            Some(symbol) => Progress::Open(symbol),
+            None => Progress::Done,
+        };
+    }
+
+    fn open(&mut self, symbol: Symbol, other: Symbol) {
+        self.progress = match self.behind.push(other) {
+            Ok(()) => Progress::Open(symbol),
+            Err(_) => Progress::Failed(TextFault::Memory),
+        };
+    }
+}
+
+/// Reads a whole text that begins at this place of the input.
+pub fn read_derivation(
+    alloc: Global,
+    names: &Names,
+    text: &[u8],
+    place: u64,
+) -> Result<Log, TextFault>
+    requires place { place ≤ 2 ^ 62 }
+{
+    let mut log = Log::new(alloc);
+    let mut feeder = Feeder::start(alloc, names, place);
+    if !feeder.feed(text, &mut log)? {
+        feeder.finish(&mut log)?;
+    }
+    Ok(log)
+}
