@@ -1,1 +1,4 @@
+pub mod Run
 pub mod Stream
+pub mod Ended
+pub mod Word

@@ -1,5 +1,8 @@
-//! A text that comes byte by byte, cut into tokens.
+//! A text that comes byte by byte, cut into tokens as soon as they are whole.
 #![tactic(auto)]
 
-/// How many bytes a name may have.
-pub const NAME_BYTES: usize = 40;
+mod run;
+mod stream;
+mod word;
+
+pub use stream::{Taken, TokenStream};
