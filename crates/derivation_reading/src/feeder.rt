@@ -121,7 +121,8 @@ impl<'a> Feeder<'a> {
     // Takes the byte behind the last one that a text may have.
     fn take_last(&mut self, symbol: Symbol, byte: u8, out: &mut Log) {
         match self.stream.take(byte) {
-            Taken::Token(token) | Taken::TokenAndFault(token, _) => self.accept(symbol, token, out),
+            Taken::Token(token) => self.accept(symbol, token, out),
+            Taken::TokenAndFault(token, _) => self.accept(symbol, token, out),
             Taken::Fault(place, word) if place < MOST_BYTES => self.fail(place, word),
             _ => {}
         }

@@ -14,7 +14,7 @@ use geo_tokens::fault::FaultWord;
 use geo_tokens::token::{Kind, Token};
 
 /// What a byte, or the end of the text, completed.
-#[derive(Debug)]
+#[derive(Clone, Copy, Debug)]
 pub enum Taken {
     /// Nothing.
     Nothing,
