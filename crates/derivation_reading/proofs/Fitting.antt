@@ -1,11 +1,11 @@
 -- The events of what was read name objects, places and dimensions that exist, and small numbers.
 use Rattle.std.proofs.Common.{◌≡◌, ◌+◌, ◌-◌, ◌<◌, ◌≤◌, ◌&&◌, ℕ, ℤ, pos, negsuc, ◌≤ℤ◌, Bool, true, false, List, [], ◌∷◌, ◌++◌, length, Option, Some, None, if◌then◌else◌, refl, sym, subst, arith}
-use Rattle.std.specs.Prelude.{codes, nat_le, slice_index_or}
+use Rattle.std.specs.Prelude.{codes, nat_le, slice_index_or, suc, option_map}
 use Rattle.std.specs.Str.{bytes_eq}
-use Rattle.std.specs.List.{All, AllByRecursion}
+use Rattle.std.specs.List.{All, AllByRecursion, position}
 use Rattle.std.proofs.lemmas.Int.{ints}
 use Rattle.std.proofs.lemmas.Bool.{leb-true, and_parts}
-use Rattle.std.proofs.lemmas.List.{length-map}
+use Rattle.std.proofs.lemmas.List.Quantifiers.{position-Some}
 use Rattle.std.proofs.lemmas.List.Elements.{All-nil, All-cons, All-get_or, All-from_recursion, recursion_from_All}
 use Rattle.geo_tokens.specs.declared.token.Token.{Token}
 use Rattle.geo_tokens.specs.declared.token.Kind.{Kind}
@@ -14,7 +14,7 @@ use Rattle.geo_tokens.specs.declared.token.Keyword.TheVariants as keywords
 use Rattle.geo_tokens.specs.declared.token.Sym.TheVariants as symbols
 use Rattle.geo_tokens.specs.Cut.{Cut, IsToken}
 use Rattle.geo_tokens.specs.Cut as cuts
-use Rattle.geo_tokens.specs.Names.{NameTable, IsNameTable, IsShapeList, object_names}
+use Rattle.geo_tokens.specs.Names.{NameTable, IsNameTable, IsShapeList}
 use Rattle.geo_conditions.specs.declared.object.ObjId.{ObjId}
 use Rattle.derivation.specs.declared.event.Event.{Event}
 use Rattle.derivation.specs.Fits.{EventFits, IsPlace}
@@ -27,9 +27,8 @@ use Rattle.derivation_reading.specs.declared.symbol.Symbol.TheVariants.{Text, No
 use Rattle.derivation_reading.specs.declared.symbol.Terminal.{Terminal}
 use Rattle.derivation_reading.specs.declared.symbol.Terminal.TheVariants as terminals
 use Rattle.derivation_reading.specs.Terminals.{Lexeme, lexeme, lexemes, terminal_of}
-use Rattle.derivation_reading.specs.Grammar.{Lookup, lookup, shape_names, position_from, Next, Wrong, Unknown, Goes, known, signed, split_at, bound_at, cut_at, node_by, cover_by, part_by, next, at}
+use Rattle.derivation_reading.specs.Grammar.{Lookup, lookup, shapes_of, has_name, Next, Wrong, Unknown, Goes, known, signed, split_at, bound_at, cut_at, node_by, cover_by, part_by, next, at}
 use Rattle.derivation_reading.specs.Machine.{Leaves, here, on, Opens}
-use Rattle.derivation_reading.proofs.Lookups.{found}
 
 -- a number among the tokens is within the limit
 abbrev pub IsSmallNumber : Terminal → Type 0
@@ -189,19 +188,20 @@ module _ (n : NameTable) (is_table : IsNameTable n) where
   abbrev how_many : ℕ
   how_many = length n.objects
 
-  object_below : (w : List ℕ) (o : ℕ) → position_from 0 (object_names n) w ≡ Some o → o < how_many
-  object_below w o e = (let r = found 0 (object_names n) w o e in let high : o < 0 + length (object_names n) = r.1 in omega (arith, length-map n.objects (λ x. x.0)))
+  object_below : (w : List ℕ) (o : ℕ) → position (λ x. bytes_eq w x.0) n.objects ≡ Some o → o < how_many
+  object_below w o e = (position-Some (λ x. bytes_eq w x.0) n.objects o ([], []) e).0
 
-  place_within : (o : ℕ) (w : List ℕ) (s : ℕ) → o < how_many → position_from 1 (shape_names n o) w ≡ Some s → IsPlace s
-  place_within o w s there e =
-      let r = found 1 (shape_names n o) w s e in
-      let low : 1 ≤ s = r.0 in
-      let high : s < 1 + length (shape_names n o) = r.1 in
-      let list = (slice_index_or n.objects o ([], [])).1 in
-      let is_list : IsShapeList (length n.shapes) list = All-get_or (λ x. IsShapeList (length n.shapes) x.1) n.objects o ([], []) there is_table.lists in
-      let few : length list ≤ 16 = is_list.few in
-      let same : length (shape_names n o) ≡ length list = length-map list (λ k. slice_index_or n.shapes k []) in
-      record { least = low; most = omega arith }
+  place_within : (o : ℕ) (w : List ℕ) (s : ℕ) → o < how_many → option_map suc (position (has_name n w) (shapes_of n o)) ≡ Some s → IsPlace s
+  place_within o w s there e = by (position (has_name n w) (shapes_of n o)) refl e
+    where
+      by : (p : Option ℕ) → position (has_name n w) (shapes_of n o) ≡ p → option_map suc p ≡ Some s → IsPlace s
+      by None q f = absurd cc
+      by (Some i) q f =
+          let below : i < length (shapes_of n o) = (position-Some (has_name n w) (shapes_of n o) i 0 q).0 in
+          let is_list : IsShapeList (length n.shapes) (shapes_of n o) = All-get_or (λ x. IsShapeList (length n.shapes) x.1) n.objects o ([], []) there is_table.lists in
+          let few : length (shapes_of n o) ≤ 16 = is_list.few in
+          let same : suc i ≡ s = cc in
+          record { least = omega arith; most = omega arith }
 
   dimension_below : (v d : ℕ) → (if nat_le 1 v && nat_le v n.dims then Some (v - 1) else None) ≡ Some d → d < n.dims
   dimension_below v d e = by (nat_le 1 v && nat_le v n.dims) refl e

@@ -1,6 +1,8 @@
 -- How far the reading of a text in pieces has come.
-use Rattle.std.specs.Prelude.{◌≡◌, ◌+◌, ◌≤◌, ◌^◌, ℕ, List, ◌∷◌, ◌++◌, Bool, true, false, length, reverse, Result, Ok, Err}
+use Rattle.std.specs.Prelude.{◌≡◌, ◌+◌, ◌-◌, ◌≤◌, ◌^◌, min, ℕ, List, [], ◌∷◌, ◌++◌, Bool, true, false, length, reverse, Result, Ok, Err}
 use Rattle.geo_tokens.specs.declared.token.Token.{Token}
+use Rattle.geo_tokens.specs.declared.fault.FaultWord.{FaultWord}
+use Rattle.geo_tokens.specs.declared.fault.FaultWord.TheVariants as words
 use Rattle.geo_tokens.specs.declared.fault.TextFault.{TextFault}
 use Rattle.geo_tokens.specs.declared.fault.TextFault.TheVariants as faults
 use Rattle.geo_tokens.specs.Names.{NameTable}
@@ -11,7 +13,8 @@ use Rattle.derivation_reading.specs.declared.feeder.Progress.{Progress}
 use Rattle.derivation_reading.specs.declared.feeder.Progress.TheVariants.{Open, Done, Failed}
 use Rattle.derivation_reading.specs.declared.feeder.Feeder.{Feeder}
 use Rattle.derivation_reading.specs.Terminals.{lexemes}
-use Rattle.derivation_reading.specs.Grammar.{lookup}
+use Rattle.derivation_reading.specs.Grammar.{lookup, Next, Wrong, Unknown}
+use Rattle.derivation_reading.specs.Grammar as nexts
 use Rattle.derivation_reading.specs.Machine.{Opens}
 use Rattle.derivation_reading.specs.FirstFault.{most_bytes, IsText, HasFirstFault}
 
@@ -58,3 +61,33 @@ abbrev pub answer_of : Progress → Result Bool TextFault
 answer_of (Open s) = Ok false
 answer_of Done = Ok true
 answer_of (Failed fault) = Err fault
+
+-- ---- one token
+
+-- the names, the place and the bytes that came stay
+pub record Keeps (old new : Feeder) : Type 0 where
+  pub names : new.names ≡ old.names
+  pub place : new.place ≡ old.place
+  pub stream : new.stream ≡ old.stream
+
+-- these symbols are what is open, unless memory ran out
+abbrev pub HasLeft : Progress → List Symbol → List Symbol → Type 0
+HasLeft (Open s) behind ss = s ∷ reverse behind ≡ ss
+HasLeft Done behind ss = ss ≡ []
+HasLeft (Failed (faults.At place word)) behind ss = ⊥
+HasLeft (Failed faults.Memory) behind ss = Unit {0}
+
+-- a fault at this place of the text
+abbrev pub failure : Feeder → ℕ → FaultWord → Progress
+failure f place word = Failed (faults.At (min (f.place + place) (2 ^ 64 - 1)) word)
+
+-- A token was taken that stands at this place.
+pub record Goes (old new : Feeder) (more : List Symbol) (ds before later : List Event) : Type 0 where
+  pub left : HasLeft new.progress new.behind.items (more ++ reverse old.behind.items)
+  pub grown : (es : List Event) × (later ≡ before ++ es)
+  pub events : (new.progress ≡ Failed faults.Memory → ⊥) → later ≡ before ++ ds
+
+abbrev pub Accepts : Feeder → Feeder → Next → ℕ → List Event → List Event → Type 0
+Accepts old new Wrong place before later = (new.progress ≡ failure old place words.Syntax) × (later ≡ before)
+Accepts old new Unknown place before later = (new.progress ≡ failure old place words.Unknown) × (later ≡ before)
+Accepts old new (nexts.Goes more ds) place before later = Goes old new more ds before later

@@ -1,11 +1,16 @@
 //! Reading a derivation in pieces.
 
-ghost use Rattle.std.specs.Prelude.{◌≡◌, ◌≤◌, ◌^◌, [], ◌∷◌, IfOk};
-ghost use Rattle.derivation_reading.specs.Feeding.{Comes, Ends, HasCome, answer_of};
+ghost use Rattle.std.specs.Prelude.{◌≡◌, ◌<◌, ◌≤◌, ◌^◌, [], ◌∷◌, ◌++◌, reverse, IfOk};
+ghost use Rattle.token_stream.specs.Stream.{name_of};
+ghost use Rattle.derivation_reading.specs.declared.feeder.Progress.TheVariants.{Open};
+ghost use Rattle.derivation_reading.specs.Terminals.{terminal_of, name_by};
+ghost use Rattle.derivation_reading.specs.Grammar.{lookup, next};
+ghost use Rattle.derivation_reading.specs.Outcomes.{symbols};
+ghost use Rattle.derivation_reading.specs.Feeding.{Comes, Ends, HasCome, HasLeft, Keeps, Accepts, Goes, answer_of, failure};
 
 use crate::production::{Behind, Outcome, next};
 use crate::symbol::{Symbol, terminal_of};
-use derivation::{Log, Recorder};
+use derivation::{Event, Log, Recorder};
 use geo_tokens::fault::{FaultWord, TextFault};
 use geo_tokens::names::Names;
 use geo_tokens::token::{Kind, Token};
@@ -85,7 +90,10 @@ impl<'a> Feeder<'a> {
         }
     }
 
-    fn fail(&mut self, place: u64, word: FaultWord) {
+    // What stands at this place of the text is wrong for this reason.
+    fn fail(&mut self, place: u64, word: FaultWord)
+        ensures { self.new ≡ record self.old { progress = failure self.old place word } }
+    {
         let place = self.place.saturating_add(place);
         self.progress = Progress::Failed(TextFault::At(place, word));
     }
@@ -104,7 +112,11 @@ impl<'a> Feeder<'a> {
     }
 
     // Takes a byte that a text may have.
-    fn take_next(&mut self, symbol: Symbol, byte: u8, out: &mut Log) {
+    fn take_next(&mut self, symbol: Symbol, byte: u8, out: &mut Log)
+        requires open { self.old.progress ≡ Open symbol }
+        requires room { self.old.stream.count < 2 ^ 40 }
+        ensures { Comes self.old self.new (byte ∷ []) out.old.events out.new.events }
+    {
         match self.stream.take(byte) {
             Taken::Nothing => {}
             Taken::Token(token) => self.accept(symbol, token, out),
@@ -119,7 +131,11 @@ impl<'a> Feeder<'a> {
     }
 
     // Takes the byte behind the last one that a text may have.
-    fn take_last(&mut self, symbol: Symbol, byte: u8, out: &mut Log) {
+    fn take_last(&mut self, symbol: Symbol, byte: u8, out: &mut Log)
+        requires open { self.old.progress ≡ Open symbol }
+        requires full { self.old.stream.count ≡ 2 ^ 40 }
+        ensures { Comes self.old self.new (byte ∷ []) out.old.events out.new.events }
+    {
         match self.stream.take(byte) {
             Taken::Token(token) => self.accept(symbol, token, out),
             Taken::TokenAndFault(token, _) => self.accept(symbol, token, out),
@@ -132,7 +148,10 @@ impl<'a> Feeder<'a> {
     }
 
     // The text has ended where this may come next.
-    fn end(&mut self, symbol: Symbol, out: &mut Log) {
+    fn end(&mut self, symbol: Symbol, out: &mut Log)
+        requires open { self.old.progress ≡ Open symbol }
+        ensures { Ends self.old self.new out.old.events out.new.events }
+    {
         match self.stream.finish() {
             Taken::Token(token) => self.accept(symbol, token, out),
             Taken::Fault(place, word) => self.fail(place, word),
@@ -145,25 +164,52 @@ impl<'a> Feeder<'a> {
         }
     }
 
-    // A token is whole.
-    fn accept(&mut self, symbol: Symbol, token: Token, out: &mut Log) {
-        let name = match token.kind {
+    // The bytes of the name that came last, for a token of this kind.
+    fn name_for(&self, kind: Kind) -> &[u8]
+        ensures { result.now ≡ name_by kind (name_of self.now.stream) }
+    {
+        match kind {
             Kind::Name => self.stream.name(),
             _ => b"".as_slice(),
-        };
+        }
+    }
+
+    // A token is whole.
+    #[tactic(auto, using(crate::proofs::Accepting::went_on, crate::proofs::Accepting::gave))]
+    fn accept(&mut self, symbol: Symbol, token: Token, out: &mut Log)
+        ensures accepts { Accepts self.old self.new
+            (next (lookup self.old.names.now) symbol (terminal_of token.kind)
+                (name_by token.kind (name_of self.old.stream)))
+            token.start out.old.events out.new.events }
+        ensures keeps { Keeps self.old self.new }
+    {
+        let name = self.name_for(token.kind);
         match next(self.names, symbol, terminal_of(token.kind), name) {
             Outcome::Wrong => self.fail(token.start, FaultWord::Syntax),
             Outcome::Unknown => self.fail(token.start, FaultWord::Unknown),
             Outcome::Goes(behind) => self.go_on(behind),
-            Outcome::Gives(event, behind) => match out.add(event) {
-                Ok(()) => self.go_on(behind),
-                Err(AllocError) => self.progress = Progress::Failed(TextFault::Memory),
-            },
+            Outcome::Gives(event, behind) => self.give(event, behind, out),
+        }
+    }
+
+    // Records an event.
+    fn give(&mut self, event: Event, behind: Behind, out: &mut Log)
+        ensures given { Goes self.old self.new (symbols behind) (event ∷ [])
+            out.old.events out.new.events }
+        ensures keeps { Keeps self.old self.new }
+    {
+        match out.add(event) {
+            Ok(()) => self.go_on(behind),
+            Err(AllocError) => self.progress = Progress::Failed(TextFault::Memory),
         }
     }
 
     // This comes in the place of what was open.
-    fn go_on(&mut self, behind: Behind) {
+    fn go_on(&mut self, behind: Behind)
+        ensures left { HasLeft self.new.progress self.new.behind.items
+            (symbols behind ++ reverse self.old.behind.items) }
+        ensures keeps { Keeps self.old self.new }
+    {
         match behind {
             Behind::Nothing => self.close(),
             Behind::One(symbol) => self.progress = Progress::Open(symbol),
@@ -172,14 +218,23 @@ impl<'a> Feeder<'a> {
     }
 
     // What was open is whole.
-    fn close(&mut self) {
+    fn close(&mut self)
+        ensures left { HasLeft self.new.progress self.new.behind.items
+            (reverse self.old.behind.items) }
+        ensures keeps { Keeps self.old self.new }
+    {
         self.progress = match self.behind.pop() {
             Some(symbol) => Progress::Open(symbol),
             None => Progress::Done,
         };
     }
 
-    fn open(&mut self, symbol: Symbol, other: Symbol) {
+    // This symbol comes next, and then the other one.
+    fn open(&mut self, symbol: Symbol, other: Symbol)
+        ensures left { HasLeft self.new.progress self.new.behind.items
+            (symbol ∷ other ∷ reverse self.old.behind.items) }
+        ensures keeps { Keeps self.old self.new }
+    {
         self.progress = match self.behind.push(other) {
             Ok(()) => Progress::Open(symbol),
             Err(_) => Progress::Failed(TextFault::Memory),
