@@ -84,8 +84,9 @@ failure f place word = Failed (faults.At (min (f.place + place) (2 ^ 64 - 1)) wo
 -- A token was taken that stands at this place.
 pub record Goes (old new : Feeder) (more : List Symbol) (ds before later : List Event) : Type 0 where
   pub left : HasLeft new.progress new.behind.items (more ++ reverse old.behind.items)
-  pub grown : (es : List Event) × (later ≡ before ++ es)
-  pub events : (new.progress ≡ Failed faults.Memory → ⊥) → later ≡ before ++ ds
+  pub recorded : List Event
+  pub grown : later ≡ before ++ recorded
+  pub whole : (new.progress ≡ Failed faults.Memory → ⊥) → recorded ≡ ds
 
 abbrev pub Accepts : Feeder → Feeder → Next → ℕ → List Event → List Event → Type 0
 Accepts old new Wrong place before later = (new.progress ≡ failure old place words.Syntax) × (later ≡ before)

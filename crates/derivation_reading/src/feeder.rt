@@ -193,6 +193,7 @@ impl<'a> Feeder<'a> {
     }
 
     // Records an event.
+    #[tactic(auto, using(crate::proofs::Accepting::recorded, crate::proofs::Accepting::refused))]
     fn give(&mut self, event: Event, behind: Behind, out: &mut Log)
         ensures given { Goes self.old self.new (symbols behind) (event ∷ [])
             out.old.events out.new.events }
