@@ -1,12 +1,17 @@
 -- How far the reading of a text in pieces has come.
-use Rattle.std.specs.Prelude.{◌≡◌, ◌+◌, ◌-◌, ◌≤◌, ◌^◌, min, ℕ, List, [], ◌∷◌, ◌++◌, Bool, true, false, length, reverse, Result, Ok, Err}
+use Rattle.std.specs.Prelude.{◌≡◌, ◌+◌, ◌-◌, ◌≤◌, ◌^◌, min, ℕ, List, [], ◌∷◌, ◌++◌, Bool, true, false, length, reverse, Result, Ok, Err, nat_le, if◌then◌else◌}
 use Rattle.geo_tokens.specs.declared.token.Token.{Token}
 use Rattle.geo_tokens.specs.declared.fault.FaultWord.{FaultWord}
 use Rattle.geo_tokens.specs.declared.fault.FaultWord.TheVariants as words
 use Rattle.geo_tokens.specs.declared.fault.TextFault.{TextFault}
 use Rattle.geo_tokens.specs.declared.fault.TextFault.TheVariants as faults
 use Rattle.geo_tokens.specs.Names.{NameTable}
-use Rattle.token_stream.specs.Stream.{Has}
+use Rattle.geo_tokens.specs.declared.token.Kind.TheVariants as kinds
+use Rattle.geo_tokens.specs.Bytes.{bytes_of}
+use Rattle.geo_tokens.specs.Cut.{Cut, IsBad}
+use Rattle.token_stream.specs.declared.stream.Taken.{Taken}
+use Rattle.token_stream.specs.declared.stream.Taken.TheVariants as takes
+use Rattle.token_stream.specs.Stream.{Has, name_of, run_length}
 use Rattle.derivation.specs.declared.event.Event.{Event}
 use Rattle.derivation_reading.specs.declared.symbol.Symbol.{Symbol}
 use Rattle.derivation_reading.specs.declared.feeder.Progress.{Progress}
@@ -15,7 +20,7 @@ use Rattle.derivation_reading.specs.declared.feeder.Feeder.{Feeder}
 use Rattle.derivation_reading.specs.Terminals.{lexemes}
 use Rattle.derivation_reading.specs.Grammar.{lookup, Next, Wrong, Unknown}
 use Rattle.derivation_reading.specs.Grammar as nexts
-use Rattle.derivation_reading.specs.Machine.{Opens}
+use Rattle.derivation_reading.specs.Machine.{Opens, Spells}
 use Rattle.derivation_reading.specs.FirstFault.{most_bytes, IsText, HasFirstFault}
 
 -- The text so far: its whole tokens begin a derivation, behind them this symbol may come, and these events are whole.
@@ -62,6 +67,49 @@ answer_of (Open s) = Ok false
 answer_of Done = Ok true
 answer_of (Failed fault) = Err fault
 
+-- ---- what a byte or the end of the text completed
+
+-- The tokens of the text up to here are these, and this is what the reading has come to.
+abbrev pub HasReached : Feeder → Progress → List ℕ → List Token → List Event → Type 0
+HasReached f (Open s) text ts es = Opens (lookup f.names.now) (lexemes text ts) (s ∷ reverse f.behind.items) es
+HasReached f Done text ts es = Spells (lookup f.names.now) (lexemes text ts) es
+HasReached f (Failed fault) text ts es = HasFaultFrom f.names.now f.place text fault
+
+-- the token stands behind those that were read, and its name was kept
+pub record IsNext (f : Feeder) (text : List ℕ) (ts : List Token) (t : Token) : Type 0 where
+  pub end : ℕ
+  pub rest : List ℕ
+  pub cut : Cut end rest 0 text (ts ++ t ∷ [])
+  pub short : t.end ≤ most_bytes
+  pub name : t.kind ≡ kinds.Name → name_of f.stream ≡ bytes_of text t
+
+-- behind those that were read stands a fault of tokens
+pub record IsNextFault (text : List ℕ) (ts : List Token) (place : ℕ) (word : FaultWord) : Type 0 where
+  pub rest : List ℕ
+  pub cut : Cut place rest 0 text ts
+  pub bad : IsBad word rest
+  pub short : place + run_length word rest ≤ most_bytes
+
+-- what was completed stands in the text behind those tokens
+abbrev pub Shows : Feeder → List ℕ → List Token → Taken → Type 0
+Shows f text ts takes.Nothing = Unit {0}
+Shows f text ts (takes.Token t) = IsNext f text ts t
+Shows f text ts (takes.Fault place word) = IsNextFault text ts place word
+Shows f text ts (takes.TokenAndFault t place) = IsNext f text ts t × IsNextFault text (ts ++ t ∷ []) place words.Byte
+
+-- the tokens with the one that was completed
+abbrev pub with_taken : List Token → Taken → List Token
+with_taken ts takes.Nothing = ts
+with_taken ts (takes.Token t) = ts ++ t ∷ []
+with_taken ts (takes.Fault place word) = ts
+with_taken ts (takes.TokenAndFault t place) = ts ++ t ∷ []
+
+-- The same text and the same tokens before: behind what was completed the reading has reached this, with the events that were recorded.
+abbrev pub Reaches : Feeder → Feeder → Symbol → Taken → List Event → List Event → Type 0
+Reaches old new s taken before later = (text : List ℕ) (ts : List Token) (es more : List Event) → later ≡ before ++ more → old.place ≤ 2 ^ 62
+    → Opens (lookup old.names.now) (lexemes text ts) (s ∷ reverse old.behind.items) es → Shows old text ts taken
+    → HasReached new new.progress text (with_taken ts taken) (es ++ more)
+
 -- ---- one token
 
 -- the names, the place and the bytes that came stay
@@ -92,3 +140,17 @@ abbrev pub Accepts : Feeder → Feeder → Next → ℕ → List Event → List 
 Accepts old new Wrong place before later = (new.progress ≡ failure old place words.Syntax) × (later ≡ before)
 Accepts old new Unknown place before later = (new.progress ≡ failure old place words.Unknown) × (later ≡ before)
 Accepts old new (nexts.Goes more ds) place before later = Goes old new more ds before later
+
+-- where the reading goes on, it ends with a fault at this place
+abbrev pub failed_open : Feeder → ℕ → FaultWord → Progress → Progress
+failed_open f place word (Open s) = failure f place word
+failed_open f place word p = p
+
+abbrev pub FailsOpen : Feeder → Feeder → ℕ → FaultWord → Type 0
+FailsOpen old new place word = new ≡ record old { progress = failed_open old place word old.progress }
+
+-- without what the byte behind `most_bytes` others begins
+abbrev pub without_byte : Taken → Taken
+without_byte (takes.TokenAndFault t place) = takes.Token t
+without_byte (takes.Fault place word) = if nat_le most_bytes place then takes.Nothing else takes.Fault place word
+without_byte taken = taken

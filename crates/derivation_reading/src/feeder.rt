@@ -1,12 +1,14 @@
 //! Reading a derivation in pieces.
 
 ghost use Rattle.std.specs.Prelude.{◌≡◌, ◌<◌, ◌≤◌, ◌^◌, [], ◌∷◌, ◌++◌, reverse, IfOk};
+ghost use Rattle.token_stream.specs.declared.stream.Taken.TheVariants as takes;
 ghost use Rattle.token_stream.specs.Stream.{name_of};
+ghost use Rattle.derivation.specs.Events.{Continues};
 ghost use Rattle.derivation_reading.specs.declared.feeder.Progress.TheVariants.{Open};
 ghost use Rattle.derivation_reading.specs.Terminals.{terminal_of, name_by};
 ghost use Rattle.derivation_reading.specs.Grammar.{lookup, next};
 ghost use Rattle.derivation_reading.specs.Outcomes.{symbols};
-ghost use Rattle.derivation_reading.specs.Feeding.{Comes, Ends, HasCome, HasLeft, Keeps, Accepts, Goes, answer_of, failure};
+ghost use Rattle.derivation_reading.specs.Feeding.{Comes, Ends, HasCome, HasLeft, Keeps, Accepts, Goes, Reaches, FailsOpen, answer_of, failure, without_byte};
 
 use crate::production::{Behind, Outcome, next};
 use crate::symbol::{Symbol, terminal_of};
@@ -117,17 +119,8 @@ impl<'a> Feeder<'a> {
         requires room { self.old.stream.count < 2 ^ 40 }
         ensures { Comes self.old self.new (byte ∷ []) out.old.events out.new.events }
     {
-        match self.stream.take(byte) {
-            Taken::Nothing => {}
-            Taken::Token(token) => self.accept(symbol, token, out),
-            Taken::Fault(place, word) => self.fail(place, word),
-            Taken::TokenAndFault(token, place) => {
-                self.accept(symbol, token, out);
-                if let Progress::Open(_) = self.progress {
-                    self.fail(place, FaultWord::Byte);
-                }
-            }
-        }
+        let taken = self.stream.take(byte);
+        self.accept_all(symbol, taken, out);
     }
 
     // Takes the byte behind the last one that a text may have.
@@ -136,15 +129,9 @@ impl<'a> Feeder<'a> {
         requires full { self.old.stream.count ≡ 2 ^ 40 }
         ensures { Comes self.old self.new (byte ∷ []) out.old.events out.new.events }
     {
-        match self.stream.take(byte) {
-            Taken::Token(token) => self.accept(symbol, token, out),
-            Taken::TokenAndFault(token, _) => self.accept(symbol, token, out),
-            Taken::Fault(place, word) if place < MOST_BYTES => self.fail(place, word),
-            _ => {}
-        }
-        if let Progress::Open(_) = self.progress {
-            self.fail(MOST_BYTES, FaultWord::Long);
-        }
+        let taken = before_the_end(self.stream.take(byte));
+        self.accept_all(symbol, taken, out);
+        self.fail_open(MOST_BYTES, FaultWord::Long);
     }
 
     // The text has ended where this may come next.
@@ -152,16 +139,51 @@ impl<'a> Feeder<'a> {
         requires open { self.old.progress ≡ Open symbol }
         ensures { Ends self.old self.new out.old.events out.new.events }
     {
-        match self.stream.finish() {
+        let taken = self.stream.finish();
+        self.accept_all(symbol, taken, out);
+        let count = self.stream.count();
+        if count < MOST_BYTES {
+            self.fail_open(count, FaultWord::Syntax);
+        } else {
+            self.fail_open(MOST_BYTES, FaultWord::Long);
+        }
+    }
+
+    // The same, unless the reading has ended.
+    fn fail_open(&mut self, place: u64, word: FaultWord)
+        ensures { FailsOpen self.old self.new place word }
+    {
+        if let Progress::Open(_) = self.progress {
+            self.fail(place, word);
+        }
+    }
+
+    // Takes what a byte or the end of the text completed.
+    fn accept_all(&mut self, symbol: Symbol, taken: Taken, out: &mut Log)
+        requires open { self.old.progress ≡ Open symbol }
+        ensures grown { Continues out.old.events out.new.events }
+        ensures keeps { Keeps self.old self.new }
+        ensures reaches { Reaches self.old self.new symbol taken out.old.events out.new.events }
+    {
+        match taken {
+            Taken::Nothing => {}
             Taken::Token(token) => self.accept(symbol, token, out),
             Taken::Fault(place, word) => self.fail(place, word),
-            _ => {}
+            Taken::TokenAndFault(token, place) => {
+                self.accept(symbol, token, out);
+                self.fail_open(place, FaultWord::Byte);
+            }
         }
-        if let Progress::Open(_) = self.progress {
-            let count = self.stream.count();
-            let word = if count < MOST_BYTES { FaultWord::Syntax } else { FaultWord::Long };
-            self.fail(count, word);
-        }
+    }
+
+    // Takes a token.
+    fn accept(&mut self, symbol: Symbol, token: Token, out: &mut Log)
+        ensures grown { Continues out.old.events out.new.events }
+        ensures keeps { Keeps self.old self.new }
+        ensures reaches { Reaches self.old self.new symbol (takes.Token token)
+            out.old.events out.new.events }
+    {
+        self.step(symbol, token, out);
     }
 
     // The bytes of the name that came last, for a token of this kind.
@@ -174,9 +196,9 @@ impl<'a> Feeder<'a> {
         }
     }
 
-    // A token is whole.
+    // What the token makes of the symbol.
     #[tactic(auto, using(crate::proofs::Accepting::went_on, crate::proofs::Accepting::gave))]
-    fn accept(&mut self, symbol: Symbol, token: Token, out: &mut Log)
+    fn step(&mut self, symbol: Symbol, token: Token, out: &mut Log)
         ensures accepts { Accepts self.old self.new
             (next (lookup self.old.names.now) symbol (terminal_of token.kind)
                 (name_by token.kind (name_of self.old.stream)))
@@ -240,6 +262,17 @@ impl<'a> Feeder<'a> {
             Ok(()) => Progress::Open(symbol),
             Err(_) => Progress::Failed(TextFault::Memory),
         };
+    }
+}
+
+// What a byte behind the last one of a text completed before it.
+fn before_the_end(taken: Taken) -> Taken
+    ensures { result ≡ without_byte taken }
+{
+    match taken {
+        Taken::TokenAndFault(token, _) => Taken::Token(token),
+        Taken::Fault(place, _) if place >= MOST_BYTES => Taken::Nothing,
+        _ => taken,
     }
 }
 

@@ -12,7 +12,7 @@ use Rattle.geo_tokens.proofs.Spellings.{found}
 use Rattle.geo_tokens.proofs.Symbols.{no_long_alone}
 use Rattle.token_stream.specs.declared.run.Run.{Run}
 use Rattle.token_stream.specs.declared.run.Run.TheVariants as runs
-use Rattle.token_stream.specs.Run.{IsMadeOf, is_hash, IsValue, IsMark, IsRun, IsOver, GoesOn, is_word}
+use Rattle.token_stream.specs.Run.{IsMadeOf, is_hash, IsValue, IsMark, IsRun, IsOver, EndsAt, GoesOn, is_word}
 use Rattle.token_stream.proofs.Made.{made_more, made_longest, one_passes, first_stays}
 use Rattle.token_stream.proofs.Numbers.{digits_more}
 
@@ -64,7 +64,7 @@ no_left true b h = h
 no_left false b h = refl
 
 -- no letter stands behind a word
-pub word_over : (run : Run) (b : ℕ) → is_word run ≡ true → ((more : List ℕ) → IsOver run (b ∷ more)) → is_letter b ≡ false
+pub word_over : (run : Run) (b : ℕ) → is_word run ≡ true → EndsAt run b → is_letter b ≡ false
 word_over runs.Word b w over = no_left (is_letter b) (is_digit b) (passes_not is_word_byte b (is_word_byte b) refl (over []))
 word_over runs.Space b w over = absurd cc
 word_over runs.Comment b w over = absurd cc

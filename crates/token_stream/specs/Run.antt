@@ -60,6 +60,10 @@ abbrev pub is_word : Run → Bool
 is_word runs.Word = true
 is_word _ = false
 
+-- it does not go on with this byte, whatever comes behind that
+abbrev pub EndsAt : Run → ℕ → Type 0
+EndsAt run byte = (more : List ℕ) → IsOver run (byte ∷ more)
+
 -- with this byte the run becomes the other
 pub record GoesOn (run other : Run) (byte : ℕ) : Type 0 where
   pub bytes : (rest : List ℕ) → IsRun run rest → IsRun other (rest ++ byte ∷ [])

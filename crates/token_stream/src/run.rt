@@ -3,8 +3,8 @@
 ghost use Rattle.std.specs.Prelude.{◌≡◌, ℕ, ◌+◌, ◌-◌, ◌*◌, ◌++◌, ◌∷◌, List, [], length, slice_index, MatchOption, true};
 ghost use Rattle.std.specs.List.{prefix_len};
 ghost use Rattle.geo_tokens.specs.Bytes.{is_digit, value_of};
-ghost use Rattle.token_stream.specs.Ended.{IsEnd};
-ghost use Rattle.token_stream.specs.Run.{IsRun, IsOver, GoesOn, BeginsNone, IsDigits, IsValue, IsMark, NoPair};
+ghost use Rattle.token_stream.specs.Ended.{RunEnds};
+ghost use Rattle.token_stream.specs.Run.{IsRun, EndsAt, GoesOn, BeginsNone, IsValue};
 
 use geo_tokens::fault::FaultWord;
 use geo_tokens::front::{is_digit, is_letter, is_white, is_word_byte};
@@ -13,6 +13,9 @@ use geo_tokens::token::{Kind, Sym};
 
 /// The greatest value of a number.
 const GREATEST: u64 = 1_000_000_000;
+
+/// The byte that ends a comment.
+const LINE_END: u8 = b'\n';
 
 /// A run of bytes that may go on.
 #[derive(Clone, Copy, Debug)]
@@ -49,7 +52,7 @@ fn with_digit(value: u64, digit: u8) -> u64
 
 /// What digits of this value are, in front of a byte that is none.
 pub fn number_ended(value: u64, next: u8) -> Ended
-    ensures end { (rest more : List ℕ) → IsDigits rest → IsValue value (value_of rest) → prefix_len is_digit more ≡ 0 → next ≡ slice_index more 0 → IsEnd result (length rest) (rest ++ more) }
+    ensures end { RunEnds (Run.Digits value) result next }
     ensures no_name { result ≡ Ended.Token Kind.Name → ⊥ }
 {
     if is_letter(next) || value > GREATEST {
@@ -61,7 +64,7 @@ pub fn number_ended(value: u64, next: u8) -> Ended
 
 /// What a byte is that begins a symbol, where no symbol of two bytes stands.
 pub fn mark_ended(mark: u8) -> Ended
-    ensures end { (more : List ℕ) → IsMark mark → NoPair (mark ∷ more) → IsEnd result 1 (mark ∷ more) }
+    ensures end { (next : ℕ) → RunEnds (Run.Mark mark) result next }
     ensures no_name { result ≡ Ended.Token Kind.Name → ⊥ }
 {
     match short_symbol(mark) {
@@ -92,10 +95,10 @@ impl Run {
 
     /// The run with the byte behind it, where it goes on.
     pub fn with(self, byte: u8) -> Option<Run>
-        ensures { MatchOption result ((more : List ℕ) → IsOver self (byte ∷ more)) (λ run. GoesOn self run byte) }
+        ensures { MatchOption result (EndsAt self byte) (λ run. GoesOn self run byte) }
     {
         match self {
-            Run::Comment if byte != b'\n' => Some(Run::Comment),
+            Run::Comment if byte != LINE_END => Some(Run::Comment),
             Run::Word if is_word_byte(byte) => Some(Run::Word),
             Run::Digits(value) if is_digit(byte) => Some(Run::Digits(with_digit(value, byte))),
             Run::Mark(first) => match long_symbol(first, byte) {

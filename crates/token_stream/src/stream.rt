@@ -1,10 +1,10 @@
 //! The tokens of a text that comes byte by byte.
 
-ghost use Rattle.std.specs.Prelude.{◌≡◌, ℕ, ◌+◌, ◌<◌, ◌++◌, ◌∷◌, List, [], length, slice_index, MatchBool, IsTrue, true, false};
+ghost use Rattle.std.specs.Prelude.{◌≡◌, ℕ, ◌+◌, ◌<◌, ◌++◌, ◌∷◌, List, [], length, MatchBool, IsTrue, true, false};
 ghost use Rattle.geo_tokens.specs.declared.token.Token.{Token};
 ghost use Rattle.geo_tokens.specs.Bytes.{is_letter};
-ghost use Rattle.token_stream.specs.Ended.{IsEnd};
-ghost use Rattle.token_stream.specs.Run.{IsOver, BeginsNone, is_word};
+ghost use Rattle.token_stream.specs.Ended.{StreamEnds};
+ghost use Rattle.token_stream.specs.Run.{EndsAt, BeginsNone, is_word};
 ghost use Rattle.token_stream.specs.Stream.{Has, HasRun, Takes, Finishes, name_of};
 ghost use Rattle.token_stream.specs.Word.{IsWordOf};
 
@@ -14,7 +14,7 @@ use geo_tokens::fault::FaultWord;
 use geo_tokens::token::{Kind, Token};
 
 /// What a byte, or the end of the text, completed.
-#[derive(Clone, Copy, Debug)]
+#[derive(Clone, Copy, Debug, PartialEq, Eq)]
 pub enum Taken {
     /// Nothing.
     Nothing,
@@ -66,7 +66,8 @@ impl TokenStream {
     /// Takes the next byte.
     pub fn take(&mut self, byte: u8) -> Taken
         requires room { self.old.count < u64.MAX }
-        ensures taken { (text : List ℕ) (ts : List Token) → Has self.old text ts → Takes self.new result (text ++ byte ∷ []) ts }
+        ensures taken { (text : List ℕ) (ts : List Token) → Has self.old text ts
+            → Takes self.new result (text ++ byte ∷ []) ts }
         ensures counted { self.new.count ≡ self.old.count + 1 }
     {
         if self.go_on(byte) {
@@ -78,7 +79,8 @@ impl TokenStream {
 
     /// The text has ended.
     pub fn finish(&self) -> Taken
-        ensures { (text : List ℕ) (ts : List Token) → Has self.now text ts → Finishes self.now result text ts }
+        ensures { (text : List ℕ) (ts : List Token) → Has self.now text ts
+            → Finishes self.now result text ts }
     {
         match self.ended(0) {
             Ended::Gap => Taken::Nothing,
@@ -97,7 +99,8 @@ impl TokenStream {
         ensures run { self.new.run ≡ run }
         ensures start { self.new.start ≡ self.old.start }
         ensures counted { self.new.count ≡ self.old.count + 1 }
-        ensures word { is_word run ≡ true → (rest : List ℕ) → length rest < u64.MAX → IsWordOf self.old.word rest → IsWordOf self.new.word (rest ++ byte ∷ []) }
+        ensures word { is_word run ≡ true → (rest : List ℕ) → length rest < u64.MAX
+            → IsWordOf self.old.word rest → IsWordOf self.new.word (rest ++ byte ∷ []) }
         ensures no_word { is_word run ≡ false → self.new.word ≡ self.old.word }
     {
         self.run = run;
@@ -111,9 +114,10 @@ impl TokenStream {
     fn go_on(&mut self, byte: u8) -> bool
         requires room { self.old.count < u64.MAX }
         ensures start { self.new.start ≡ self.old.start }
-        ensures on { IsTrue result → (rest : List ℕ) → HasRun self.old rest → HasRun self.new (rest ++ byte ∷ []) }
+        ensures on { IsTrue result → (rest : List ℕ) → HasRun self.old rest
+            → HasRun self.new (rest ++ byte ∷ []) }
         ensures counted { IsTrue result → self.new.count ≡ self.old.count + 1 }
-        ensures over { result ≡ false → (more : List ℕ) → IsOver self.old.run (byte ∷ more) }
+        ensures over { result ≡ false → EndsAt self.old.run byte }
         ensures same { result ≡ false → self.new ≡ self.old }
     {
         match self.run.with(byte) {
@@ -129,7 +133,8 @@ impl TokenStream {
     fn begin(&mut self, byte: u8) -> bool
         requires room { self.old.count < u64.MAX }
         ensures counted { self.new.count ≡ self.old.count + 1 }
-        ensures begun { MatchBool result (HasRun self.new (byte ∷ []) × (self.new.start ≡ self.old.count)) (BeginsNone byte) }
+        ensures begun { MatchBool result
+            (HasRun self.new (byte ∷ []) × (self.new.start ≡ self.old.count)) (BeginsNone byte) }
         ensures word { is_letter byte ≡ false → self.new.word ≡ self.old.word }
     {
         match Run::begin(byte) {
@@ -148,9 +153,10 @@ impl TokenStream {
         }
     }
 
-    /// What the run is, where it does not go on into the bytes behind it. The next of them is 0 where there is none.
+    /// What the run is, where it does not go on into the bytes behind it.
+    /// The next of them is 0 where there is none.
     fn ended(&self, next: u8) -> Ended
-        ensures end { (rest more : List ℕ) → HasRun self.now rest → IsOver self.now.run more → next ≡ slice_index more 0 → IsEnd result (length rest) (rest ++ more) }
+        ensures end { StreamEnds self.now result next }
         ensures name { result ≡ Ended.Token Kind.Name → is_word self.now.run ≡ true }
     {
         match self.run {
@@ -165,7 +171,8 @@ impl TokenStream {
     /// Ends the run, and begins one with the byte.
     fn turn(&mut self, byte: u8) -> Taken
         requires room { self.old.count < u64.MAX }
-        ensures taken { ((more : List ℕ) → IsOver self.old.run (byte ∷ more)) → (text : List ℕ) (ts : List Token) → Has self.old text ts → Takes self.new result (text ++ byte ∷ []) ts }
+        ensures taken { EndsAt self.old.run byte → (text : List ℕ) (ts : List Token)
+            → Has self.old text ts → Takes self.new result (text ++ byte ∷ []) ts }
         ensures counted { self.new.count ≡ self.old.count + 1 }
     {
         let start = self.start;

@@ -3,7 +3,7 @@
 ghost use Rattle.std.specs.List.{prefix_len};
 ghost use Rattle.std.specs.Prelude.{◌≡◌, ℕ, ◌<◌, ◌++◌, ◌∷◌, List, [], length};
 ghost use Rattle.geo_tokens.specs.Bytes.{is_word_byte};
-ghost use Rattle.token_stream.specs.Ended.{IsEnd};
+ghost use Rattle.token_stream.specs.Ended.{WordEnds};
 ghost use Rattle.token_stream.specs.Run.{IsWord};
 ghost use Rattle.token_stream.specs.Word.{IsWordOf, kept_bytes};
 
@@ -35,7 +35,8 @@ impl Word {
 
     /// One byte more.
     pub fn push(&mut self, byte: u8)
-        ensures { (rest : List ℕ) → length rest < usize.MAX → IsWordOf self.old rest → IsWordOf self.new (rest ++ byte ∷ []) }
+        ensures { (rest : List ℕ) → length rest < usize.MAX → IsWordOf self.old rest
+            → IsWordOf self.new (rest ++ byte ∷ []) }
     {
         if self.len < NAME_BYTES {
             self.bytes[self.len] = byte;
@@ -56,7 +57,7 @@ impl Word {
 
     /// What the whole word is: a name, a reserved word, or too long.
     pub fn ended(&self) -> Ended
-        ensures { (rest more : List ℕ) → IsWordOf self.now rest → IsWord rest → prefix_len is_word_byte more ≡ 0 → IsEnd result (length rest) (rest ++ more) }
+        ensures { WordEnds self.now result }
     {
         if self.len > NAME_BYTES {
             return Ended::Bad(FaultWord::Name);

@@ -3,7 +3,7 @@ use Rattle.token_stream.proofs.Runs.{comment_on, word_on, digits_on}
 use Rattle.token_stream.proofs.run.Run.with.Goals as goal
 
 pub returns-in-Comment : goal.returns-in-Comment
-returns-in-Comment c = rw c.in-Comment.is (comment_on c.args.byte c.if-byte-ne10.true)
+returns-in-Comment c = rw c.in-Comment.is (comment_on c.args.byte c.if-byte-ne-LINE_END.true)
 
 pub returns-in-Word : goal.returns-in-Word
 returns-in-Word c = rw c.in-Word.is (word_on c.args.byte (sym c.is_word_byte.ensures ∙ c.if-is_word_byte.true))
