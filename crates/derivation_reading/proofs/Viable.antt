@@ -219,9 +219,9 @@ opened ss ws es d =
 -- ---- the laws
 
 module _ (n : NameTable) where
-  -- tokens behind which something may come begin a text
-  pub opens_begins : (ws : List Lexeme) (s : Symbol) (ss : List Symbol) (es : List Event) → Opens (lookup n) ws (s ∷ ss) es → Begins ws
-  opens_begins ws s ss es d = let r = bared (lookup n) (s ∷ ss) (Text ∷ []) ws es d in opened (map bare (s ∷ ss)) ws r.0 r.1
+  -- what is read begins a text
+  pub opens_begins : (ws : List Lexeme) (ss : List Symbol) (es : List Event) → Opens (lookup n) ws ss es → Begins ws
+  opens_begins ws ss es d = let r = bared (lookup n) ss (Text ∷ []) ws es d in opened (map bare ss) ws r.0 r.1
 
   -- and so they do with a name or a dimension that stands for nothing
   pub unknown_begins : (ws : List Lexeme) (s : Symbol) (ss : List Symbol) (es : List Event) (w : Lexeme) → Opens (lookup n) ws (s ∷ ss) es → at (lookup n) s w ≡ Unknown → Begins (ws ++ w ∷ [])
