@@ -98,7 +98,7 @@ module _ (f g : Feeder) (text : List ℕ) (ts : List Token) (t : Token) (s : Sym
         let some = b.3 in
         let same = is_token_at t (omega (arith, some)) in
         let ends : t.start + size ≤ most_bytes = (let q = h.short in omega (arith, some, q)) in
-        syntax b.0 ts s (reads b.0 b.1) t.kind size b.2 ends (opens_begins names words_before s (reverse f.behind.items) es opens)
+        syntax b.0 ts s (reads b.0 b.1) t.kind size b.2 ends (opens_begins names words_before (s ∷ reverse f.behind.items) es opens)
         (λ z. wrong_begins_none names words_before s (reverse f.behind.items) es (lexeme text t) opens (sym same_next ∙ e) (subst Begins (with_token size same) z)) refl
 
     unknown_at : outcome ≡ Unknown → HasFault names text t.start words.Unknown
