@@ -1,0 +1,22 @@
+use Rattle.std.proofs.Common.{rules, ◌≡◌, ◌<◌, ◌≤◌, ◌^◌, [], ◌∷◌, ◌++◌, reverse, IfOk, ℕ, ◌+◌, ◌-◌, ◌*◌, length, ◌/◌, ◌%◌, Bool, true, false, nat_eq, nat_lt, List, slice_index_or, slice_set, bit_and, bit_or, Fits, w8, w32, w64, Bor, MutBor}
+use Rattle.token_stream.specs.declared.stream.Taken.TheVariants as takes
+use Rattle.token_stream.specs.Stream.{name_of}
+use Rattle.derivation.specs.Events.{Continues}
+use Rattle.derivation_reading.specs.declared.feeder.Progress.TheVariants.{Open}
+use Rattle.derivation_reading.specs.Terminals.{terminal_of, name_by}
+use Rattle.derivation_reading.specs.Grammar.{lookup, next}
+use Rattle.derivation_reading.specs.Outcomes.{symbols}
+use Rattle.derivation_reading.specs.Feeding.{Comes, Ends, HasCome, HasLeft, Keeps, Accepts, Goes, Reaches, FailsOpen, answer_of, failure, without_byte}
+use Rattle.derivation_reading.proofs.feeder.Feeder.feed.Goals as goal
+
+-- src/feeder.rt:68:9
+pub loop-byte-init : goal.loop-byte-init
+loop-byte-init c = ?
+
+-- src/feeder.rt:68:9
+pub loop-byte-preserved : goal.loop-byte-preserved
+loop-byte-preserved c = ?
+
+-- src/feeder.rt:64:5
+pub returns-clause-come : goal.returns-clause-come
+returns-clause-come c = ?
