@@ -74,7 +74,7 @@ module _ (f : Feeder) (text more : List ℕ) (ts : List Token) where
         record { rest = h.0.rest ++ more; cut = h.0.stands more; bad = h.0.bad more; short = omega (arith, run) },
       )
 
-  shows_last : (taken : Taken) → length text ≡ most_bytes + 1 → Takes f.stream taken text ts → Shows f (text ++ more) ts (without_byte taken)
+  pub shows_last : (taken : Taken) → length text ≡ most_bytes + 1 → Takes f.stream taken text ts → Shows f (text ++ more) ts (without_byte taken)
   shows_last takes.Nothing count h = tt
   shows_last (takes.Token t) count h =
       let last = h.1 in token_shows f text more ts t f.stream.start h.0.rest h.0.stands last h.2 (omega (arith, last))
@@ -87,7 +87,7 @@ module _ (f : Feeder) (text more : List ℕ) (ts : List Token) where
       let last = h.1 in token_shows f text more ts t place h.0.rest h.0.stands last h.3 (omega (arith, last))
 
 -- at the end of the text
-shows_end : (f : Feeder) (text : List ℕ) (ts : List Token) (taken : Taken) → length text ≤ most_bytes → Finishes f.stream taken text ts → Shows f text ts taken
+pub shows_end : (f : Feeder) (text : List ℕ) (ts : List Token) (taken : Taken) → length text ≤ most_bytes → Finishes f.stream taken text ts → Shows f text ts taken
 shows_end f text ts takes.Nothing count h = tt
 shows_end f text ts (takes.Token t) count h = (let last = h.1 in record { end = length text; rest = []; cut = h.0; short = omega (arith, last); name = h.2 })
 shows_end f text ts (takes.Fault place word) count h = (let run = h.run in record { rest = h.rest; cut = h.before; bad = h.bad; short = omega (arith, run) })
@@ -96,21 +96,21 @@ shows_end f text ts (takes.TokenAndFault t place) count h = absurd h
 -- ---- what was read
 
 -- The text is cut into these tokens up to a place within `most_bytes`, and behind them these symbols may come.
-record IsReadTo (n : NameTable) (text : List ℕ) (ts : List Token) (ss : List Symbol) (es : List Event) : Type 0 where
-  end : ℕ
-  rest : List ℕ
-  cut : Cut end rest 0 text ts
-  short : end ≤ most_bytes
-  opens : Opens (lookup n) (lexemes text ts) ss es
+pub record IsReadTo (n : NameTable) (text : List ℕ) (ts : List Token) (ss : List Symbol) (es : List Event) : Type 0 where
+  pub end : ℕ
+  pub rest : List ℕ
+  pub cut : Cut end rest 0 text ts
+  pub short : end ≤ most_bytes
+  pub opens : Opens (lookup n) (lexemes text ts) ss es
 
-record IsCutTo (text : List ℕ) (ts : List Token) : Type 0 where
-  end : ℕ
-  rest : List ℕ
-  cut : Cut end rest 0 text ts
-  short : end ≤ most_bytes
+pub record IsCutTo (text : List ℕ) (ts : List Token) : Type 0 where
+  pub end : ℕ
+  pub rest : List ℕ
+  pub cut : Cut end rest 0 text ts
+  pub short : end ≤ most_bytes
 
 -- whatever comes behind an open text
-read_to : (f : Feeder) (text more : List ℕ) (es : List Event) (s : Symbol) (o : IsOpen f text es s) → IsReadTo f.names.now (text ++ more) o.tokens (s ∷ reverse f.behind.items) es
+pub read_to : (f : Feeder) (text more : List ℕ) (es : List Event) (s : Symbol) (o : IsOpen f text es s) → IsReadTo f.names.now (text ++ more) o.tokens (s ∷ reverse f.behind.items) es
 read_to f text more es s o =
     let place = o.has.run.place in
     let count = o.has.count in
@@ -126,7 +126,7 @@ read_to f text more es s o =
     }
 
 -- with what was completed
-cut_to : (f : Feeder) (n : NameTable) (text : List ℕ) (ts : List Token) (ss : List Symbol) (es : List Event) (taken : Taken) → IsReadTo n text ts ss es → Shows f text ts taken
+pub cut_to : (f : Feeder) (n : NameTable) (text : List ℕ) (ts : List Token) (ss : List Symbol) (es : List Event) (taken : Taken) → IsReadTo n text ts ss es → Shows f text ts taken
     → IsCutTo text (with_taken ts taken)
 cut_to f n text ts ss es takes.Nothing h shows = record { end = h.end; rest = h.rest; cut = h.cut; short = h.short }
 cut_to f n text ts ss es (takes.Token t) h shows = (let r = to_last shows.end shows.rest text ts t shows.cut in record { end = t.end; rest = r.0; cut = r.1; short = shows.short })
@@ -135,7 +135,7 @@ cut_to f n text ts ss es (takes.TokenAndFault t place) h shows =
     (let r = to_last shows.0.end shows.0.rest text ts t shows.0.cut in record { end = t.end; rest = r.0; cut = r.1; short = shows.0.short })
 
 -- a whole text
-whole : (g : Feeder) (text : List ℕ) (us : List Token) (gs : List Event) → IsCutTo text us → HasReached g Done text us gs → IsText g.names.now text gs
+pub whole : (g : Feeder) (text : List ℕ) (us : List Token) (gs : List Event) → IsCutTo text us → HasReached g Done text us gs → IsText g.names.now text gs
 whole g text us gs h spells = record { tokens = us; end = h.end; rest = h.rest; cut = h.cut; short = h.short; spells = spells }
 
 -- ---- a byte that a text may have
@@ -156,7 +156,7 @@ module _ (g : Feeder) (text : List ℕ) (us : List Token) (gs : List Event) (cut
   at (Failed fault) has reached = reached
 
 -- the text with the byte and with more
-with_byte : (text : List ℕ) (byte : ℕ) (x : List ℕ) → text ++ byte ∷ x ≡ text ++ byte ∷ [] ++ x
+pub with_byte : (text : List ℕ) (byte : ℕ) (x : List ℕ) → text ++ byte ∷ x ≡ text ++ byte ∷ [] ++ x
 with_byte text byte x = sym (append_assoc text (byte ∷ []) x)
 
 module _ (f g : Feeder) (stream : TokenStream) (s : Symbol) (taken : Taken) (byte : ℕ) (before later : List Event) (open_before : f.progress ≡ Open s)
