@@ -34,21 +34,21 @@ comes_both f g h piece other before middle later first second text es come =
 
 module _ (f : Feeder) (text : List ℕ) (es : List Event) where
   at_more : (piece : List ℕ) (p : Progress) → ((s : Symbol) → p ≡ Open s → ⊥) → IsAt f p text es → IsAt f p (text ++ piece) es
-  at_more piece (Open s) no far = absurd (no s refl)
-  at_more piece Done no far = λ x. subst (λ (u : List ℕ). IsText f.names.now u es) (sym (append_assoc text piece x)) (far (piece ++ x))
-  at_more piece (Failed fault) no far = λ x. subst (λ (u : List ℕ). HasFaultFrom f.names.now f.place u fault) (sym (append_assoc text piece x)) (far (piece ++ x))
+  at_more piece (Open s) not_open far = absurd (not_open s refl)
+  at_more piece Done not_open far = λ x. subst (λ (u : List ℕ). IsText f.names.now u es) (sym (append_assoc text piece x)) (far (piece ++ x))
+  at_more piece (Failed fault) not_open far = λ x. subst (λ (u : List ℕ). HasFaultFrom f.names.now f.place u fault) (sym (append_assoc text piece x)) (far (piece ++ x))
 
   at_end : (p : Progress) → ((s : Symbol) → p ≡ Open s → ⊥) → IsAt f p text es → IsAtEnd f p text es
-  at_end (Open s) no far = absurd (no s refl)
-  at_end Done no far = subst (λ (u : List ℕ). IsText f.names.now u es) (append-nil text) (far [])
-  at_end (Failed fault) no far = subst (λ (u : List ℕ). HasFaultFrom f.names.now f.place u fault) (append-nil text) (far [])
+  at_end (Open s) not_open far = absurd (not_open s refl)
+  at_end Done not_open far = subst (λ (u : List ℕ). IsText f.names.now u es) (append-nil text) (far [])
+  at_end (Failed fault) not_open far = subst (λ (u : List ℕ). HasFaultFrom f.names.now f.place u fault) (append-nil text) (far [])
 
 -- any piece changes nothing
 pub stays_closed : (f : Feeder) (piece : List ℕ) (before : List Event) → ((s : Symbol) → f.progress ≡ Open s → ⊥) → Comes f f piece before before
-stays_closed f piece before no text es h =
-    ([], sym (append-nil before), with_none f (text ++ piece) es (record { place = h.place; far = at_more f text es piece f.progress no h.far }))
+stays_closed f piece before not_open text es h =
+    ([], sym (append-nil before), with_none f (text ++ piece) es (record { place = h.place; far = at_more f text es piece f.progress not_open h.far }))
 
 -- nor does the end
 pub ends_closed : (f : Feeder) (before : List Event) → ((s : Symbol) → f.progress ≡ Open s → ⊥) → Ends f f before before
-ends_closed f before no text es h =
-    ([], sym (append-nil before), subst (λ (x : List Event). IsAtEnd f f.progress text x) (sym (append-nil es)) (at_end f text es f.progress no h.far))
+ends_closed f before not_open text es h =
+    ([], sym (append-nil before), subst (λ (x : List Event). IsAtEnd f f.progress text x) (sym (append-nil es)) (at_end f text es f.progress not_open h.far))
