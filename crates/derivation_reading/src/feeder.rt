@@ -8,7 +8,7 @@ ghost use Rattle.derivation_reading.specs.declared.feeder.Progress.TheVariants.{
 ghost use Rattle.derivation_reading.specs.Terminals.{terminal_of, name_by};
 ghost use Rattle.derivation_reading.specs.Grammar.{lookup, next};
 ghost use Rattle.derivation_reading.specs.Outcomes.{symbols};
-ghost use Rattle.derivation_reading.specs.Feeding.{Comes, Ends, HasCome, HasLeft, Keeps, Accepts, Goes, Reaches, FailsOpen, answer_of, failure, without_byte};
+ghost use Rattle.derivation_reading.specs.Feeding.{Comes, Ends, HasCome, HasLeft, Keeps, Accepts, Goes, Reaches, Stops, FailsOpen, answer_of, failure, without_byte};
 
 use crate::production::{Behind, Outcome, next};
 use crate::symbol::{Symbol, terminal_of};
@@ -164,6 +164,7 @@ impl<'a> Feeder<'a> {
         ensures grown { Continues out.old.events out.new.events }
         ensures keeps { Keeps self.old self.new }
         ensures reaches { Reaches self.old self.new symbol taken out.old.events out.new.events }
+        ensures stops { Stops taken self.new.progress }
     {
         match taken {
             Taken::Nothing => {}
