@@ -12,7 +12,7 @@ returns-clause-ended c =
     let before = c.args.out.now.events in
     elim c.match-self.branch [
       | in-Open w ↦ subst (λ (x : Feeder). Ends f x before c.match-self.out.events) (sym w.self-is)
-          (subst (λ (x : List Event). Ends f w.end.new.self before x) (sym (ap (λ k. k.events) w.out-is)) w.end.ensures)
+          (subst (λ (x : List Event). Ends f w.end.new.self before x) (sym (ap (λ k. k.events) w.out-is)) w.end.ensures.ended)
       | in_default w ↦ subst (λ (x : Feeder). Ends f x before c.match-self.out.events) (sym w.self-is)
           (subst (λ (x : List Event). Ends f f before x) (sym (ap (λ k. k.events) w.out-is)) (ends_closed f before w.in_default.not-Open))
     ]

@@ -3,8 +3,8 @@ use Rattle.derivation_reading.specs.declared.symbol.Symbol.TheVariants.{Text}
 use Rattle.derivation_reading.specs.Machine.{here}
 use Rattle.derivation_reading.proofs.feeder.Feeder.start.Goals as goal
 
-pub returns : goal.returns
-returns c = record {
+pub returns-clause-come : goal.returns-clause-come
+returns-clause-come c = record {
   place = c.requires.place;
   far = record {
     tokens = [];
