@@ -6,3 +6,4 @@ pub mod PlaceCovers
 pub mod Chains
 pub mod Nodes
 pub mod Valid
+pub mod Fits

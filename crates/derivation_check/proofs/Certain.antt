@@ -15,7 +15,7 @@ use Rattle.derivation.specs.Nodes.{Node, Split, DropNode, Bound, GoneNode, DeadN
 use Rattle.derivation_check.specs.Sound.{HasPlace, HasPlaces, Solves}
 use Rattle.derivation_check.proofs.Sound.{sound}
 use Rattle.derivation_check.specs.declared.progress.Checked.TheVariants.{Yes}
-use Rattle.derivation_check.specs.Fits.{EventFits}
+use Rattle.derivation.specs.Fits.{EventFits}
 use Rattle.derivation_check.specs.Judges.{Judges}
 
 left_part : (P : Event → Type 0) (xs ys : List Event) → All P (xs ++ ys) → All P xs

@@ -1,13 +1,11 @@
--- What exists: objects below a number of them, dimensions below K, the places 1 to 16, and numbers within the limit of a derivation.
+-- What a check holds exists: objects below a number of them, dimensions below K, the places 1 to 16, and numbers within the limit of a derivation.
 use Rattle.std.specs.Prelude.{◌<◌, ◌≤◌, ℕ, ℤ, pos, negsuc, ◌≤ℤ◌}
-use Rattle.geo_conditions.specs.declared.object.TheConstants.{MAX_SHAPES}
-use Rattle.derivation.specs.declared.event.Event.{Event}
-use Rattle.derivation.specs.declared.event.Event.TheVariants.{SplitShape, SplitUpto, SplitFrom, Drop, Raise, Lower, Gone, Dead, Cover, EndCovers, By, Cut, CutFrom}
 use Rattle.derivation.specs.declared.side.Side.{Side}
 use Rattle.derivation.specs.declared.side.Side.TheVariants.{Upto, From}
 use Rattle.derivation.specs.declared.half.Half.{Half}
 use Rattle.derivation.specs.declared.half.Half.TheVariants.{OfPlace, OfSide}
 use Rattle.derivation.specs.Covers.{IsCut}
+use Rattle.derivation.specs.Fits.{IsPlace}
 use Rattle.derivation_check.specs.declared.saved.Saved.{Saved}
 use Rattle.derivation_check.specs.declared.saved.Saved.TheVariants.{Places, Ends}
 use Rattle.derivation_check.specs.declared.progress.Task.{Task}
@@ -20,10 +18,6 @@ use Rattle.derivation_check.specs.declared.progress.Work.TheVariants.{AtNode, Of
 -- of the number of a cut
 abbrev pub IsLimited : ℤ → Type 0
 IsLimited v = (negsuc 999999999 ≤ℤ v) × (v ≤ℤ pos 1000000000)
-
-pub record IsPlace (s : ℕ) : Type 0 where
-  pub least : 1 ≤ s
-  pub most : s ≤ MAX_SHAPES
 
 abbrev pub HalfFits : ℕ → Half → Type 0
 HalfFits K (OfPlace s) = IsPlace s
@@ -45,19 +39,3 @@ abbrev pub WorkFits : ℕ → ℕ → Work → Type 0
 WorkFits n K AtNode = Unit {0}
 WorkFits n K (OfDrop o s) = (o.0 < n) × IsPlace s
 WorkFits n K (OfList o c next s) = (o.0 < n) × OwnerFits K c × (1 ≤ next)
-
--- the objects, places and dimensions of the event exist
-abbrev pub EventFits : ℕ → ℕ → Event → Type 0
-EventFits n K (SplitShape o s) = (o.0 < n) × IsPlace s
-EventFits n K (SplitUpto o d v) = (o.0 < n) × IsCut K (Upto d v)
-EventFits n K (SplitFrom o d v) = (o.0 < n) × IsCut K (From d v)
-EventFits n K (Drop o s) = (o.0 < n) × IsPlace s
-EventFits n K (Raise o d v) = (o.0 < n) × IsCut K (From d v)
-EventFits n K (Lower o d v) = (o.0 < n) × IsCut K (Upto d v)
-EventFits n K (Gone o) = o.0 < n
-EventFits n K (Dead i) = Unit {0}
-EventFits n K (Cover s) = IsPlace s
-EventFits n K EndCovers = Unit {0}
-EventFits n K (By i) = Unit {0}
-EventFits n K (Cut d v) = IsCut K (Upto d v)
-EventFits n K (CutFrom d v) = IsCut K (From d v)

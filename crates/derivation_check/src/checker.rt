@@ -7,7 +7,7 @@ ghost use Rattle.geo_conditions.specs.Conditions.{AllFit};
 ghost use Rattle.derivation.specs.declared.event.Event.{Event};
 ghost use Rattle.derivation.specs.Nodes.{Node, node_events};
 ghost use Rattle.derivation_check.specs.declared.progress.Checked.TheVariants as verdicts;
-ghost use Rattle.derivation_check.specs.Fits.{EventFits};
+ghost use Rattle.derivation.specs.Fits.{EventFits};
 ghost use Rattle.derivation_check.specs.Judges.{Judges};
 ghost use Rattle.derivation_check.specs.Machine.{HasTaken, step};
 ghost use Rattle.derivation_check.specs.Sound.{Solves};

@@ -5,7 +5,8 @@ ghost use Rattle.derivation.specs.declared.half.Half.TheVariants.{OfSide};
 ghost use Rattle.derivation.specs.Covers.{IsCut};
 ghost use Rattle.derivation.specs.PlaceCovers.{next_place};
 ghost use Rattle.derivation.specs.Valid.{alone, first_part, second_part, change};
-ghost use Rattle.derivation_check.specs.Fits.{IsPlace, HalfFits};
+ghost use Rattle.derivation_check.specs.Fits.{HalfFits};
+ghost use Rattle.derivation.specs.Fits.{IsPlace};
 
 use derivation::{Half, Side};
 use geo_base::MAX_DIMS;

@@ -2,7 +2,8 @@
 
 ghost use Rattle.std.specs.Prelude.{IsTrue, ◌↔◌, ◌<◌, ◌≤◌};
 ghost use Rattle.std.specs.List.{All};
-ghost use Rattle.derivation_check.specs.Fits.{IsLimited, IsPlace, EventFits};
+ghost use Rattle.derivation_check.specs.Fits.{IsLimited};
+ghost use Rattle.derivation.specs.Fits.{IsPlace, EventFits};
 
 use derivation::Event;
 use geo_conditions::{MAX_SHAPES, ObjId};

@@ -10,7 +10,8 @@ ghost use Rattle.geo_conditions.specs.Conditions.{AllFit};
 ghost use Rattle.derivation.specs.Covers.{IsCut, refutes};
 ghost use Rattle.derivation_check.specs.Machine.{back, left, start, noted, finish, split, go_first, go_second, drop_from, list_from, with_boxes, copied, forked, rest, named, closed, leaf, by_leaf, step};
 ghost use Rattle.derivation_check.specs.Judges.{answer};
-ghost use Rattle.derivation_check.specs.Fits.{IsPlace, HalfFits, TaskFits, OwnerFits, EventFits};
+ghost use Rattle.derivation_check.specs.Fits.{HalfFits, TaskFits, OwnerFits};
+ghost use Rattle.derivation.specs.Fits.{IsPlace, EventFits};
 
 use crate::cuts::{keep_first, keep_second, next_there};
 use crate::open_box::OpenBox;

@@ -4,3 +4,4 @@ pub mod Words
 pub mod Runs
 pub mod Steps
 pub mod Turns
+pub mod Whole

@@ -2,7 +2,7 @@ use Rattle.std.proofs.Common.{rules, ◌≡◌, take, subst, arith}
 use Rattle.std.specs.List.{All}
 use Rattle.std.proofs.lemmas.List.{take_all}
 use Rattle.std.proofs.lemmas.List.Elements.{All-more}
-use Rattle.derivation_check.specs.Fits.{EventFits}
+use Rattle.derivation.specs.Fits.{EventFits}
 use Rattle.derivation_check.proofs.fitting.all_fit.Goals as goal
 
 pub loop-e-preserved : goal.loop-e-preserved

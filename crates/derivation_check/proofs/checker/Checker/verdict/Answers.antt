@@ -3,7 +3,7 @@ use Rattle.std.specs.List.{All}
 use Rattle.geo_base.specs.Tuple.{Tuple}
 use Rattle.geo_conditions.specs.Reach.{State}
 use Rattle.derivation.specs.Nodes.{Node, node_events}
-use Rattle.derivation_check.specs.Fits.{EventFits}
+use Rattle.derivation.specs.Fits.{EventFits}
 use Rattle.derivation_check.specs.Judges.{Judges}
 use Rattle.derivation_check.specs.Machine.{HasTaken}
 use Rattle.derivation_check.specs.Sound.{Solves}

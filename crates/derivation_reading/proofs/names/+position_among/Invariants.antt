@@ -1,0 +1,5 @@
+use Rattle.std.proofs.Common.{length}
+use Rattle.derivation_reading.proofs.names.+position_among.Given as goal
+
+abbrev pub decreases-position_among : goal.decreases-position_among
+decreases-position_among l = length l.shapes.now

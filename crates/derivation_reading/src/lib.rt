@@ -1,0 +1,11 @@
+//! Reading the text of a derivation, in pieces.
+#![tactic(auto)]
+
+mod feeder;
+mod names;
+mod production;
+mod symbol;
+
+pub use feeder::{Feeder, Progress, read_derivation};
+pub use production::{Behind, Outcome, next};
+pub use symbol::{Part, Sign, Symbol, Terminal, terminal_of};
