@@ -6,3 +6,4 @@ pub mod Chains
 pub mod SmallerCovers
 pub mod Listings
 pub mod Refuting
+pub mod SmallerStates

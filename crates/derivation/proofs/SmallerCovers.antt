@@ -78,7 +78,7 @@ far_smaller (From d v) c b i = upto_smaller c b d (v +ℤ negsuc 0) (v +ℤ negs
 lt_wider : (h l h' l' : ℤ) → int_lt h l ≡ true → l ≤ℤ l' → h' ≤ℤ h → int_lt h' l' ≡ true
 lt_wider h l h' l' e f g = grind (arith, ints)
 
-empty_smaller : (ls hs ks gs : List ℤ) → length ks ≡ length ls → length gs ≡ length hs → ((d : ℕ) → coordinate ls d ≤ℤ coordinate ks d) → ((d : ℕ) → coordinate gs d ≤ℤ coordinate hs d) → empty_between ls hs ≡ true → empty_between ks gs ≡ true
+pub empty_smaller : (ls hs ks gs : List ℤ) → length ks ≡ length ls → length gs ≡ length hs → ((d : ℕ) → coordinate ls d ≤ℤ coordinate ks d) → ((d : ℕ) → coordinate gs d ≤ℤ coordinate hs d) → empty_between ls hs ≡ true → empty_between ks gs ≡ true
 empty_smaller [] hs ks gs a b f g e = absurd (false≢true e)
 empty_smaller (l ∷ ls) [] ks gs a b f g e = absurd (false≢true e)
 empty_smaller (l ∷ ls) (h ∷ hs) [] gs a b f g e = absurd (omega arith)

@@ -7,3 +7,4 @@ pub mod Chains
 pub mod Nodes
 pub mod Valid
 pub mod Fits
+pub mod Laws

@@ -3,12 +3,14 @@
 
 mod event;
 mod half;
+mod laws;
 mod log;
 mod recorder;
 mod side;
 
 pub use event::Event;
 pub use half::Half;
+pub use laws::covers_stay;
 pub use log::Log;
 pub use recorder::{NoRecord, Recorder};
 pub use side::Side;
