@@ -49,7 +49,7 @@ impl<'a> Feeder<'a> {
     /// Before the first piece of a text that begins at this place of the input. It takes no memory.
     pub fn start(alloc: Global, names: &'a Names, place: u64) -> Feeder<'a>
         requires place { place ≤ 2 ^ 62 }
-        ensures { HasCome result [] [] }
+        ensures { HasCome names.now place result [] [] }
     {
         Feeder {
             names,
