@@ -14,6 +14,7 @@ use Rattle.token_stream.specs.declared.stream.Taken.TheVariants as takes
 use Rattle.token_stream.specs.Stream.{Has, name_of, run_length}
 use Rattle.derivation.specs.declared.event.Event.{Event}
 use Rattle.derivation.specs.Fits.{EventFits}
+use Rattle.derivation.specs.Nodes.{Node, node_events}
 use Rattle.derivation_reading.specs.declared.symbol.Symbol.{Symbol}
 use Rattle.derivation_reading.specs.declared.feeder.Progress.{Progress}
 use Rattle.derivation_reading.specs.declared.feeder.Progress.TheVariants.{Open, Done, Failed}
@@ -79,6 +80,11 @@ Ends old new before later = (n : NameTable) (from : ℕ) (text : List ℕ) (es :
 abbrev pub StaysFitting : Feeder → List Event → List Event → Type 0
 StaysFitting old before later = (n : NameTable) (from : ℕ) (text : List ℕ) (es : List Event) → HasCome n from old text es
     → All (EventFits (length n.objects) n.dims) before → All (EventFits (length n.objects) n.dims) later
+
+-- Where that text has ended with the word `qed`, and the record held its events, they are those of a tree.
+abbrev pub EndsTree : Feeder → Result Bool TextFault → List Event → List Event → Type 0
+EndsTree old result before later = (n : NameTable) (from : ℕ) (text : List ℕ) → HasCome n from old text before
+    → result ≡ Ok true → (root : Node) × (node_events root ≡ later)
 
 -- what is answered
 abbrev pub answer_of : Progress → Result Bool TextFault

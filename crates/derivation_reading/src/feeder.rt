@@ -1,14 +1,17 @@
 //! Reading a derivation in pieces.
 
-ghost use Rattle.std.specs.Prelude.{◌≡◌, ◌<◌, ◌≤◌, ◌^◌, [], ◌∷◌, ◌++◌, reverse, IfOk};
+ghost use Rattle.std.specs.Prelude.{◌≡◌, ◌<◌, ◌≤◌, ◌^◌, [], ◌∷◌, ◌++◌, length, reverse, All, IfOk};
 ghost use Rattle.token_stream.specs.declared.stream.Taken.TheVariants as takes;
 ghost use Rattle.token_stream.specs.Stream.{name_of};
 ghost use Rattle.derivation.specs.Events.{Continues};
+ghost use Rattle.derivation.specs.Fits.{EventFits};
+ghost use Rattle.derivation.specs.Nodes.{Node, node_events};
 ghost use Rattle.derivation_reading.specs.declared.feeder.Progress.TheVariants.{Open};
 ghost use Rattle.derivation_reading.specs.Terminals.{terminal_of, name_by};
 ghost use Rattle.derivation_reading.specs.Grammar.{lookup, next};
 ghost use Rattle.derivation_reading.specs.Outcomes.{symbols};
-ghost use Rattle.derivation_reading.specs.Feeding.{Comes, Ends, HasCome, HasLeft, Keeps, Accepts, Goes, Reaches, Stops, FailsOpen, answer_of, failure, without_byte};
+ghost use Rattle.derivation_reading.specs.FirstFault.{AnswersDerivation, IsOnlyDerivation};
+ghost use Rattle.derivation_reading.specs.Feeding.{Comes, Ends, StaysFitting, EndsTree, HasCome, HasLeft, Keeps, Accepts, Goes, Reaches, Stops, FailsOpen, answer_of, failure, without_byte};
 
 use crate::production::{Behind, Outcome, next};
 use crate::symbol::{Symbol, terminal_of};
@@ -64,7 +67,10 @@ impl<'a> Feeder<'a> {
     pub fn feed(&mut self, piece: &[u8], out: &mut Log) -> Result<bool, TextFault>
         ensures come { Comes self.old self.new piece.now out.old.events out.new.events }
         ensures answer { result ≡ answer_of self.new.progress }
+        ensures fits { StaysFitting self.old out.old.events out.new.events }
+        ensures tree { EndsTree self.old result out.old.events out.new.events }
     {
+        let _dims = self.names.dims();
         for byte in piece {
             self.take(*byte, out);
         }
@@ -75,7 +81,10 @@ impl<'a> Feeder<'a> {
     pub fn finish(&mut self, out: &mut Log) -> Result<bool, TextFault>
         ensures ended { Ends self.old self.new out.old.events out.new.events }
         ensures answer { result ≡ answer_of self.new.progress }
+        ensures fits { StaysFitting self.old out.old.events out.new.events }
+        ensures tree { EndsTree self.old result out.old.events out.new.events }
     {
+        let _dims = self.names.dims();
         if let Progress::Open(symbol) = self.progress {
             self.end(symbol, out);
         }
@@ -285,7 +294,13 @@ pub fn read_derivation(
     place: u64,
 ) -> Result<Log, TextFault>
     requires place { place ≤ 2 ^ 62 }
+    ensures answer { AnswersDerivation result names.now place text.now }
+    ensures only { IsOnlyDerivation result names.now place text.now }
+    ensures fits { IfOk result
+        (λ log. All (EventFits (length names.now.objects) names.now.dims) log.events) }
+    ensures tree { IfOk result (λ log. (root : Node) × (node_events root ≡ log.events)) }
 {
+    let _dims = names.dims();
     let mut log = Log::new(alloc);
     let mut feeder = Feeder::start(alloc, names, place);
     if !feeder.feed(text, &mut log)? {

@@ -2,6 +2,7 @@ use Rattle.std.proofs.Common.{◌+◌, ℕ, List, [], ◌∷◌, ◌++◌, lengt
 use Rattle.std.proofs.lemmas.List.{take_all, take_more}
 use Rattle.derivation_reading.specs.Feeding.{Comes}
 use Rattle.derivation_reading.proofs.Pieces.{nothing_comes, comes_both}
+use Rattle.derivation_reading.proofs.Recorded.{comes_fitting, comes_tree}
 use Rattle.derivation_reading.proofs.feeder.Feeder.feed.Goals as goal
 
 pub loop-byte-init : goal.loop-byte-init
@@ -15,7 +16,18 @@ loop-byte-preserved c =
     (comes_both c.args.self.now c.loop-byte.self c.take.new.self (take i piece) (get_or piece i 0 ∷ []) c.args.out.now.events c.loop-byte.out.events c.take.new.out.events
     c.loop-byte.invariant c.take.ensures)
 
-pub returns-clause-come : goal.returns-clause-come
-returns-clause-come c =
+all_come : (c : goal.After-answer) → Comes c.args.self.now c.loop-byte.self c.args.piece.now c.args.out.now.events c.loop-byte.out.events
+all_come c =
     subst (λ (x : List ℕ). Comes c.args.self.now c.loop-byte.self x c.args.out.now.events c.loop-byte.out.events)
     (take_all c.loop-byte.byte-index c.args.piece.now c.loop-byte-test.false) c.loop-byte.invariant
+
+pub returns-clause-come : goal.returns-clause-come
+returns-clause-come c = all_come c
+
+pub returns-clause-fits : goal.returns-clause-fits
+returns-clause-fits c =
+    comes_fitting c.args.self.now c.loop-byte.self c.args.out.now.events c.loop-byte.out.events c.dims-dims.ensures.whole c.args.piece.now (all_come c)
+
+pub returns-clause-tree : goal.returns-clause-tree
+returns-clause-tree c =
+    comes_tree c.args.self.now c.loop-byte.self c.answer.result c.args.out.now.events c.loop-byte.out.events c.answer.ensures c.args.piece.now (all_come c)
