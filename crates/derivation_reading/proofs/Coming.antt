@@ -116,7 +116,7 @@ read_to n f text more es s o =
     let count = o.has.count in
     let short = o.short in
     let tokens_inside = All-weaker (λ t. t.end ≤ 0 + length text) (λ t. t.end ≤ length text) (λ t h. omega arith) o.tokens
-        (cut_inside f.stream.start o.has.rest 0 text o.tokens (stands_now text o.tokens f.stream.start o.has.rest o.has.stands)) in
+    (cut_inside f.stream.start o.has.rest 0 text o.tokens (stands_now text o.tokens f.stream.start o.has.rest o.has.stands)) in
     record {
       end = f.stream.start;
       rest = o.has.rest ++ more;
@@ -197,13 +197,16 @@ module _ (f g : Feeder) (stream : TokenStream) (s : Symbol) (taken : Taken) (byt
       let cuts = λ (x : List ℕ). cut_to m names (text_now ++ x) ts ss es taken (read x) (shows x) in
       let reached = λ (x : List ℕ). reaches (text_now ++ x) ts es grown.0 grown.1 own.low (read x).opens (shows x) in
       let has : (u : Symbol) → g.progress ≡ Open u → Has g.stream text_now us × (length text_now ≤ most_bytes) = λ u e. (
-          subst (λ (y : TokenStream). Has y text_now us) (sym keeps.stream) (still_has stream taken text_now ts u (subst (Stops taken) e stops) there),
-          short,
-      ) in
-      (grown.0, grown.1, come_by n from g g text_now gs (ap (λ b. b.now) keeps.names ∙ come.names) (keeps.place ∙ come.place) (record {
-        names = refl;
-        place = refl;
-        low = subst (λ (q : ℕ). q ≤ 2 ^ 62) (sym keeps.place) own.low;
-        far = at g text_now us gs cuts g.progress has reached;
-        events = λ x. events_at g (text_now ++ x) us gs g.progress (cuts x) (reached x);
-      }))
+        subst (λ (y : TokenStream). Has y text_now us) (sym keeps.stream) (still_has stream taken text_now ts u (subst (Stops taken) e stops) there),
+        short,
+      ) in (
+        grown.0,
+        grown.1,
+        come_by n from g g text_now gs (ap (λ b. b.now) keeps.names ∙ come.names) (keeps.place ∙ come.place) (record {
+          names = refl;
+          place = refl;
+          low = subst (λ (q : ℕ). q ≤ 2 ^ 62) (sym keeps.place) own.low;
+          far = at g text_now us gs cuts g.progress has reached;
+          events = λ x. events_at g (text_now ++ x) us gs g.progress (cuts x) (reached x);
+        }),
+      )

@@ -140,11 +140,14 @@ module _ (f g h : Feeder) (stream : TokenStream) (s : Symbol) (taken : Taken) (b
       let cuts = λ (x : List ℕ). cut_to m names (text_now ++ x) ts ss es left (read x) (shows x) in
       let low : g.place ≤ 2 ^ 62 = subst (λ (q : ℕ). q ≤ 2 ^ 62) (sym keeps.place) own.low in
       let reached = λ (x : List ℕ). reached_failed g most_bytes words.Long low (omega arith) (text_now ++ x) us gs (cuts x).end (cuts x).rest (cuts x).cut
-          (λ u is opened. long_fault g.names.now (text_now ++ x) us u (reverse g.behind.items) gs (cut_past stream text_now x ts u taken size (subst (Stops left) is stops) there) opened
-          (omega (arith, size, length-append text_now x)))
-          (reaches (text_now ++ x) ts es grown.0 grown.1 own.low (read x).opens (shows x)) in
-      (grown.0, grown.1, come_by n from g h text_now gs (ap (λ b. b.now) keeps.names ∙ come.names) (keeps.place ∙ come.place)
-      (closed g h most_bytes words.Long fails us gs text_now low cuts reached))
+      (λ u is opened. long_fault g.names.now (text_now ++ x) us u (reverse g.behind.items) gs (cut_past stream text_now x ts u taken size (subst (Stops left) is stops) there) opened
+      (omega (arith, size, length-append text_now x)))
+      (reaches (text_now ++ x) ts es grown.0 grown.1 own.low (read x).opens (shows x)) in (
+        grown.0,
+        grown.1,
+        come_by n from g h text_now gs (ap (λ b. b.now) keeps.names ∙ come.names) (keeps.place ∙ come.place)
+            (closed g h most_bytes words.Long fails us gs text_now low cuts reached),
+      )
 
 -- ---- the end of the text
 
@@ -161,7 +164,7 @@ module _ (f g h : Feeder) (s : Symbol) (taken : Taken) (before later : List Even
   -- with this fault, where it is open
   ends : (place : ℕ) (word : FaultWord) → place ≤ most_bytes → FailsOpen g h place word
       → ((text : List ℕ) (us : List Token) (u : Symbol) (gs : List Event) → f.stream.count ≡ length text → Cut (length text) [] 0 text us
-        → Opens (lookup g.names.now) (lexemes text us) (u ∷ reverse g.behind.items) gs → HasFirstFault g.names.now text place word)
+      → Opens (lookup g.names.now) (lexemes text us) (u ∷ reverse g.behind.items) gs → HasFirstFault g.names.now text place word)
       → Ends f h before later
   ends place word near fails fault n from text es come =
       let own = by_its_own n from f text es come in
@@ -177,8 +180,8 @@ module _ (f g h : Feeder) (s : Symbol) (taken : Taken) (before later : List Even
       let cut = cut_to f names text ts ss es taken read shows in
       let low : g.place ≤ 2 ^ 62 = subst (λ (q : ℕ). q ≤ 2 ^ 62) (sym keeps.place) own.low in
       let reached = reached_failed g place word low near text us gs cut.end cut.rest cut.cut
-          (λ u is opened. fault text us u gs is_open.has.count (all_cut f.stream taken text ts u (subst (Stops taken) is stops) there) opened)
-          (reaches text ts es grown.0 grown.1 own.low read.opens shows) in
+      (λ u is opened. fault text us u gs is_open.has.count (all_cut f.stream taken text ts u (subst (Stops taken) is stops) there) opened)
+      (reaches text ts es grown.0 grown.1 own.low read.opens shows) in
       (grown.0, grown.1, ended_by n from g h text gs (ap (λ b. b.now) keeps.names ∙ come.names) (keeps.place ∙ come.place) (at_end g h place word fails us gs text cut reached))
 
   -- a text that ends too early

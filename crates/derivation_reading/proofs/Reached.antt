@@ -72,9 +72,11 @@ module _ (f g : Feeder) (keeps : Keeps f g) where
       → HasFirstFault f.names.now text place word → HasEvents f.names.now text gs → g.progress ≡ failure f place word → HasReached g g.progress text us gs
   fails_at text us gs place word low near fault events e =
       subst (λ (p : Progress). HasReached g p text us gs) (sym e)
-      (subst (λ (m : NameTable). HasFaultFrom m g.place text (faults.At (min (f.place + place) (2 ^ 64 - 1)) word) × HasEvents m text gs) (sym same_names)
-      (subst (λ (q : ℕ). HasFaultFrom f.names.now q text (faults.At (min (f.place + place) (2 ^ 64 - 1)) word)) (sym keeps.place)
-      (fault_in_input f.names.now f.place text place word low near fault), events))
+      (subst (λ (m : NameTable). HasFaultFrom m g.place text (faults.At (min (f.place + place) (2 ^ 64 - 1)) word) × HasEvents m text gs) (sym same_names) (
+        subst (λ (q : ℕ). HasFaultFrom f.names.now q text (faults.At (min (f.place + place) (2 ^ 64 - 1)) word)) (sym keeps.place)
+            (fault_in_input f.names.now f.place text place word low near fault),
+        events,
+      ))
 
 -- the events of tokens that were read
 pub events_of : (n : NameTable) (text : List ℕ) (ts : List Token) (ss : List Symbol) (es : List Event) (place : ℕ) (rest : List ℕ) → Cut place rest 0 text ts
@@ -151,11 +153,14 @@ module _ (f g : Feeder) (text : List ℕ) (ts : List Token) (t : Token) (s : Sym
         by (Open u) left whole = onward (u ∷ reverse g.behind.items) left (whole (λ z. absurd cc))
         by Done left whole = onward [] (sym left) (whole (λ z. absurd cc))
         by (Failed (faults.At place word)) left whole = absurd left
-        by (Failed faults.Memory) left whole = (tt, subst (λ (m : NameTable). HasEvents m text (es ++ rec)) (sym (same_names f g keeps)) (elim all_or_none [
-          | inl none ↦ subst (λ (u : List Event). HasEvents names text (es ++ u)) (sym none) no_more_events
-          | inr all ↦ subst (λ (u : List Event). HasEvents names text (es ++ u)) (sym all)
-              (events_of names text (ts ++ t ∷ []) (more ++ reverse f.behind.items) (es ++ ds) h.end h.rest h.cut on)
-        ]))
+        by (Failed faults.Memory) left whole = (
+          tt,
+          subst (λ (m : NameTable). HasEvents m text (es ++ rec)) (sym (same_names f g keeps)) (elim all_or_none [
+            | inl none ↦ subst (λ (u : List Event). HasEvents names text (es ++ u)) (sym none) no_more_events
+            | inr all ↦ subst (λ (u : List Event). HasEvents names text (es ++ u)) (sym all)
+                (events_of names text (ts ++ t ∷ []) (more ++ reverse f.behind.items) (es ++ ds) h.end h.rest h.cut on)
+          ]),
+        )
 
     by_outcome : (x : Next) → outcome ≡ x → (a : Accepts f g x t.start before later) → HasReached g g.progress text (ts ++ t ∷ []) (es ++ recorded f g x t.start before later a)
     by_outcome Wrong e a = fails_at f g keeps text (ts ++ t ∷ []) (es ++ []) t.start words.Syntax place near (inside (wrong_at e)) no_more_events a.0
@@ -197,7 +202,7 @@ reaches_fault f g s place word before same text ts es more e low opens shows =
     let fault = token_fault f.names.now text ts s (reverse f.behind.items) es place word opens shows in
     let none : [] ≡ more = appended before [] more (append-nil before ∙ e) in
     let events = subst (λ (u : List Event). HasEvents f.names.now text (es ++ u)) none (subst (HasEvents f.names.now text) (sym (append-nil es))
-        (events_of f.names.now text ts (s ∷ reverse f.behind.items) es place shows.rest shows.cut opens)) in
+    (events_of f.names.now text ts (s ∷ reverse f.behind.items) es place shows.rest shows.cut opens)) in
     subst (λ (x : Feeder). HasReached x x.progress text ts (es ++ more)) (sym same) (fault_in_input f.names.now f.place text place word low fault.0 fault.1, events)
 
 -- where the reading goes on, it ends with a fault
@@ -222,5 +227,5 @@ reaches_both f g h s t place before later keeps reached fails text ts es more e 
     let low_there : g.place ≤ 2 ^ 62 = subst (λ (q : ℕ). q ≤ 2 ^ 62) (sym keeps.place) low in
     let near : place ≤ most_bytes = (let q = shows.1.short in omega (arith, q)) in
     let failed = reached_failed g place words.Byte low_there near text us gs shows.0.end shows.0.rest shows.0.cut
-        (λ u is opened. (token_fault g.names.now text us u (reverse g.behind.items) gs place words.Byte opened shows.1).1) (reached text ts es more e low opens shows.0) in
+    (λ u is opened. (token_fault g.names.now text us u (reverse g.behind.items) gs place words.Byte opened shows.1).1) (reached text ts es more e low opens shows.0) in
     subst (λ (x : Feeder). HasReached x x.progress text us gs) (sym fails) failed

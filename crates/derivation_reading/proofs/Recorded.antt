@@ -58,7 +58,7 @@ module _ (f g : Feeder) (result : Result Bool TextFault) (before later : List Ev
   comes_tree piece comes n from text come done =
       let r = comes n from text before come in
       let far : IsAt n from g Done (text ++ piece) (before ++ r.0) =
-          subst (λ (p : Progress). IsAt n from g p (text ++ piece) (before ++ r.0)) (is_done g.progress (sym answer ∙ done)) r.2.far in
+      subst (λ (p : Progress). IsAt n from g p (text ++ piece) (before ++ r.0)) (is_done g.progress (sym answer ∙ done)) r.2.far in
       let tree = text_tree n (text ++ piece ++ []) (before ++ r.0) (far []) in
       (tree.0, tree.1 ∙ sym r.1)
 
@@ -66,6 +66,6 @@ module _ (f g : Feeder) (result : Result Bool TextFault) (before later : List Ev
   ends_tree ends n from text come done =
       let r = ends n from text before come in
       let far : IsAtEnd n from Done text (before ++ r.0) =
-          subst (λ (p : Progress). IsAtEnd n from p text (before ++ r.0)) (is_done g.progress (sym answer ∙ done)) r.2.far in
+      subst (λ (p : Progress). IsAtEnd n from p text (before ++ r.0)) (is_done g.progress (sym answer ∙ done)) r.2.far in
       let tree = text_tree n text (before ++ r.0) far in
       (tree.0, tree.1 ∙ sym r.1)
