@@ -3,7 +3,6 @@ use Rattle.std.proofs.Common.{◌≡◌, ℕ, List, [], ◌∷◌, ◌++◌, ◌
 use Rattle.std.proofs.lemmas.List.{append-nil}
 use Rattle.derivation.specs.declared.event.Event.{Event}
 use Rattle.derivation_reading.specs.declared.production.Behind.{Behind}
-use Rattle.derivation_reading.specs.declared.production.Outcome.{Outcome}
 use Rattle.derivation_reading.specs.declared.production.Outcome.TheVariants as outcomes
 use Rattle.derivation_reading.specs.declared.feeder.Progress.{Progress}
 use Rattle.derivation_reading.specs.declared.feeder.Progress.TheVariants.{Failed}

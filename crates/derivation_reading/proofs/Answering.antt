@@ -1,16 +1,14 @@
 -- What is answered to a whole text, and that nothing else is true of it.
-use Rattle.std.proofs.Common.{◌≡◌, ◌+◌, ℕ, List, [], ◌++◌, Result, Ok, Err, Bool, true, false, refl, sym, ap, ◌∙◌, append-nil, subst, arith}
-use Rattle.geo_tokens.specs.declared.fault.FaultWord.{FaultWord}
+use Rattle.std.proofs.Common.{◌≡◌, ◌+◌, ℕ, List, [], ◌++◌, Result, Ok, Err, Bool, true, refl, sym, ap, ◌∙◌, append-nil, subst, arith}
 use Rattle.geo_tokens.specs.declared.fault.TextFault.{TextFault}
 use Rattle.geo_tokens.specs.declared.fault.TextFault.TheVariants as faults
 use Rattle.geo_tokens.specs.Names.{NameTable}
 use Rattle.derivation.specs.declared.event.Event.{Event}
 use Rattle.derivation.specs.Events.{Kept}
-use Rattle.derivation_reading.specs.declared.symbol.Symbol.{Symbol}
 use Rattle.derivation_reading.specs.declared.feeder.Progress.{Progress}
 use Rattle.derivation_reading.specs.declared.feeder.Progress.TheVariants.{Open, Done, Failed}
 use Rattle.derivation_reading.specs.declared.feeder.Feeder.{Feeder}
-use Rattle.derivation_reading.specs.FirstFault.{IsText, HasFirstFault, HasFaultFrom, AnswersDerivation, IsOnlyDerivation}
+use Rattle.derivation_reading.specs.FirstFault.{IsText, HasFaultFrom, AnswersDerivation, IsOnlyDerivation}
 use Rattle.derivation_reading.specs.Feeding.{IsAt, HasCome, Comes, IsAtEnd, HasEnded, Ends, answer_of}
 use Rattle.derivation_reading.proofs.OneReading.{one_text, text_or_first, first_faults}
 use Rattle.derivation_reading.proofs.Recorded.{is_done}

@@ -1,23 +1,18 @@
 -- A reading that a byte or the end of the text takes on.
-use Rattle.std.proofs.Common.{◌≡◌, ◌+◌, ◌≤◌, ◌<◌, ◌^◌, ℕ, List, [], ◌∷◌, ◌++◌, length, reverse, Bool, true, false, All, inl, inr, refl, sym, ap, ◌∙◌, append_assoc, subst, arith}
+use Rattle.std.proofs.Common.{◌≡◌, ◌+◌, ◌≤◌, ◌<◌, ◌^◌, ℕ, List, [], ◌∷◌, ◌++◌, length, reverse, Bool, true, false, inl, inr, refl, sym, ap, ◌∙◌, append_assoc, subst, arith}
 use Rattle.std.proofs.lemmas.List.{append-nil, length-append}
 use Rattle.std.proofs.lemmas.List.Elements.{All-weaker}
-use Rattle.std.proofs.lemmas.Bool.{leb-true, leb-false}
+use Rattle.std.proofs.lemmas.Bool.{leb-false}
 use Rattle.std.specs.Prelude.{nat_le, if◌then◌else◌}
 use Rattle.geo_tokens.specs.declared.token.Token.{Token}
-use Rattle.geo_tokens.specs.declared.token.Kind.{Kind}
 use Rattle.geo_tokens.specs.declared.fault.FaultWord.{FaultWord}
-use Rattle.geo_tokens.specs.declared.fault.FaultWord.TheVariants as words
-use Rattle.geo_tokens.specs.declared.fault.TextFault.TheVariants as faults
 use Rattle.geo_tokens.specs.Names.{NameTable}
-use Rattle.geo_tokens.specs.Cut.{Cut, IsToken, IsBad, IsGap}
-use Rattle.geo_tokens.proofs.Fronts.{token_inside}
+use Rattle.geo_tokens.specs.Cut.{Cut}
 use Rattle.token_stream.specs.declared.stream.TokenStream.{TokenStream}
 use Rattle.token_stream.specs.declared.stream.Taken.{Taken}
 use Rattle.token_stream.specs.declared.stream.Taken.TheVariants as takes
-use Rattle.token_stream.specs.Stream.{Stands, Has, HasName, IsFault, IsLastFault, Takes, Finishes, run_length}
+use Rattle.token_stream.specs.Stream.{Stands, Has, HasName, IsFault, Takes, Finishes, run_length}
 use Rattle.token_stream.proofs.Steps.{stands_now}
-use Rattle.token_stream.proofs.Whole.{bad_inside, gap_whole, token_whole, bad_whole}
 use Rattle.derivation.specs.declared.event.Event.{Event}
 use Rattle.derivation.specs.Events.{Continues}
 use Rattle.derivation_reading.specs.declared.symbol.Symbol.{Symbol}
@@ -27,12 +22,10 @@ use Rattle.derivation_reading.specs.declared.feeder.Feeder.{Feeder}
 use Rattle.derivation_reading.specs.Terminals.{Lexeme, lexemes}
 use Rattle.derivation_reading.specs.Grammar.{lookup}
 use Rattle.derivation_reading.specs.Machine.{Opens}
-use Rattle.derivation_reading.specs.FirstFault.{most_bytes, IsText, IsLong, HasFirstFault, inside, long, ended}
-use Rattle.derivation_reading.specs.Feeding.{IsOpen, IsAt, HasEvents, HasCome, Comes, HasReached, IsNext, IsNextFault, Shows, with_taken, Reaches, Stops, Keeps, FailsOpen, without_byte}
-use Rattle.derivation_reading.proofs.Viable.{opens_begins}
+use Rattle.derivation_reading.specs.FirstFault.{most_bytes, IsText}
+use Rattle.derivation_reading.specs.Feeding.{IsOpen, IsAt, HasEvents, HasCome, Comes, HasReached, IsNext, IsNextFault, Shows, with_taken, Reaches, Stops, Keeps, without_byte}
 use Rattle.derivation_reading.proofs.Cuttings.{cut_inside, to_last}
 use Rattle.derivation_reading.proofs.Longer.{same_bytes, same_lexemes}
-use Rattle.derivation_reading.proofs.Long.{GoesPast, is_long}
 use Rattle.derivation_reading.proofs.Reached.{events_of}
 
 -- ---- what was completed, whatever comes behind the text

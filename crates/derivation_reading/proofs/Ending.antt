@@ -23,7 +23,7 @@ use Rattle.derivation_reading.specs.declared.feeder.Feeder.{Feeder}
 use Rattle.derivation_reading.specs.Terminals.{lexemes}
 use Rattle.derivation_reading.specs.Grammar.{lookup}
 use Rattle.derivation_reading.specs.Machine.{Opens}
-use Rattle.derivation_reading.specs.FirstFault.{most_bytes, HasFault, HasFirstFault, inside, long, ended}
+use Rattle.derivation_reading.specs.FirstFault.{most_bytes, HasFirstFault, inside, long, ended}
 use Rattle.derivation_reading.specs.Feeding.{IsOpen, IsAt, HasCome, Comes, HasEnded, Ends, IsAtEnd, HasReached, with_taken, Reaches, Stops, Keeps, FailsOpen, failed_open, without_byte}
 use Rattle.derivation_reading.proofs.Viable.{opens_begins}
 use Rattle.derivation_reading.proofs.Long.{GoesPast, is_long}

@@ -1,5 +1,5 @@
 -- What the reading has come to behind a token.
-use Rattle.std.proofs.Common.{◌≡◌, ◌+◌, ◌-◌, ◌≤◌, ◌<◌, ◌^◌, min, ℕ, List, [], ◌∷◌, ◌++◌, length, reverse, ◌⊎◌, inl, inr, refl, sym, ap, ◌∙◌, append_assoc, subst, arith}
+use Rattle.std.proofs.Common.{◌≡◌, ◌+◌, ◌-◌, ◌≤◌, ◌^◌, min, ℕ, List, [], ◌∷◌, ◌++◌, reverse, ◌⊎◌, inl, inr, refl, sym, ap, ◌∙◌, subst, arith}
 use Rattle.std.proofs.Math.Nat.{min-eq_left}
 use Rattle.std.proofs.lemmas.List.{append-nil, append_cancel_left}
 use Rattle.geo_tokens.specs.declared.token.Token.{Token}
@@ -10,7 +10,7 @@ use Rattle.geo_tokens.specs.declared.fault.FaultWord.TheVariants as words
 use Rattle.geo_tokens.specs.declared.fault.TextFault.TheVariants as faults
 use Rattle.geo_tokens.specs.Bytes.{bytes_of}
 use Rattle.geo_tokens.specs.Names.{NameTable}
-use Rattle.geo_tokens.specs.Cut.{Cut, IsToken}
+use Rattle.geo_tokens.specs.Cut.{Cut}
 use Rattle.token_stream.specs.declared.stream.Taken.TheVariants as takes
 use Rattle.token_stream.specs.Stream.{name_of}
 use Rattle.derivation.specs.Events.{Continues}
@@ -22,10 +22,10 @@ use Rattle.derivation_reading.specs.declared.feeder.Feeder.{Feeder}
 use Rattle.derivation_reading.specs.Terminals.{terminal_of, name_by, Lexeme, lexeme, lexemes}
 use Rattle.derivation_reading.specs.Grammar.{lookup, next, at, Next, Wrong, Unknown}
 use Rattle.derivation_reading.specs.Grammar as nexts
-use Rattle.derivation_reading.specs.Machine.{Leaves, Opens, Spells}
+use Rattle.derivation_reading.specs.Machine.{Leaves, Opens}
 use Rattle.derivation_reading.specs.declared.symbol.Symbol.TheVariants.{Text}
 use Rattle.derivation_reading.specs.Begins.{Begins}
-use Rattle.derivation_reading.specs.FirstFault.{most_bytes, token_at, IsText, IsRead, HasFault, HasFirstFault, HasFaultFrom, inside, no_token, syntax, unknown}
+use Rattle.derivation_reading.specs.FirstFault.{most_bytes, token_at, IsRead, HasFault, HasFirstFault, HasFaultFrom, inside, no_token, syntax, unknown}
 use Rattle.derivation_reading.specs.Feeding.{HasReached, HasEvents, IsNext, IsNextFault, Reaches, HasLeft, Keeps, Accepts, FailsOpen, failed_open, failure}
 use Rattle.derivation_reading.proofs.Steps.{one_more}
 use Rattle.derivation_reading.proofs.Viable.{opens_begins, unknown_begins, wrong_begins_none}

@@ -1,5 +1,5 @@
 -- The events that were recorded: they name what exists, and those of a whole text are those of a tree.
-use Rattle.std.proofs.Common.{◌≡◌, ℕ, List, [], ◌∷◌, ◌++◌, length, drop, All, Result, Ok, Err, Bool, true, false, refl, sym, ap, ◌∙◌, subst}
+use Rattle.std.proofs.Common.{◌≡◌, ℕ, List, [], ◌++◌, length, All, Result, Ok, Bool, true, refl, sym, ◌∙◌, subst}
 use Rattle.std.proofs.Math.Seq.{drop-append_seam}
 use Rattle.std.proofs.lemmas.List.Elements.{All-append, All-drop}
 use Rattle.geo_tokens.specs.declared.fault.TextFault.{TextFault}

@@ -14,7 +14,7 @@ use Rattle.token_stream.specs.Stream.{run_length}
 use Rattle.derivation.specs.declared.event.Event.{Event}
 use Rattle.derivation.specs.Events.{Kept}
 use Rattle.derivation_reading.specs.declared.symbol.Symbol.{Symbol}
-use Rattle.derivation_reading.specs.Terminals.{Lexeme, lexeme, lexemes}
+use Rattle.derivation_reading.specs.Terminals.{lexeme, lexemes}
 use Rattle.derivation_reading.specs.Grammar.{lookup, at, Unknown}
 use Rattle.derivation_reading.specs.Machine.{Opens, Spells}
 use Rattle.derivation_reading.specs.Begins.{Begins}

@@ -1,9 +1,7 @@
-use Rattle.std.proofs.Common.{rules, ◌≡◌, Result, Ok, Err, Bool, true, false, List, sym, ap, ◌∙◌, subst}
+use Rattle.std.proofs.Common.{rules, ◌≡◌, Result, Ok, Err, sym, ap, ◌∙◌, subst}
 use Rattle.geo_tokens.specs.declared.fault.TextFault.{TextFault}
-use Rattle.derivation.specs.declared.event.Event.{Event}
 use Rattle.derivation.specs.Events.{Kept}
-use Rattle.derivation_reading.specs.FirstFault.{IsText, HasFaultFrom, AnswersDerivation}
-use Rattle.derivation_reading.specs.Feeding.{HasCome, HasEnded}
+use Rattle.derivation_reading.specs.FirstFault.{IsText, AnswersDerivation}
 use Rattle.derivation_reading.proofs.Answering.{come, end, fault_come, text_come, fault_ended, text_ended, only}
 use Rattle.derivation_reading.proofs.feeder.read_derivation.Goals as goal
 use Rattle.derivation_reading.proofs.feeder.read_derivation.Goals.{then-not-branch+in_ok-finish, else-not-branch}

@@ -1,4 +1,4 @@
-use Rattle.std.proofs.Common.{◌+◌, ℕ, List, [], ◌∷◌, ◌++◌, length, get_or, take, sym, subst}
+use Rattle.std.proofs.Common.{ℕ, List, [], ◌∷◌, get_or, take, sym, subst}
 use Rattle.std.proofs.lemmas.List.{take_all, take_more}
 use Rattle.derivation_reading.specs.Feeding.{Comes}
 use Rattle.derivation_reading.proofs.Pieces.{nothing_comes, comes_both}

@@ -1,4 +1,4 @@
-use Rattle.std.proofs.Common.{◌≡◌, [], ◌∷◌, reverse, refl, sym, ap, arith}
+use Rattle.std.proofs.Common.{[], ◌∷◌, reverse, refl, sym, ap, arith}
 use Rattle.derivation_reading.specs.declared.symbol.Symbol.TheVariants.{Text}
 use Rattle.geo_tokens.specs.Cut as cuts
 use Rattle.derivation_reading.specs.Machine.{here}
