@@ -27,7 +27,7 @@ pub record IsOver (first : State) (k : ℕ) (f : Feeder) (c : Checking) : Type 0
 -- This text came, these of its events are whole, and they were checked on the first state.
 pub record IsChecking (first : State) (k : ℕ) (f : Feeder) (c : Checking) (log : Kept) (text : List ℕ) (es : List Event) : Type 0 where
   pub over : IsOver first k f c
-  pub come : HasCome f text es
+  pub come : HasCome f.names.now f.place f text es
   pub taken : HasTaken c.conds first es c.machine
   pub nodes : c.machine.nodes ≤ length es
   pub empty : log.events ≡ []

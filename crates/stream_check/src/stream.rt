@@ -91,7 +91,7 @@ impl<'a, const K: usize> StreamCheck<'a, K> {
             → IsChecking first K self.old.feeder self.old.checker self.old.log text es
             → HasFaultFrom self.old.feeder.names.now self.old.feeder.place
             ((text ++ piece.now) ++ rest) fault) }
-        ensures names { self.new.feeder.names ≡ self.old.feeder.names }
+        ensures names { self.new.feeder.names.now ≡ self.old.feeder.names.now }
         ensures place { self.new.feeder.place ≡ self.old.feeder.place }
         ensures conditions { self.new.checker.conds ≡ self.old.checker.conds }
     {
@@ -111,7 +111,7 @@ impl<'a, const K: usize> StreamCheck<'a, K> {
             (es : List EventOf)
             → IsChecking first K self.old.feeder self.old.checker self.old.log text es
             → HasFaultFrom self.old.feeder.names.now self.old.feeder.place text fault) }
-        ensures names { self.new.feeder.names ≡ self.old.feeder.names }
+        ensures names { self.new.feeder.names.now ≡ self.old.feeder.names.now }
         ensures conditions { self.new.checker.conds ≡ self.old.checker.conds }
     {
         self.feeder.finish(&mut self.log)?;
