@@ -1,9 +1,8 @@
 -- A token that goes on.
-use Rattle.std.proofs.Common.{◌≡◌, ℕ, List, [], ◌∷◌, ◌++◌, ◌∙◌, reverse, refl, sym, subst}
+use Rattle.std.proofs.Common.{◌≡◌, ℕ, List, [], ◌∷◌, ◌++◌, ◌∙◌, reverse, inl, inr, refl, sym, subst}
 use Rattle.std.proofs.lemmas.List.{append-nil}
 use Rattle.derivation.specs.declared.event.Event.{Event}
 use Rattle.derivation_reading.specs.declared.production.Behind.{Behind}
-use Rattle.derivation_reading.specs.declared.production.Outcome.{Outcome}
 use Rattle.derivation_reading.specs.declared.production.Outcome.TheVariants as outcomes
 use Rattle.derivation_reading.specs.declared.feeder.Progress.{Progress}
 use Rattle.derivation_reading.specs.declared.feeder.Progress.TheVariants.{Failed}
@@ -19,7 +18,7 @@ module _ (old new : Feeder) (x : Next) (place : ℕ) (before : List Event) where
       → Accepts old new x place before before
   went_on behind e left =
       subst (λ (y : Next). Accepts old new y place before before) e
-      (record { left = left; recorded = []; grown = sym (append-nil before); whole = λ whole. refl })
+      (record { left = left; recorded = []; grown = sym (append-nil before); whole = λ whole. refl; all_or_none = inl refl })
 
   -- with an event
   pub gave : (behind : Behind) (event : Event) (later : List Event) → said (outcomes.Gives event behind) ≡ x → Goes old new (symbols behind) (event ∷ []) before later
@@ -30,7 +29,7 @@ module _ (old new : Feeder) (behind : Behind) (event : Event) (before : List Eve
   -- an event that was recorded
   pub recorded : (later : List Event) → HasLeft new.progress new.behind.items (symbols behind ++ reverse old.behind.items) → later ≡ before ++ event ∷ []
       → Goes old new (symbols behind) (event ∷ []) before later
-  recorded later left grown = record { left = left; recorded = event ∷ []; grown = grown; whole = λ no_memory. refl }
+  recorded later left grown = record { left = left; recorded = event ∷ []; grown = grown; whole = λ no_memory. refl; all_or_none = inr refl }
 
   -- and one that was refused
   pub refused : (later : List Event) → new.progress ≡ Failed faults.Memory → later ≡ before → Goes old new (symbols behind) (event ∷ []) before later
@@ -39,4 +38,5 @@ module _ (old new : Feeder) (behind : Behind) (event : Event) (before : List Eve
     recorded = [];
     grown = same ∙ sym (append-nil before);
     whole = λ no_memory. absurd (no_memory memory);
+    all_or_none = inl refl;
   }

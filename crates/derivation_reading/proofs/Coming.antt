@@ -1,23 +1,18 @@
 -- A reading that a byte or the end of the text takes on.
-use Rattle.std.proofs.Common.{◌≡◌, ◌+◌, ◌≤◌, ◌<◌, ◌^◌, ℕ, List, [], ◌∷◌, ◌++◌, length, reverse, Bool, true, false, All, inl, inr, refl, sym, ap, ◌∙◌, append_assoc, subst, arith}
+use Rattle.std.proofs.Common.{◌≡◌, ◌+◌, ◌≤◌, ◌<◌, ◌^◌, ℕ, List, [], ◌∷◌, ◌++◌, length, reverse, Bool, true, false, inl, inr, refl, sym, ap, ◌∙◌, append_assoc, subst, arith}
 use Rattle.std.proofs.lemmas.List.{append-nil, length-append}
 use Rattle.std.proofs.lemmas.List.Elements.{All-weaker}
-use Rattle.std.proofs.lemmas.Bool.{leb-true, leb-false}
+use Rattle.std.proofs.lemmas.Bool.{leb-false}
 use Rattle.std.specs.Prelude.{nat_le, if◌then◌else◌}
 use Rattle.geo_tokens.specs.declared.token.Token.{Token}
-use Rattle.geo_tokens.specs.declared.token.Kind.{Kind}
 use Rattle.geo_tokens.specs.declared.fault.FaultWord.{FaultWord}
-use Rattle.geo_tokens.specs.declared.fault.FaultWord.TheVariants as words
-use Rattle.geo_tokens.specs.declared.fault.TextFault.TheVariants as faults
 use Rattle.geo_tokens.specs.Names.{NameTable}
-use Rattle.geo_tokens.specs.Cut.{Cut, IsToken, IsBad, IsGap}
-use Rattle.geo_tokens.proofs.Fronts.{token_inside}
+use Rattle.geo_tokens.specs.Cut.{Cut}
 use Rattle.token_stream.specs.declared.stream.TokenStream.{TokenStream}
 use Rattle.token_stream.specs.declared.stream.Taken.{Taken}
 use Rattle.token_stream.specs.declared.stream.Taken.TheVariants as takes
-use Rattle.token_stream.specs.Stream.{Stands, Has, HasName, IsFault, IsLastFault, Takes, Finishes, run_length}
+use Rattle.token_stream.specs.Stream.{Stands, Has, HasName, IsFault, Takes, Finishes, run_length}
 use Rattle.token_stream.proofs.Steps.{stands_now}
-use Rattle.token_stream.proofs.Whole.{bad_inside, gap_whole, token_whole, bad_whole}
 use Rattle.derivation.specs.declared.event.Event.{Event}
 use Rattle.derivation.specs.Events.{Continues}
 use Rattle.derivation_reading.specs.declared.symbol.Symbol.{Symbol}
@@ -27,13 +22,11 @@ use Rattle.derivation_reading.specs.declared.feeder.Feeder.{Feeder}
 use Rattle.derivation_reading.specs.Terminals.{Lexeme, lexemes}
 use Rattle.derivation_reading.specs.Grammar.{lookup}
 use Rattle.derivation_reading.specs.Machine.{Opens}
-use Rattle.derivation_reading.specs.FirstFault.{most_bytes, IsText, IsLong, HasFirstFault, inside, long, ended}
-use Rattle.derivation_reading.specs.Feeding.{IsOpen, HasFaultFrom, IsAt, HasCome, Comes, Ends, IsAtEnd, HasReached, IsNext, IsNextFault, Shows, with_taken, Reaches, Stops, Keeps, FailsOpen, without_byte}
-use Rattle.derivation_reading.proofs.Viable.{opens_begins}
+use Rattle.derivation_reading.specs.FirstFault.{most_bytes, IsText}
+use Rattle.derivation_reading.specs.Feeding.{IsOpen, IsAt, HasEvents, HasCome, Comes, HasReached, IsNext, IsNextFault, Shows, with_taken, Reaches, Stops, Keeps, without_byte}
 use Rattle.derivation_reading.proofs.Cuttings.{cut_inside, to_last}
 use Rattle.derivation_reading.proofs.Longer.{same_bytes, same_lexemes}
-use Rattle.derivation_reading.proofs.Long.{GoesPast, is_long}
-use Rattle.derivation_reading.proofs.Reached.{reached_failed}
+use Rattle.derivation_reading.proofs.Reached.{events_of}
 
 -- ---- what was completed, whatever comes behind the text
 
@@ -110,8 +103,8 @@ pub record IsCutTo (text : List ℕ) (ts : List Token) : Type 0 where
   pub short : end ≤ most_bytes
 
 -- whatever comes behind an open text
-pub read_to : (f : Feeder) (text more : List ℕ) (es : List Event) (s : Symbol) (o : IsOpen f text es s) → IsReadTo f.names.now (text ++ more) o.tokens (s ∷ reverse f.behind.items) es
-read_to f text more es s o =
+pub read_to : (n : NameTable) (f : Feeder) (text more : List ℕ) (es : List Event) (s : Symbol) (o : IsOpen n f text es s) → IsReadTo n (text ++ more) o.tokens (s ∷ reverse f.behind.items) es
+read_to n f text more es s o =
     let place = o.has.run.place in
     let count = o.has.count in
     let short = o.short in
@@ -122,7 +115,7 @@ read_to f text more es s o =
       rest = o.has.rest ++ more;
       cut = o.has.stands more;
       short = omega (arith, place, count, short);
-      opens = subst (λ (ws : List Lexeme). Opens (lookup f.names.now) ws (s ∷ reverse f.behind.items) es) (sym (same_lexemes text more o.tokens tokens_inside)) o.opens;
+      opens = subst (λ (ws : List Lexeme). Opens (lookup n) ws (s ∷ reverse f.behind.items) es) (sym (same_lexemes text more o.tokens tokens_inside)) o.opens;
     }
 
 -- with what was completed
@@ -138,6 +131,20 @@ cut_to f n text ts ss es (takes.TokenAndFault t place) h shows =
 pub whole : (g : Feeder) (text : List ℕ) (us : List Token) (gs : List Event) → IsCutTo text us → HasReached g Done text us gs → IsText g.names.now text gs
 whole g text us gs h spells = record { tokens = us; end = h.end; rest = h.rest; cut = h.cut; short = h.short; spells = spells }
 
+-- the events of what was reached
+pub events_at : (g : Feeder) (text : List ℕ) (us : List Token) (gs : List Event) (p : Progress) → IsCutTo text us → HasReached g p text us gs → HasEvents g.names.now text gs
+events_at g text us gs (Open s) h opens = events_of g.names.now text us (s ∷ reverse g.behind.items) gs h.end h.rest h.cut opens
+events_at g text us gs Done h spells = events_of g.names.now text us [] gs h.end h.rest h.cut spells
+events_at g text us gs (Failed fault) h failed = failed.1
+
+-- ---- the names and the place that a reader keeps
+
+pub by_its_own : (n : NameTable) (from : ℕ) (f : Feeder) (text : List ℕ) (es : List Event) → HasCome n from f text es → HasCome f.names.now f.place f text es
+by_its_own n from f text es h = subst (λ (m : NameTable). HasCome m f.place f text es) (sym h.names) (subst (λ (q : ℕ). HasCome n q f text es) (sym h.place) h)
+
+pub come_by : (n : NameTable) (from : ℕ) (g h : Feeder) (text : List ℕ) (gs : List Event) → g.names.now ≡ n → g.place ≡ from → HasCome g.names.now g.place h text gs → HasCome n from h text gs
+come_by n from g h text gs names place x = subst (λ (m : NameTable). HasCome m from h text gs) names (subst (λ (q : ℕ). HasCome g.names.now q h text gs) place x)
+
 -- ---- a byte that a text may have
 
 -- behind no fault, the tokens are those of the stream
@@ -148,12 +155,13 @@ still_has stream (takes.Fault place word) text ts s on h = absurd on
 still_has stream (takes.TokenAndFault t place) text ts s on h = absurd on
 
 module _ (g : Feeder) (text : List ℕ) (us : List Token) (gs : List Event) (cuts : (x : List ℕ) → IsCutTo (text ++ x) us) where
-  at : (p : Progress) → ((s : Symbol) → p ≡ Open s → Has g.stream text us × (length text ≤ most_bytes)) → ((x : List ℕ) → HasReached g p (text ++ x) us gs) → IsAt g p text gs
+  at : (p : Progress) → ((s : Symbol) → p ≡ Open s → Has g.stream text us × (length text ≤ most_bytes)) → ((x : List ℕ) → HasReached g p (text ++ x) us gs)
+      → IsAt g.names.now g.place g p text gs
   at (Open s) has reached =
       let there = has s refl in
       record { tokens = us; has = there.0; opens = subst (λ (u : List ℕ). HasReached g (Open s) u us gs) (append-nil text) (reached []); short = there.1 }
   at Done has reached = λ x. whole g (text ++ x) us gs (cuts x) (reached x)
-  at (Failed fault) has reached = reached
+  at (Failed fault) has reached = λ x. (reached x).0
 
 -- the text with the byte and with more
 pub with_byte : (text : List ℕ) (byte : ℕ) (x : List ℕ) → text ++ byte ∷ x ≡ text ++ byte ∷ [] ++ x
@@ -164,21 +172,34 @@ module _ (f g : Feeder) (stream : TokenStream) (s : Symbol) (taken : Taken) (byt
     (keeps : Keeps (record f { stream = stream }) g) (grown : Continues before later) (reaches : Reaches (record f { stream = stream }) g s taken before later)
     (stops : Stops taken g.progress) where
   pub comes_next : Comes f g (byte ∷ []) before later
-  comes_next text es come =
-      let is_open : IsOpen f text es s = subst (λ (p : Progress). IsAt f p text es) open_before come.far in
+  comes_next n from text es come =
+      let own = by_its_own n from f text es come in
+      let names = f.names.now in
+      let is_open : IsOpen names f text es s = subst (λ (p : Progress). IsAt names f.place f p text es) open_before own.far in
       let m : Feeder = record f { stream = stream } in
       let text_now = text ++ byte ∷ [] in
-      let us = with_taken is_open.tokens taken in
+      let ts = is_open.tokens in
+      let ss = s ∷ reverse f.behind.items in
+      let us = with_taken ts taken in
       let gs = es ++ grown.0 in
-      let there = takes_it text is_open.tokens is_open.has in
+      let there = takes_it text ts is_open.has in
       let count = is_open.has.count in
       let short : length text_now ≤ most_bytes = omega (arith, count, length-append text (byte ∷ [])) in
-      let read = λ (x : List ℕ). subst (λ (u : List ℕ). IsReadTo f.names.now u is_open.tokens (s ∷ reverse f.behind.items) es) (with_byte text byte x) (read_to f text (byte ∷ x) es s is_open) in
-      let shows = λ (x : List ℕ). shows_next m text_now x is_open.tokens taken short there in
-      let cuts = λ (x : List ℕ). cut_to m f.names.now (text_now ++ x) is_open.tokens (s ∷ reverse f.behind.items) es taken (read x) (shows x) in
-      let reached = λ (x : List ℕ). reaches (text_now ++ x) is_open.tokens es grown.0 grown.1 come.place (read x).opens (shows x) in
+      let read = λ (x : List ℕ). subst (λ (u : List ℕ). IsReadTo names u ts ss es) (with_byte text byte x) (read_to names f text (byte ∷ x) es s is_open) in
+      let shows = λ (x : List ℕ). shows_next m text_now x ts taken short there in
+      let cuts = λ (x : List ℕ). cut_to m names (text_now ++ x) ts ss es taken (read x) (shows x) in
+      let reached = λ (x : List ℕ). reaches (text_now ++ x) ts es grown.0 grown.1 own.low (read x).opens (shows x) in
       let has : (u : Symbol) → g.progress ≡ Open u → Has g.stream text_now us × (length text_now ≤ most_bytes) = λ u e. (
-        subst (λ (y : TokenStream). Has y text_now us) (sym keeps.stream) (still_has stream taken text_now is_open.tokens u (subst (Stops taken) e stops) there),
+        subst (λ (y : TokenStream). Has y text_now us) (sym keeps.stream) (still_has stream taken text_now ts u (subst (Stops taken) e stops) there),
         short,
-      ) in
-      (grown.0, grown.1, record { place = subst (λ (q : ℕ). q ≤ 2 ^ 62) (sym keeps.place) come.place; far = at g text_now us gs cuts g.progress has reached })
+      ) in (
+        grown.0,
+        grown.1,
+        come_by n from g g text_now gs (ap (λ b. b.now) keeps.names ∙ come.names) (keeps.place ∙ come.place) (record {
+          names = refl;
+          place = refl;
+          low = subst (λ (q : ℕ). q ≤ 2 ^ 62) (sym keeps.place) own.low;
+          far = at g text_now us gs cuts g.progress has reached;
+          events = λ x. events_at g (text_now ++ x) us gs g.progress (cuts x) (reached x);
+        }),
+      )

@@ -23,12 +23,12 @@ use Rattle.derivation_reading.specs.declared.feeder.Feeder.{Feeder}
 use Rattle.derivation_reading.specs.Terminals.{lexemes}
 use Rattle.derivation_reading.specs.Grammar.{lookup}
 use Rattle.derivation_reading.specs.Machine.{Opens}
-use Rattle.derivation_reading.specs.FirstFault.{most_bytes, HasFault, HasFirstFault, inside, long, ended}
-use Rattle.derivation_reading.specs.Feeding.{IsOpen, IsAt, HasCome, Comes, Ends, IsAtEnd, HasReached, with_taken, Reaches, Stops, Keeps, FailsOpen, failed_open, without_byte}
+use Rattle.derivation_reading.specs.FirstFault.{most_bytes, HasFirstFault, inside, long, ended}
+use Rattle.derivation_reading.specs.Feeding.{IsOpen, IsAt, HasCome, Comes, HasEnded, Ends, IsAtEnd, HasReached, with_taken, Reaches, Stops, Keeps, FailsOpen, failed_open, without_byte}
 use Rattle.derivation_reading.proofs.Viable.{opens_begins}
 use Rattle.derivation_reading.proofs.Long.{GoesPast, is_long}
 use Rattle.derivation_reading.proofs.Reached.{reached_failed}
-use Rattle.derivation_reading.proofs.Coming.{IsReadTo, IsCutTo, shows_last, shows_end, read_to, cut_to, whole, with_byte}
+use Rattle.derivation_reading.proofs.Coming.{IsReadTo, IsCutTo, shows_last, shows_end, read_to, cut_to, whole, events_at, by_its_own, come_by, with_byte}
 
 -- ---- a text that goes past `most_bytes`
 
@@ -85,52 +85,68 @@ long_fault n text us s ss gs h opens size = long (is_long n text h.place h.rest 
 
 module _ (g h : Feeder) (place : ℕ) (word : FaultWord) (fails : FailsOpen g h place word) (us : List Token) (gs : List Event) where
   closed_at : (text : List ℕ) → ((x : List ℕ) → IsCutTo (text ++ x) us) → (p : Progress) → ((x : List ℕ) → HasReached g (failed_open g place word p) (text ++ x) us gs)
-      → IsAt (record g { progress = failed_open g place word p }) (failed_open g place word p) text gs
-  closed_at text cuts (Open s) reached = reached
+      → IsAt g.names.now g.place (record g { progress = failed_open g place word p }) (failed_open g place word p) text gs
+  closed_at text cuts (Open s) reached = λ x. (reached x).0
   closed_at text cuts Done reached = λ x. whole g (text ++ x) us gs (cuts x) (reached x)
-  closed_at text cuts (Failed fault) reached = reached
+  closed_at text cuts (Failed fault) reached = λ x. (reached x).0
 
-  closed : (text : List ℕ) → ((x : List ℕ) → IsCutTo (text ++ x) us) → ((x : List ℕ) → HasReached g (failed_open g place word g.progress) (text ++ x) us gs) → IsAt h h.progress text gs
-  closed text cuts reached = subst (λ (x : Feeder). IsAt x x.progress text gs) (sym fails) (closed_at text cuts g.progress reached)
+  closed : (text : List ℕ) → g.place ≤ 2 ^ 62 → ((x : List ℕ) → IsCutTo (text ++ x) us) → ((x : List ℕ) → HasReached g (failed_open g place word g.progress) (text ++ x) us gs)
+      → HasCome g.names.now g.place h text gs
+  closed text low cuts reached = subst (λ (x : Feeder). HasCome g.names.now g.place x text gs) (sym fails) (record {
+    names = refl;
+    place = refl;
+    low = low;
+    far = closed_at text cuts g.progress reached;
+    events = λ x. events_at g (text ++ x) us gs (failed_open g place word g.progress) (cuts x) (reached x);
+  })
 
   ended_at : (text : List ℕ) → IsCutTo text us → (p : Progress) → HasReached g (failed_open g place word p) text us gs
-      → IsAtEnd (record g { progress = failed_open g place word p }) (failed_open g place word p) text gs
-  ended_at text cut (Open s) reached = reached
+      → IsAtEnd g.names.now g.place (failed_open g place word p) text gs
+  ended_at text cut (Open s) reached = reached.0
   ended_at text cut Done reached = whole g text us gs cut reached
-  ended_at text cut (Failed fault) reached = reached
+  ended_at text cut (Failed fault) reached = reached.0
 
-  at_end : (text : List ℕ) → IsCutTo text us → HasReached g (failed_open g place word g.progress) text us gs → IsAtEnd h h.progress text gs
-  at_end text cut reached = subst (λ (x : Feeder). IsAtEnd x x.progress text gs) (sym fails) (ended_at text cut g.progress reached)
+  at_end : (text : List ℕ) → IsCutTo text us → HasReached g (failed_open g place word g.progress) text us gs → HasEnded g.names.now g.place h text gs
+  at_end text cut reached = subst (λ (x : Feeder). HasEnded g.names.now g.place x text gs) (sym fails) (record {
+    far = ended_at text cut g.progress reached;
+    events = events_at g text us gs (failed_open g place word g.progress) cut reached;
+  })
+
+-- by the names and the place that were given
+ended_by : (n : NameTable) (from : ℕ) (g h : Feeder) (text : List ℕ) (gs : List Event) → g.names.now ≡ n → g.place ≡ from → HasEnded g.names.now g.place h text gs → HasEnded n from h text gs
+ended_by n from g h text gs names place x = subst (λ (m : NameTable). HasEnded m from h text gs) names (subst (λ (q : ℕ). HasEnded g.names.now q h text gs) place x)
 
 module _ (f g h : Feeder) (stream : TokenStream) (s : Symbol) (taken : Taken) (byte : ℕ) (before later : List Event) (open_before : f.progress ≡ Open s)
     (full : f.stream.count ≡ 2 ^ 40) (takes_it : (text : List ℕ) (ts : List Token) → Has f.stream text ts → Takes stream taken (text ++ byte ∷ []) ts)
     (keeps : Keeps (record f { stream = stream }) g) (grown : Continues before later) (reaches : Reaches (record f { stream = stream }) g s (without_byte taken) before later)
     (stops : Stops (without_byte taken) g.progress) (fails : FailsOpen g h most_bytes words.Long) where
   pub comes_last : Comes f h (byte ∷ []) before later
-  comes_last text es come =
-      let is_open : IsOpen f text es s = subst (λ (p : Progress). IsAt f p text es) open_before come.far in
+  comes_last n from text es come =
+      let own = by_its_own n from f text es come in
+      let names = f.names.now in
+      let is_open : IsOpen names f text es s = subst (λ (p : Progress). IsAt names f.place f p text es) open_before own.far in
       let m : Feeder = record f { stream = stream } in
       let text_now = text ++ byte ∷ [] in
       let left = without_byte taken in
-      let us = with_taken is_open.tokens left in
+      let ts = is_open.tokens in
+      let ss = s ∷ reverse f.behind.items in
+      let us = with_taken ts left in
       let gs = es ++ grown.0 in
-      let there = takes_it text is_open.tokens is_open.has in
+      let there = takes_it text ts is_open.has in
       let count = is_open.has.count in
       let size : length text_now ≡ most_bytes + 1 = omega (arith, count, length-append text (byte ∷ [])) in
-      let read = λ (x : List ℕ). subst (λ (u : List ℕ). IsReadTo f.names.now u is_open.tokens (s ∷ reverse f.behind.items) es) (with_byte text byte x) (read_to f text (byte ∷ x) es s is_open) in
-      let shows = λ (x : List ℕ). shows_last m text_now x is_open.tokens taken size there in
-      let cuts = λ (x : List ℕ). cut_to m f.names.now (text_now ++ x) is_open.tokens (s ∷ reverse f.behind.items) es left (read x) (shows x) in
-      let low : g.place ≤ 2 ^ 62 = subst (λ (q : ℕ). q ≤ 2 ^ 62) (sym keeps.place) come.place in
-      let reached = λ (x : List ℕ). reached_failed g most_bytes words.Long low (omega arith) (text_now ++ x) us gs
-      (λ u is opened. long_fault g.names.now (text_now ++ x) us u (reverse g.behind.items) gs (cut_past stream text_now x is_open.tokens u taken size (subst (Stops left) is stops) there) opened
+      let read = λ (x : List ℕ). subst (λ (u : List ℕ). IsReadTo names u ts ss es) (with_byte text byte x) (read_to names f text (byte ∷ x) es s is_open) in
+      let shows = λ (x : List ℕ). shows_last m text_now x ts taken size there in
+      let cuts = λ (x : List ℕ). cut_to m names (text_now ++ x) ts ss es left (read x) (shows x) in
+      let low : g.place ≤ 2 ^ 62 = subst (λ (q : ℕ). q ≤ 2 ^ 62) (sym keeps.place) own.low in
+      let reached = λ (x : List ℕ). reached_failed g most_bytes words.Long low (omega arith) (text_now ++ x) us gs (cuts x).end (cuts x).rest (cuts x).cut
+      (λ u is opened. long_fault g.names.now (text_now ++ x) us u (reverse g.behind.items) gs (cut_past stream text_now x ts u taken size (subst (Stops left) is stops) there) opened
       (omega (arith, size, length-append text_now x)))
-      (reaches (text_now ++ x) is_open.tokens es grown.0 grown.1 come.place (read x).opens (shows x)) in (
+      (reaches (text_now ++ x) ts es grown.0 grown.1 own.low (read x).opens (shows x)) in (
         grown.0,
         grown.1,
-        record {
-          place = subst (λ (x : Feeder). x.place ≤ 2 ^ 62) (sym fails) low;
-          far = closed g h most_bytes words.Long fails us gs text_now cuts reached;
-        },
+        come_by n from g h text_now gs (ap (λ b. b.now) keeps.names ∙ come.names) (keeps.place ∙ come.place)
+            (closed g h most_bytes words.Long fails us gs text_now low cuts reached),
       )
 
 -- ---- the end of the text
@@ -150,19 +166,23 @@ module _ (f g h : Feeder) (s : Symbol) (taken : Taken) (before later : List Even
       → ((text : List ℕ) (us : List Token) (u : Symbol) (gs : List Event) → f.stream.count ≡ length text → Cut (length text) [] 0 text us
       → Opens (lookup g.names.now) (lexemes text us) (u ∷ reverse g.behind.items) gs → HasFirstFault g.names.now text place word)
       → Ends f h before later
-  ends place word near fails fault text es come =
-      let is_open : IsOpen f text es s = subst (λ (p : Progress). IsAt f p text es) open_before come.far in
-      let us = with_taken is_open.tokens taken in
+  ends place word near fails fault n from text es come =
+      let own = by_its_own n from f text es come in
+      let names = f.names.now in
+      let is_open : IsOpen names f text es s = subst (λ (p : Progress). IsAt names f.place f p text es) open_before own.far in
+      let ts = is_open.tokens in
+      let ss = s ∷ reverse f.behind.items in
+      let us = with_taken ts taken in
       let gs = es ++ grown.0 in
-      let there = finishes text is_open.tokens is_open.has in
-      let read = subst (λ (u : List ℕ). IsReadTo f.names.now u is_open.tokens (s ∷ reverse f.behind.items) es) (append-nil text) (read_to f text [] es s is_open) in
-      let shows = shows_end f text is_open.tokens taken is_open.short there in
-      let cut = cut_to f f.names.now text is_open.tokens (s ∷ reverse f.behind.items) es taken read shows in
-      let low : g.place ≤ 2 ^ 62 = subst (λ (q : ℕ). q ≤ 2 ^ 62) (sym keeps.place) come.place in
-      let reached = reached_failed g place word low near text us gs
-      (λ u is opened. fault text us u gs is_open.has.count (all_cut f.stream taken text is_open.tokens u (subst (Stops taken) is stops) there) opened)
-      (reaches text is_open.tokens es grown.0 grown.1 come.place read.opens shows) in
-      (grown.0, grown.1, at_end g h place word fails us gs text cut reached)
+      let there = finishes text ts is_open.has in
+      let read = subst (λ (u : List ℕ). IsReadTo names u ts ss es) (append-nil text) (read_to names f text [] es s is_open) in
+      let shows = shows_end f text ts taken is_open.short there in
+      let cut = cut_to f names text ts ss es taken read shows in
+      let low : g.place ≤ 2 ^ 62 = subst (λ (q : ℕ). q ≤ 2 ^ 62) (sym keeps.place) own.low in
+      let reached = reached_failed g place word low near text us gs cut.end cut.rest cut.cut
+      (λ u is opened. fault text us u gs is_open.has.count (all_cut f.stream taken text ts u (subst (Stops taken) is stops) there) opened)
+      (reaches text ts es grown.0 grown.1 own.low read.opens shows) in
+      (grown.0, grown.1, ended_by n from g h text gs (ap (λ b. b.now) keeps.names ∙ come.names) (keeps.place ∙ come.place) (at_end g h place word fails us gs text cut reached))
 
   -- a text that ends too early
   pub ends_early : f.stream.count < most_bytes → FailsOpen g h f.stream.count words.Syntax → Ends f h before later

@@ -114,8 +114,8 @@ module _ (n : NameTable) (table : IsNameTable n) (text : List ℕ) (es : List Ev
 
 -- ---- of a reader
 
-module _ (f : Feeder) (table : IsNameTable f.names.now) (text : List ℕ) (es : List Event) where
-  pub open_events : (s : Symbol) → IsOpen f text es s → All (EventFits (length f.names.now.objects) f.names.now.dims) es × (length es ≤ 2 ^ 40)
+module _ (n : NameTable) (table : IsNameTable n) (f : Feeder) (text : List ℕ) (es : List Event) where
+  pub open_events : (s : Symbol) → IsOpen n f text es s → All (EventFits (length n.objects) n.dims) es × (length es ≤ 2 ^ 40)
   open_events s h =
       let cut = h.has.stands [] in
       let e = events_few h.opens in
@@ -124,4 +124,4 @@ module _ (f : Feeder) (table : IsNameTable f.names.now) (text : List ℕ) (es : 
       let run = h.has.run.place in
       let count = h.has.count in
       let short = h.short in
-      (opens_fit f.names.now table (cut_small text cut) h.opens, omega (arith, e, t, m, run, count, short))
+      (opens_fit n table (cut_small text cut) h.opens, omega (arith, e, t, m, run, count, short))

@@ -1,6 +1,6 @@
 -- The events of what was read name objects, places and dimensions that exist, and small numbers.
 use Rattle.std.proofs.Common.{◌≡◌, ◌+◌, ◌-◌, ◌<◌, ◌≤◌, ◌&&◌, ℕ, ℤ, pos, negsuc, ◌≤ℤ◌, Bool, true, false, List, [], ◌∷◌, ◌++◌, length, Option, Some, None, if◌then◌else◌, refl, sym, subst, arith}
-use Rattle.std.specs.Prelude.{codes, nat_le, slice_index_or, suc, option_map}
+use Rattle.std.specs.Prelude.{codes, nat_le, suc, option_map}
 use Rattle.std.specs.Str.{bytes_eq}
 use Rattle.std.specs.List.{All, AllByRecursion, position}
 use Rattle.std.proofs.lemmas.Int.{ints}

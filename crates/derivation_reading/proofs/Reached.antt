@@ -1,5 +1,5 @@
 -- What the reading has come to behind a token.
-use Rattle.std.proofs.Common.{◌≡◌, ◌+◌, ◌-◌, ◌≤◌, ◌<◌, ◌^◌, min, ℕ, List, [], ◌∷◌, ◌++◌, length, reverse, refl, sym, ap, ◌∙◌, append_assoc, subst, arith}
+use Rattle.std.proofs.Common.{◌≡◌, ◌+◌, ◌-◌, ◌≤◌, ◌^◌, min, ℕ, List, [], ◌∷◌, ◌++◌, reverse, ◌⊎◌, inl, inr, refl, sym, ap, ◌∙◌, subst, arith}
 use Rattle.std.proofs.Math.Nat.{min-eq_left}
 use Rattle.std.proofs.lemmas.List.{append-nil, append_cancel_left}
 use Rattle.geo_tokens.specs.declared.token.Token.{Token}
@@ -10,7 +10,7 @@ use Rattle.geo_tokens.specs.declared.fault.FaultWord.TheVariants as words
 use Rattle.geo_tokens.specs.declared.fault.TextFault.TheVariants as faults
 use Rattle.geo_tokens.specs.Bytes.{bytes_of}
 use Rattle.geo_tokens.specs.Names.{NameTable}
-use Rattle.geo_tokens.specs.Cut.{Cut, IsToken}
+use Rattle.geo_tokens.specs.Cut.{Cut}
 use Rattle.token_stream.specs.declared.stream.Taken.TheVariants as takes
 use Rattle.token_stream.specs.Stream.{name_of}
 use Rattle.derivation.specs.Events.{Continues}
@@ -22,11 +22,11 @@ use Rattle.derivation_reading.specs.declared.feeder.Feeder.{Feeder}
 use Rattle.derivation_reading.specs.Terminals.{terminal_of, name_by, Lexeme, lexeme, lexemes}
 use Rattle.derivation_reading.specs.Grammar.{lookup, next, at, Next, Wrong, Unknown}
 use Rattle.derivation_reading.specs.Grammar as nexts
-use Rattle.derivation_reading.specs.Machine.{Leaves, Opens, Spells}
+use Rattle.derivation_reading.specs.Machine.{Leaves, Opens}
 use Rattle.derivation_reading.specs.declared.symbol.Symbol.TheVariants.{Text}
 use Rattle.derivation_reading.specs.Begins.{Begins}
-use Rattle.derivation_reading.specs.FirstFault.{most_bytes, token_at, IsText, IsRead, HasFault, HasFirstFault, inside, no_token, syntax, unknown}
-use Rattle.derivation_reading.specs.Feeding.{HasFaultFrom, HasReached, IsNext, IsNextFault, Reaches, HasLeft, Keeps, Accepts, FailsOpen, failed_open, failure}
+use Rattle.derivation_reading.specs.FirstFault.{most_bytes, token_at, IsRead, HasFault, HasFirstFault, HasFaultFrom, inside, no_token, syntax, unknown}
+use Rattle.derivation_reading.specs.Feeding.{HasReached, HasEvents, IsNext, IsNextFault, Reaches, HasLeft, Keeps, Accepts, FailsOpen, failed_open, failure}
 use Rattle.derivation_reading.proofs.Steps.{one_more}
 use Rattle.derivation_reading.proofs.Viable.{opens_begins, unknown_begins, wrong_begins_none}
 use Rattle.derivation_reading.proofs.Cuttings.{before_last, is_token_at}
@@ -69,12 +69,19 @@ module _ (f g : Feeder) (keeps : Keeps f g) where
 
   -- a fault of the text at this place
   fails_at : (text : List ℕ) (us : List Token) (gs : List Event) (place : ℕ) (word : FaultWord) → f.place ≤ 2 ^ 62 → place ≤ most_bytes
-      → HasFirstFault f.names.now text place word → g.progress ≡ failure f place word → HasReached g g.progress text us gs
-  fails_at text us gs place word low near fault e =
+      → HasFirstFault f.names.now text place word → HasEvents f.names.now text gs → g.progress ≡ failure f place word → HasReached g g.progress text us gs
+  fails_at text us gs place word low near fault events e =
       subst (λ (p : Progress). HasReached g p text us gs) (sym e)
-      (subst (λ (m : NameTable). HasFaultFrom m g.place text (faults.At (min (f.place + place) (2 ^ 64 - 1)) word)) (sym same_names)
-      (subst (λ (q : ℕ). HasFaultFrom f.names.now q text (faults.At (min (f.place + place) (2 ^ 64 - 1)) word)) (sym keeps.place)
-      (fault_in_input f.names.now f.place text place word low near fault)))
+      (subst (λ (m : NameTable). HasFaultFrom m g.place text (faults.At (min (f.place + place) (2 ^ 64 - 1)) word) × HasEvents m text gs) (sym same_names) (
+        subst (λ (q : ℕ). HasFaultFrom f.names.now q text (faults.At (min (f.place + place) (2 ^ 64 - 1)) word)) (sym keeps.place)
+            (fault_in_input f.names.now f.place text place word low near fault),
+        events,
+      ))
+
+-- the events of tokens that were read
+pub events_of : (n : NameTable) (text : List ℕ) (ts : List Token) (ss : List Symbol) (es : List Event) (place : ℕ) (rest : List ℕ) → Cut place rest 0 text ts
+    → Opens (lookup n) (lexemes text ts) ss es → HasEvents n text es
+events_of n text ts ss es place rest cut opens = record { tokens = ts; place = place; rest = rest; symbols = ss; cut = cut; opens = opens }
 
 module _ (f g : Feeder) (text : List ℕ) (ts : List Token) (t : Token) (s : Symbol) (es before later : List Event) where
   abbrev names : NameTable
@@ -121,10 +128,17 @@ module _ (f g : Feeder) (text : List ℕ) (ts : List Token) (t : Token) (s : Sym
     near : t.start ≤ most_bytes
     near = let b = before_last h.end h.rest text ts t h.cut in let some = b.3 in let q = h.short in omega (arith, some, q)
 
+    -- the events before it
+    events_before : HasEvents names text es
+    events_before = let b = before_last h.end h.rest text ts t h.cut in events_of names text ts (s ∷ reverse f.behind.items) es t.start b.0 b.1 opens
+
+    no_more_events : HasEvents names text (es ++ [])
+    no_more_events = subst (HasEvents names text) (sym (append-nil es)) events_before
+
     -- it goes on
     went : (more : List Symbol) (ds rec : List Event) → outcome ≡ nexts.Goes more ds → (p : Progress) → HasLeft p g.behind.items (more ++ reverse f.behind.items)
-        → ((p ≡ Failed faults.Memory → ⊥) → rec ≡ ds) → HasReached g p text (ts ++ t ∷ []) (es ++ rec)
-    went more ds rec e p left whole = by p left whole
+        → ((p ≡ Failed faults.Memory → ⊥) → rec ≡ ds) → (rec ≡ []) ⊎ (rec ≡ ds) → HasReached g p text (ts ++ t ∷ []) (es ++ rec)
+    went more ds rec e p left whole all_or_none = by p left whole
       where
         on : Leaves (lookup names) (more ++ reverse f.behind.items) (Text ∷ []) (lexemes text (ts ++ t ∷ [])) (es ++ ds)
         on = subst (λ (ws : List Lexeme). Leaves (lookup names) (more ++ reverse f.behind.items) (Text ∷ []) ws (es ++ ds)) (sym (lexemes_more text ts t)) (one_more (lexeme text t) opens (sym same_next ∙ e))
@@ -139,12 +153,19 @@ module _ (f g : Feeder) (text : List ℕ) (ts : List Token) (t : Token) (s : Sym
         by (Open u) left whole = onward (u ∷ reverse g.behind.items) left (whole (λ z. absurd cc))
         by Done left whole = onward [] (sym left) (whole (λ z. absurd cc))
         by (Failed (faults.At place word)) left whole = absurd left
-        by (Failed faults.Memory) left whole = tt
+        by (Failed faults.Memory) left whole = (
+          tt,
+          subst (λ (m : NameTable). HasEvents m text (es ++ rec)) (sym (same_names f g keeps)) (elim all_or_none [
+            | inl none ↦ subst (λ (u : List Event). HasEvents names text (es ++ u)) (sym none) no_more_events
+            | inr all ↦ subst (λ (u : List Event). HasEvents names text (es ++ u)) (sym all)
+                (events_of names text (ts ++ t ∷ []) (more ++ reverse f.behind.items) (es ++ ds) h.end h.rest h.cut on)
+          ]),
+        )
 
     by_outcome : (x : Next) → outcome ≡ x → (a : Accepts f g x t.start before later) → HasReached g g.progress text (ts ++ t ∷ []) (es ++ recorded f g x t.start before later a)
-    by_outcome Wrong e a = fails_at f g keeps text (ts ++ t ∷ []) (es ++ []) t.start words.Syntax place near (inside (wrong_at e)) a.0
-    by_outcome Unknown e a = fails_at f g keeps text (ts ++ t ∷ []) (es ++ []) t.start words.Unknown place near (inside (unknown_at e)) a.0
-    by_outcome (nexts.Goes more ds) e a = went more ds a.recorded e g.progress a.left a.whole
+    by_outcome Wrong e a = fails_at f g keeps text (ts ++ t ∷ []) (es ++ []) t.start words.Syntax place near (inside (wrong_at e)) no_more_events a.0
+    by_outcome Unknown e a = fails_at f g keeps text (ts ++ t ∷ []) (es ++ []) t.start words.Unknown place near (inside (unknown_at e)) no_more_events a.0
+    by_outcome (nexts.Goes more ds) e a = went more ds a.recorded e g.progress a.left a.whole a.all_or_none
 
 -- what a token makes of the reading
 pub reaches : (f g : Feeder) (t : Token) (s : Symbol) (before later : List Event) → Keeps f g
@@ -179,14 +200,18 @@ pub reaches_fault : (f g : Feeder) (s : Symbol) (place : ℕ) (word : FaultWord)
     → Reaches f g s (takes.Fault place word) before before
 reaches_fault f g s place word before same text ts es more e low opens shows =
     let fault = token_fault f.names.now text ts s (reverse f.behind.items) es place word opens shows in
-    subst (λ (x : Feeder). HasReached x x.progress text ts (es ++ more)) (sym same) (fault_in_input f.names.now f.place text place word low fault.0 fault.1)
+    let none : [] ≡ more = appended before [] more (append-nil before ∙ e) in
+    let events = subst (λ (u : List Event). HasEvents f.names.now text (es ++ u)) none (subst (HasEvents f.names.now text) (sym (append-nil es))
+    (events_of f.names.now text ts (s ∷ reverse f.behind.items) es place shows.rest shows.cut opens)) in
+    subst (λ (x : Feeder). HasReached x x.progress text ts (es ++ more)) (sym same) (fault_in_input f.names.now f.place text place word low fault.0 fault.1, events)
 
 -- where the reading goes on, it ends with a fault
 module _ (f : Feeder) (place : ℕ) (word : FaultWord) (low : f.place ≤ 2 ^ 62) (near : place ≤ most_bytes)
-    (text : List ℕ) (us : List Token) (gs : List Event)
+    (text : List ℕ) (us : List Token) (gs : List Event) (end : ℕ) (rest : List ℕ) (cut : Cut end rest 0 text us)
     (fault : (s : Symbol) → f.progress ≡ Open s → Opens (lookup f.names.now) (lexemes text us) (s ∷ reverse f.behind.items) gs → HasFirstFault f.names.now text place word) where
   failed : (p : Progress) → f.progress ≡ p → HasReached f p text us gs → HasReached f (failed_open f place word p) text us gs
-  failed (Open s) is r = fault_in_input f.names.now f.place text place word low near (fault s is r)
+  failed (Open s) is r =
+      (fault_in_input f.names.now f.place text place word low near (fault s is r), events_of f.names.now text us (s ∷ reverse f.behind.items) gs end rest cut r)
   failed Done is r = r
   failed (Failed x) is r = r
 
@@ -201,6 +226,6 @@ reaches_both f g h s t place before later keeps reached fails text ts es more e 
     let us = ts ++ t ∷ [] in
     let low_there : g.place ≤ 2 ^ 62 = subst (λ (q : ℕ). q ≤ 2 ^ 62) (sym keeps.place) low in
     let near : place ≤ most_bytes = (let q = shows.1.short in omega (arith, q)) in
-    let failed = reached_failed g place words.Byte low_there near text us gs
+    let failed = reached_failed g place words.Byte low_there near text us gs shows.0.end shows.0.rest shows.0.cut
     (λ u is opened. (token_fault g.names.now text us u (reverse g.behind.items) gs place words.Byte opened shows.1).1) (reached text ts es more e low opens shows.0) in
     subst (λ (x : Feeder). HasReached x x.progress text us gs) (sym fails) failed

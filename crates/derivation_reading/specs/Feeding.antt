@@ -1,5 +1,5 @@
 -- How far the reading of a text in pieces has come.
-use Rattle.std.specs.Prelude.{◌≡◌, ◌+◌, ◌-◌, ◌≤◌, ◌^◌, min, ℕ, List, [], ◌∷◌, ◌++◌, Bool, true, false, length, reverse, Result, Ok, Err, nat_le, if◌then◌else◌}
+use Rattle.std.specs.Prelude.{◌≡◌, ◌+◌, ◌-◌, ◌≤◌, ◌^◌, ◌⊎◌, min, ℕ, List, [], ◌∷◌, ◌++◌, All, Bool, true, false, length, reverse, Result, Ok, Err, nat_le, if◌then◌else◌}
 use Rattle.geo_tokens.specs.declared.token.Token.{Token}
 use Rattle.geo_tokens.specs.declared.fault.FaultWord.{FaultWord}
 use Rattle.geo_tokens.specs.declared.fault.FaultWord.TheVariants as words
@@ -13,6 +13,8 @@ use Rattle.token_stream.specs.declared.stream.Taken.{Taken}
 use Rattle.token_stream.specs.declared.stream.Taken.TheVariants as takes
 use Rattle.token_stream.specs.Stream.{Has, name_of, run_length}
 use Rattle.derivation.specs.declared.event.Event.{Event}
+use Rattle.derivation.specs.Fits.{EventFits}
+use Rattle.derivation.specs.Nodes.{Node, node_events}
 use Rattle.derivation_reading.specs.declared.symbol.Symbol.{Symbol}
 use Rattle.derivation_reading.specs.declared.feeder.Progress.{Progress}
 use Rattle.derivation_reading.specs.declared.feeder.Progress.TheVariants.{Open, Done, Failed}
@@ -21,45 +23,68 @@ use Rattle.derivation_reading.specs.Terminals.{lexemes}
 use Rattle.derivation_reading.specs.Grammar.{lookup, Next, Wrong, Unknown}
 use Rattle.derivation_reading.specs.Grammar as nexts
 use Rattle.derivation_reading.specs.Machine.{Opens, Spells}
-use Rattle.derivation_reading.specs.FirstFault.{most_bytes, IsText, HasFirstFault}
+use Rattle.derivation_reading.specs.FirstFault.{most_bytes, IsText, HasFaultFrom}
 
--- The text so far: its whole tokens begin a derivation, behind them this symbol may come, and these events are whole.
-pub record IsOpen (f : Feeder) (text : List ℕ) (es : List Event) (s : Symbol) : Type 0 where
+-- The text so far, over these names: its whole tokens begin a derivation, behind them this symbol may come, and these events are whole.
+pub record IsOpen (n : NameTable) (f : Feeder) (text : List ℕ) (es : List Event) (s : Symbol) : Type 0 where
   pub tokens : List Token
   pub has : Has f.stream text tokens
-  pub opens : Opens (lookup f.names.now) (lexemes text tokens) (s ∷ reverse f.behind.items) es
+  pub opens : Opens (lookup n) (lexemes text tokens) (s ∷ reverse f.behind.items) es
   pub short : length text ≤ most_bytes
 
--- the first fault of the text, which begins at the place `from` of the input
-abbrev pub HasFaultFrom : NameTable → ℕ → List ℕ → TextFault → Type 0
-HasFaultFrom n from text (faults.At place word) = (within : ℕ) × (place ≡ from + within) × HasFirstFault n text within word
-HasFaultFrom n from text faults.Memory = Unit {0}
+-- Where this text has come, which begins at the place `from` of the input, the reading is that far. Whatever comes behind `qed` or a
+-- fault changes nothing.
+abbrev pub IsAt : NameTable → ℕ → Feeder → Progress → List ℕ → List Event → Type 0
+IsAt n from f (Open s) text es = IsOpen n f text es s
+IsAt n from f Done text es = (more : List ℕ) → IsText n (text ++ more) es
+IsAt n from f (Failed fault) text es = (more : List ℕ) → HasFaultFrom n from (text ++ more) fault
 
--- Where this text has come, with these events, the reading is that far. Whatever comes behind `qed` or a fault changes nothing.
-abbrev pub IsAt : Feeder → Progress → List ℕ → List Event → Type 0
-IsAt f (Open s) text es = IsOpen f text es s
-IsAt f Done text es = (more : List ℕ) → IsText f.names.now (text ++ more) es
-IsAt f (Failed fault) text es = (more : List ℕ) → HasFaultFrom f.names.now f.place (text ++ more) fault
+-- The text begins with tokens that begin a derivation, and these are their events.
+pub record HasEvents (n : NameTable) (text : List ℕ) (es : List Event) : Type 0 where
+  pub tokens : List Token
+  pub place : ℕ
+  pub rest : List ℕ
+  pub symbols : List Symbol
+  pub cut : Cut place rest 0 text tokens
+  pub opens : Opens (lookup n) (lexemes text tokens) symbols es
 
-pub record HasCome (f : Feeder) (text : List ℕ) (es : List Event) : Type 0 where
-  pub place : f.place ≤ 2 ^ 62
-  pub far : IsAt f f.progress text es
+-- The text so far, over these names and from this place of the input on: how far its reading has come, and its events.
+pub record HasCome (n : NameTable) (from : ℕ) (f : Feeder) (text : List ℕ) (es : List Event) : Type 0 where
+  pub names : f.names.now ≡ n
+  pub place : f.place ≡ from
+  pub low : from ≤ 2 ^ 62
+  pub far : IsAt n from f f.progress text es
+  pub events : (more : List ℕ) → HasEvents n (text ++ more) es
 
 -- and where the text has ended
-abbrev pub IsAtEnd : Feeder → Progress → List ℕ → List Event → Type 0
-IsAtEnd f (Open s) text es = ⊥
-IsAtEnd f Done text es = IsText f.names.now text es
-IsAtEnd f (Failed fault) text es = HasFaultFrom f.names.now f.place text fault
+abbrev pub IsAtEnd : NameTable → ℕ → Progress → List ℕ → List Event → Type 0
+IsAtEnd n from (Open s) text es = ⊥
+IsAtEnd n from Done text es = IsText n text es
+IsAtEnd n from (Failed fault) text es = HasFaultFrom n from text fault
+
+pub record HasEnded (n : NameTable) (from : ℕ) (f : Feeder) (text : List ℕ) (es : List Event) : Type 0 where
+  pub far : IsAtEnd n from f.progress text es
+  pub events : HasEvents n text es
 
 -- A piece was taken, and the events that are whole with it were recorded.
 abbrev pub Comes : Feeder → Feeder → List ℕ → List Event → List Event → Type 0
-Comes old new piece before later = (text : List ℕ) (es : List Event) → HasCome old text es
-    → (more : List Event) × (later ≡ before ++ more) × HasCome new (text ++ piece) (es ++ more)
+Comes old new piece before later = (n : NameTable) (from : ℕ) (text : List ℕ) (es : List Event) → HasCome n from old text es
+    → (more : List Event) × (later ≡ before ++ more) × HasCome n from new (text ++ piece) (es ++ more)
 
 -- The text has ended, and the events that are whole with its end were recorded.
 abbrev pub Ends : Feeder → Feeder → List Event → List Event → Type 0
-Ends old new before later = (text : List ℕ) (es : List Event) → HasCome old text es
-    → (more : List Event) × (later ≡ before ++ more) × IsAtEnd new new.progress text (es ++ more)
+Ends old new before later = (n : NameTable) (from : ℕ) (text : List ℕ) (es : List Event) → HasCome n from old text es
+    → (more : List Event) × (later ≡ before ++ more) × HasEnded n from new text (es ++ more)
+
+-- Where the reading has come to some text, the events that were recorded name what exists.
+abbrev pub StaysFitting : Feeder → List Event → List Event → Type 0
+StaysFitting old before later = (n : NameTable) (from : ℕ) (text : List ℕ) (es : List Event) → HasCome n from old text es
+    → All (EventFits (length n.objects) n.dims) before → All (EventFits (length n.objects) n.dims) later
+
+-- Where that text has ended with the word `qed`, and the record held its events, they are those of a tree.
+abbrev pub EndsTree : Feeder → Result Bool TextFault → List Event → List Event → Type 0
+EndsTree old result before later = (n : NameTable) (from : ℕ) (text : List ℕ) → HasCome n from old text before
+    → result ≡ Ok true → (root : Node) × (node_events root ≡ later)
 
 -- what is answered
 abbrev pub answer_of : Progress → Result Bool TextFault
@@ -73,7 +98,7 @@ answer_of (Failed fault) = Err fault
 abbrev pub HasReached : Feeder → Progress → List ℕ → List Token → List Event → Type 0
 HasReached f (Open s) text ts es = Opens (lookup f.names.now) (lexemes text ts) (s ∷ reverse f.behind.items) es
 HasReached f Done text ts es = Spells (lookup f.names.now) (lexemes text ts) es
-HasReached f (Failed fault) text ts es = HasFaultFrom f.names.now f.place text fault
+HasReached f (Failed fault) text ts es = HasFaultFrom f.names.now f.place text fault × HasEvents f.names.now text es
 
 -- the token stands behind those that were read, and its name was kept
 pub record IsNext (f : Feeder) (text : List ℕ) (ts : List Token) (t : Token) : Type 0 where
@@ -141,6 +166,7 @@ pub record Goes (old new : Feeder) (more : List Symbol) (ds before later : List 
   pub recorded : List Event
   pub grown : later ≡ before ++ recorded
   pub whole : (new.progress ≡ Failed faults.Memory → ⊥) → recorded ≡ ds
+  pub all_or_none : (recorded ≡ []) ⊎ (recorded ≡ ds)
 
 abbrev pub Accepts : Feeder → Feeder → Next → ℕ → List Event → List Event → Type 0
 Accepts old new Wrong place before later = (new.progress ≡ failure old place words.Syntax) × (later ≡ before)

@@ -1,17 +1,20 @@
 -- Which texts are derivations over a table of names, with which events, and what the first fault of another text is. A text is read
 -- from the left up to the word `qed`, and what stands behind that is not looked at. Its faults are one phase: the one at the least place
 -- decides. At one place a token fault goes before `syntax`, and that before `unknown`.
-use Rattle.std.specs.Prelude.{◌≡◌, ◌+◌, ◌≤◌, ◌<◌, ◌^◌, ℕ, List, [], ◌∷◌, ◌++◌, length}
+use Rattle.std.specs.Prelude.{◌≡◌, ◌+◌, ◌≤◌, ◌<◌, ◌^◌, ℕ, List, [], ◌∷◌, ◌++◌, length, Result, Ok, Err}
 use Rattle.geo_tokens.specs.declared.token.Token.{Token}
 use Rattle.geo_tokens.specs.declared.token.Kind.{Kind}
 use Rattle.geo_tokens.specs.declared.fault.FaultWord.{FaultWord}
 use Rattle.geo_tokens.specs.declared.fault.FaultWord.TheVariants as words
+use Rattle.geo_tokens.specs.declared.fault.TextFault.{TextFault}
+use Rattle.geo_tokens.specs.declared.fault.TextFault.TheVariants as faults
 use Rattle.geo_tokens.specs.Names.{NameTable}
 use Rattle.geo_tokens.specs.Cut.{Cut, IsToken, IsBad}
 use Rattle.token_stream.specs.Stream.{run_length}
 use Rattle.derivation.specs.declared.event.Event.{Event}
+use Rattle.derivation.specs.Events.{Kept}
 use Rattle.derivation_reading.specs.declared.symbol.Symbol.{Symbol}
-use Rattle.derivation_reading.specs.Terminals.{Lexeme, lexeme, lexemes}
+use Rattle.derivation_reading.specs.Terminals.{lexeme, lexemes}
 use Rattle.derivation_reading.specs.Grammar.{lookup, at, Unknown}
 use Rattle.derivation_reading.specs.Machine.{Opens, Spells}
 use Rattle.derivation_reading.specs.Begins.{Begins}
@@ -67,3 +70,20 @@ pub record IsLong (n : NameTable) (text : List ℕ) : Type 0 where
 pub data HasFirstFault (n : NameTable) (text : List ℕ) (place : ℕ) (word : FaultWord) : Type 0 where
   inside : HasFault n text place word → HasFirstFault n text place word
   long : IsLong n text → place ≡ most_bytes → word ≡ words.Long → HasFirstFault n text place word
+
+-- the first fault of the text, which begins at the place `from` of the input
+abbrev pub HasFaultFrom : NameTable → ℕ → List ℕ → TextFault → Type 0
+HasFaultFrom n from text (faults.At place word) = (within : ℕ) × (place ≡ from + within) × HasFirstFault n text within word
+HasFaultFrom n from text faults.Memory = Unit {0}
+
+-- a call's answer: the events of the text, or its first fault, unless memory ran out
+abbrev pub AnswersDerivation : Result Kept TextFault → NameTable → ℕ → List ℕ → Type 0
+AnswersDerivation (Ok log) n from text = IsText n text log.events
+AnswersDerivation (Err fault) n from text = HasFaultFrom n from text fault
+
+-- nothing else is true of the text
+abbrev pub IsOnlyDerivation : Result Kept TextFault → NameTable → ℕ → List ℕ → Type 0
+IsOnlyDerivation (Ok log) n from text = ((es : List Event) → IsText n text es → es ≡ log.events) × ((place : ℕ) (word : FaultWord) → HasFaultFrom n from text (faults.At place word) → ⊥)
+IsOnlyDerivation (Err (faults.At place word)) n from text =
+    ((es : List Event) → IsText n text es → ⊥) × ((q : ℕ) (w : FaultWord) → HasFaultFrom n from text (faults.At q w) → (q ≡ place) × (w ≡ word))
+IsOnlyDerivation (Err faults.Memory) n from text = Unit {0}

@@ -10,7 +10,7 @@
 --   covers = '[' { NAME cover } ']'
 --   cover  = 'by' NUM | 'cut' NUM int cover cover | 'from' NUM int cover cover
 --   int    = [ '-' ] NUM
-use Rattle.std.specs.Prelude.{◌≡◌, ◌-◌, ◌<◌, ◌≤◌, ◌==◌, ◌&&◌, nat_le, ℕ, Bool, ℤ, pos, neg_ℤ, suc, List, [], ◌∷◌, ◌++◌, length, codes, slice_index_or, Option, Some, None, option_map, if◌then◌else◌}
+use Rattle.std.specs.Prelude.{◌-◌, ◌&&◌, nat_le, ℕ, Bool, ℤ, pos, neg_ℤ, suc, List, [], ◌∷◌, codes, slice_index_or, Option, Some, None, option_map, if◌then◌else◌}
 use Rattle.std.specs.List.{position}
 use Rattle.std.specs.Str.{bytes_eq}
 use Rattle.geo_tokens.specs.Names.{NameTable}

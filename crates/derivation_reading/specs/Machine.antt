@@ -4,7 +4,7 @@ use Rattle.derivation.specs.declared.event.Event.{Event}
 use Rattle.derivation_reading.specs.declared.symbol.Symbol.{Symbol}
 use Rattle.derivation_reading.specs.declared.symbol.Symbol.TheVariants.{Text}
 use Rattle.derivation_reading.specs.Terminals.{Lexeme}
-use Rattle.derivation_reading.specs.Grammar.{Lookup, Next, Goes, at}
+use Rattle.derivation_reading.specs.Grammar.{Lookup, Goes, at}
 
 -- From the left, the first of the symbols becomes what the next token makes of it, until these symbols are left behind the tokens.
 -- The events are those of all steps.

@@ -1,5 +1,5 @@
 -- What the code says of a token, as the grammar says it.
-use Rattle.std.specs.Prelude.{ℕ, List, [], ◌∷◌, Option, Some, None}
+use Rattle.std.specs.Prelude.{List, [], ◌∷◌, Option, Some, None}
 use Rattle.derivation_reading.specs.declared.symbol.Symbol.{Symbol}
 use Rattle.derivation_reading.specs.declared.symbol.Terminal.{Terminal}
 use Rattle.derivation_reading.specs.declared.symbol.Terminal.TheVariants as terminals

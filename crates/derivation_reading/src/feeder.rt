@@ -1,14 +1,17 @@
 //! Reading a derivation in pieces.
 
-ghost use Rattle.std.specs.Prelude.{◌≡◌, ◌<◌, ◌≤◌, ◌^◌, [], ◌∷◌, ◌++◌, reverse, IfOk};
+ghost use Rattle.std.specs.Prelude.{◌≡◌, ◌<◌, ◌≤◌, ◌^◌, [], ◌∷◌, ◌++◌, length, reverse, All, IfOk};
 ghost use Rattle.token_stream.specs.declared.stream.Taken.TheVariants as takes;
 ghost use Rattle.token_stream.specs.Stream.{name_of};
 ghost use Rattle.derivation.specs.Events.{Continues};
+ghost use Rattle.derivation.specs.Fits.{EventFits};
+ghost use Rattle.derivation.specs.Nodes.{Node, node_events};
 ghost use Rattle.derivation_reading.specs.declared.feeder.Progress.TheVariants.{Open};
 ghost use Rattle.derivation_reading.specs.Terminals.{terminal_of, name_by};
 ghost use Rattle.derivation_reading.specs.Grammar.{lookup, next};
 ghost use Rattle.derivation_reading.specs.Outcomes.{symbols};
-ghost use Rattle.derivation_reading.specs.Feeding.{Comes, Ends, HasCome, HasLeft, Keeps, Accepts, Goes, Reaches, Stops, FailsOpen, answer_of, failure, without_byte};
+ghost use Rattle.derivation_reading.specs.FirstFault.{AnswersDerivation, IsOnlyDerivation};
+ghost use Rattle.derivation_reading.specs.Feeding.{Comes, Ends, StaysFitting, EndsTree, HasCome, HasLeft, Keeps, Accepts, Goes, Reaches, Stops, FailsOpen, answer_of, failure, without_byte};
 
 use crate::production::{Behind, Outcome, next};
 use crate::symbol::{Symbol, terminal_of};
@@ -49,9 +52,7 @@ impl<'a> Feeder<'a> {
     /// Before the first piece of a text that begins at this place of the input. It takes no memory.
     pub fn start(alloc: Global, names: &'a Names, place: u64) -> Feeder<'a>
         requires place { place ≤ 2 ^ 62 }
-        ensures come { HasCome result [] [] }
-        ensures names { result.names.now ≡ names.now }
-        ensures place { result.place ≡ place }
+        ensures { HasCome names.now place result [] [] }
     {
         Feeder {
             names,
@@ -65,10 +66,11 @@ impl<'a> Feeder<'a> {
     /// Takes the next piece, and records the events that are whole with it. True where the word `qed` came.
     pub fn feed(&mut self, piece: &[u8], out: &mut Log) -> Result<bool, TextFault>
         ensures come { Comes self.old self.new piece.now out.old.events out.new.events }
-        ensures names { self.new.names ≡ self.old.names }
-        ensures place { self.new.place ≡ self.old.place }
         ensures answer { result ≡ answer_of self.new.progress }
+        ensures fits { StaysFitting self.old out.old.events out.new.events }
+        ensures tree { EndsTree self.old result out.old.events out.new.events }
     {
+        let _dims = self.names.dims();
         for byte in piece {
             self.take(*byte, out);
         }
@@ -78,10 +80,11 @@ impl<'a> Feeder<'a> {
     /// The text has ended. It is true where it is a derivation.
     pub fn finish(&mut self, out: &mut Log) -> Result<bool, TextFault>
         ensures ended { Ends self.old self.new out.old.events out.new.events }
-        ensures names { self.new.names ≡ self.old.names }
-        ensures place { self.new.place ≡ self.old.place }
         ensures answer { result ≡ answer_of self.new.progress }
+        ensures fits { StaysFitting self.old out.old.events out.new.events }
+        ensures tree { EndsTree self.old result out.old.events out.new.events }
     {
+        let _dims = self.names.dims();
         if let Progress::Open(symbol) = self.progress {
             self.end(symbol, out);
         }
@@ -108,9 +111,7 @@ impl<'a> Feeder<'a> {
 
     // Takes a byte, unless the reading has ended.
     fn take(&mut self, byte: u8, out: &mut Log)
-        ensures come { Comes self.old self.new (byte ∷ []) out.old.events out.new.events }
-        ensures names { self.new.names ≡ self.old.names }
-        ensures place { self.new.place ≡ self.old.place }
+        ensures { Comes self.old self.new (byte ∷ []) out.old.events out.new.events }
     {
         if let Progress::Open(symbol) = self.progress {
             match self.stream.count().cmp(&MOST_BYTES) {
@@ -125,9 +126,7 @@ impl<'a> Feeder<'a> {
     fn take_next(&mut self, symbol: Symbol, byte: u8, out: &mut Log)
         requires open { self.old.progress ≡ Open symbol }
         requires room { self.old.stream.count < 2 ^ 40 }
-        ensures come { Comes self.old self.new (byte ∷ []) out.old.events out.new.events }
-        ensures names { self.new.names ≡ self.old.names }
-        ensures place { self.new.place ≡ self.old.place }
+        ensures { Comes self.old self.new (byte ∷ []) out.old.events out.new.events }
     {
         let taken = self.stream.take(byte);
         self.accept_all(symbol, taken, out);
@@ -137,9 +136,7 @@ impl<'a> Feeder<'a> {
     fn take_last(&mut self, symbol: Symbol, byte: u8, out: &mut Log)
         requires open { self.old.progress ≡ Open symbol }
         requires full { self.old.stream.count ≡ 2 ^ 40 }
-        ensures come { Comes self.old self.new (byte ∷ []) out.old.events out.new.events }
-        ensures names { self.new.names ≡ self.old.names }
-        ensures place { self.new.place ≡ self.old.place }
+        ensures { Comes self.old self.new (byte ∷ []) out.old.events out.new.events }
     {
         let taken = before_the_end(self.stream.take(byte));
         self.accept_all(symbol, taken, out);
@@ -149,9 +146,7 @@ impl<'a> Feeder<'a> {
     // The text has ended where this may come next.
     fn end(&mut self, symbol: Symbol, out: &mut Log)
         requires open { self.old.progress ≡ Open symbol }
-        ensures ended { Ends self.old self.new out.old.events out.new.events }
-        ensures names { self.new.names ≡ self.old.names }
-        ensures place { self.new.place ≡ self.old.place }
+        ensures { Ends self.old self.new out.old.events out.new.events }
     {
         let taken = self.stream.finish();
         self.accept_all(symbol, taken, out);
@@ -299,7 +294,13 @@ pub fn read_derivation(
     place: u64,
 ) -> Result<Log, TextFault>
     requires place { place ≤ 2 ^ 62 }
+    ensures answer { AnswersDerivation result names.now place text.now }
+    ensures only { IsOnlyDerivation result names.now place text.now }
+    ensures fits { IfOk result
+        (λ log. All (EventFits (length names.now.objects) names.now.dims) log.events) }
+    ensures tree { IfOk result (λ log. (root : Node) × (node_events root ≡ log.events)) }
 {
+    let _dims = names.dims();
     let mut log = Log::new(alloc);
     let mut feeder = Feeder::start(alloc, names, place);
     if !feeder.feed(text, &mut log)? {

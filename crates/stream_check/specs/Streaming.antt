@@ -18,16 +18,16 @@ use Rattle.derivation_reading.specs.FirstFault.{IsText}
 use Rattle.derivation_reading.specs.Feeding.{HasCome}
 
 -- the names are those of the first state's objects and dimensions
-pub record IsOver (first : State) (k : ℕ) (f : Feeder) (c : Checking) : Type 0 where
-  pub table : IsNameTable f.names.now
-  pub objects : length f.names.now.objects ≡ length first
-  pub dims : f.names.now.dims ≡ k
+pub record IsOver (first : State) (k : ℕ) (n : NameTable) (c : Checking) : Type 0 where
+  pub table : IsNameTable n
+  pub objects : length n.objects ≡ length first
+  pub dims : n.dims ≡ k
   pub state : length c.machine.state ≡ length first
 
 -- This text came, these of its events are whole, and they were checked on the first state.
 pub record IsChecking (first : State) (k : ℕ) (f : Feeder) (c : Checking) (log : Kept) (text : List ℕ) (es : List Event) : Type 0 where
-  pub over : IsOver first k f c
-  pub come : HasCome f text es
+  pub over : IsOver first k f.names.now c
+  pub come : HasCome f.names.now f.place f text es
   pub taken : HasTaken c.conds first es c.machine
   pub nodes : c.machine.nodes ≤ length es
   pub empty : log.events ≡ []
@@ -36,11 +36,11 @@ pub record IsChecking (first : State) (k : ℕ) (f : Feeder) (c : Checking) (log
 abbrev pub IsReady : ℕ → Feeder → Checking → Kept → Type 0
 IsReady k f c log = (first : State) × (text : List ℕ) × (es : List Event) × IsChecking first k f c log text es
 
--- the whole text is a derivation, and its events were checked on the first state
-pub record HasChecked (first : State) (k : ℕ) (f : Feeder) (c : Checking) (text : List ℕ) : Type 0 where
-  pub over : IsOver first k f c
+-- the whole text is a derivation over the names, and its events were checked on the first state
+pub record HasChecked (first : State) (k : ℕ) (n : NameTable) (c : Checking) (text : List ℕ) : Type 0 where
+  pub over : IsOver first k n c
   pub events : List Event
-  pub whole : IsText f.names.now text events
+  pub whole : IsText n text events
   pub taken : HasTaken c.conds first events c.machine
 
 -- The text is a derivation, and this is the answer to it: yes where it is valid on the state, which then has no solution; else the first

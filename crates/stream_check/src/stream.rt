@@ -2,12 +2,13 @@
 
 ghost use Rattle.std.specs.Prelude.{◌≡◌, ◌+◌, ◌-◌, ◌^◌, ◌<◌, ◌≤◌, ℕ, List, [], ◌++◌, length, true, false, OnOk, IfErr, Ok};
 ghost use Rattle.std.specs.List.{All};
+ghost use Rattle.geo_tokens.specs.Names.{NameTable};
 ghost use Rattle.geo_conditions.specs.Reach.{Reach};
 ghost use Rattle.geo_conditions.specs.Conditions.{AllFit};
 ghost use Rattle.derivation.specs.declared.event.Event.{Event as EventOf};
 ghost use Rattle.derivation.specs.Fits.{EventFits};
 ghost use Rattle.derivation_check.specs.Machine.{HasTaken};
-ghost use Rattle.derivation_reading.specs.Feeding.{HasFaultFrom};
+ghost use Rattle.derivation_reading.specs.FirstFault.{HasFaultFrom};
 ghost use Rattle.derivation_reading.specs.declared.symbol.Symbol.{Symbol as SymbolOf};
 ghost use Rattle.derivation_reading.specs.declared.feeder.Progress.TheVariants.{Open};
 ghost use Rattle.stream_check.specs.Streaming.{IsChecking, HasChecked, IsReady, IsDecided};
@@ -85,13 +86,13 @@ impl<'a, const K: usize> StreamCheck<'a, K> {
         ensures checked { result ≡ Ok true → (first : List Reach) (text rest : List ℕ)
             (es : List EventOf)
             → IsChecking first K self.old.feeder self.old.checker self.old.log text es
-            → HasChecked first K self.new.feeder self.new.checker ((text ++ piece.now) ++ rest) }
+            → HasChecked first K self.old.feeder.names.now self.new.checker ((text ++ piece.now) ++ rest) }
         ensures refused { IfErr result (λ fault. (first : List Reach) (text rest : List ℕ)
             (es : List EventOf)
             → IsChecking first K self.old.feeder self.old.checker self.old.log text es
             → HasFaultFrom self.old.feeder.names.now self.old.feeder.place
             ((text ++ piece.now) ++ rest) fault) }
-        ensures names { self.new.feeder.names ≡ self.old.feeder.names }
+        ensures names { self.new.feeder.names.now ≡ self.old.feeder.names.now }
         ensures place { self.new.feeder.place ≡ self.old.feeder.place }
         ensures conditions { self.new.checker.conds ≡ self.old.checker.conds }
     {
@@ -106,12 +107,11 @@ impl<'a, const K: usize> StreamCheck<'a, K> {
         requires ready { IsReady K self.old.feeder self.old.checker self.old.log }
         ensures checked { OnOk result ((first : List Reach) (text : List ℕ) (es : List EventOf)
             → IsChecking first K self.old.feeder self.old.checker self.old.log text es
-            → HasChecked first K self.new.feeder self.new.checker text) }
+            → HasChecked first K self.old.feeder.names.now self.new.checker text) }
         ensures refused { IfErr result (λ fault. (first : List Reach) (text : List ℕ)
             (es : List EventOf)
             → IsChecking first K self.old.feeder self.old.checker self.old.log text es
             → HasFaultFrom self.old.feeder.names.now self.old.feeder.place text fault) }
-        ensures names { self.new.feeder.names ≡ self.old.feeder.names }
         ensures conditions { self.new.checker.conds ≡ self.old.checker.conds }
     {
         self.feeder.finish(&mut self.log)?;
@@ -121,9 +121,9 @@ impl<'a, const K: usize> StreamCheck<'a, K> {
 
     /// The answer to a text that was checked whole.
     pub fn verdict(&self) -> Checked
-        ensures { (first : List Reach) (text : List ℕ)
-            → HasChecked first K self.now.feeder self.now.checker text
-            → IsDecided self.now.feeder.names.now self.now.checker.conds first text result }
+        ensures { (names : NameTable) (first : List Reach) (text : List ℕ)
+            → HasChecked first K names self.now.checker text
+            → IsDecided names self.now.checker.conds first text result }
     {
         self.checker.verdict()
     }

@@ -1,10 +1,6 @@
-use Rattle.std.proofs.Common.{◌≡◌, take}
+use Rattle.std.proofs.Common.{take}
 use Rattle.derivation_reading.specs.Feeding.{Comes}
 use Rattle.derivation_reading.proofs.feeder.Feeder.feed.Given as goal
 
 abbrev pub invariant-loop-byte : goal.invariant-loop-byte
-invariant-loop-byte l = record {
-  come : Comes l.fn.self l.self (take l.byte-index l.piece) l.fn.out.events l.out.events;
-  names : l.self.names ≡ l.fn.self.names;
-  place : l.self.place ≡ l.fn.self.place;
-}
+invariant-loop-byte l = Comes l.fn.self l.self (take l.byte-index l.piece) l.fn.out.events l.out.events

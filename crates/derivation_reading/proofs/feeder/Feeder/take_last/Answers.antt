@@ -4,8 +4,8 @@ use Rattle.derivation_reading.specs.Feeding.{Reaches, Stops}
 use Rattle.derivation_reading.proofs.Ending.{comes_last}
 use Rattle.derivation_reading.proofs.feeder.Feeder.take_last.Goals as goal
 
-pub returns-clause-come : goal.returns-clause-come
-returns-clause-come c =
+pub returns : goal.returns
+returns c =
     let f = c.args.self.now in
     let m = record f { stream = c.take.new.self } in
     let g = c.accept_all.new.self in
