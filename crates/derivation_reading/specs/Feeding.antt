@@ -76,12 +76,12 @@ abbrev pub Ends : Feeder → Feeder → List Event → List Event → Type 0
 Ends old new before later = (n : NameTable) (from : ℕ) (text : List ℕ) (es : List Event) → HasCome n from old text es
     → (more : List Event) × (later ≡ before ++ more) × HasEnded n from new text (es ++ more)
 
--- Where the reading has come to some text, the events that were recorded name what exists.
+-- Where a text was read so far, the events that were recorded with what came name what exists, as those before.
 abbrev pub StaysFitting : Feeder → List Event → List Event → Type 0
 StaysFitting old before later = (n : NameTable) (from : ℕ) (text : List ℕ) (es : List Event) → HasCome n from old text es
     → All (EventFits (length n.objects) n.dims) before → All (EventFits (length n.objects) n.dims) later
 
--- Where that text has ended with the word `qed`, and the record held its events, they are those of a tree.
+-- Where the record held the events of the text so far, and with what came the word `qed` was read, its events are those of a tree.
 abbrev pub EndsTree : Feeder → Result Bool TextFault → List Event → List Event → Type 0
 EndsTree old result before later = (n : NameTable) (from : ℕ) (text : List ℕ) → HasCome n from old text before
     → result ≡ Ok true → (root : Node) × (node_events root ≡ later)
