@@ -1,0 +1,23 @@
+-- Which events a text can have: its numbers are from -10^9 to 10^9.
+use Rattle.std.specs.Prelude.{◌≤◌, ◌≤ℤ◌, ℕ, ℤ, pos, negsuc}
+use Rattle.derivation.specs.declared.event.Event.{Event}
+use Rattle.derivation.specs.declared.event.Event.TheVariants.{SplitShape, SplitUpto, SplitFrom, Drop, Raise, Lower, Gone, Dead, Cover, EndCovers, By, Cut, CutFrom}
+
+abbrev pub IsSmall : ℤ → Type 0
+IsSmall v = (negsuc 999999999 ≤ℤ v) × (v ≤ℤ pos 1000000000)
+
+-- the numbers of the event are ones that a text can have
+abbrev pub IsLimited : Event → Type 0
+IsLimited (SplitShape u s) = Unit {0}
+IsLimited (SplitUpto u d v) = IsSmall v
+IsLimited (SplitFrom u d v) = IsSmall v
+IsLimited (Drop u s) = Unit {0}
+IsLimited (Raise u d v) = IsSmall v
+IsLimited (Lower u d v) = IsSmall v
+IsLimited (Gone u) = Unit {0}
+IsLimited (Dead i) = IsSmall (pos i)
+IsLimited (Cover s) = Unit {0}
+IsLimited EndCovers = Unit {0}
+IsLimited (By i) = IsSmall (pos i)
+IsLimited (Cut d v) = IsSmall v
+IsLimited (CutFrom d v) = IsSmall v
