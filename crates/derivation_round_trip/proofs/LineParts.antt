@@ -36,10 +36,10 @@ space_parts = blank 32 ∷ []
 abbrev word_parts : List ℕ → List Part
 word_parts w = blank 32 ∷ lexeme (name w) ∷ blank 32 ∷ []
 
-abbrev end_parts : List Part
+abbrev pub end_parts : List Part
 end_parts = blank 10 ∷ []
 
-abbrev open_parts : List Part
+abbrev pub open_parts : List Part
 open_parts = blank 32 ∷ lexeme (symbol syms.BracketOpen) ∷ blank 10 ∷ []
 
 abbrev cut_parts : List ℕ → ℕ → ℤ → List Part
