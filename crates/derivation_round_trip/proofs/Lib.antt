@@ -1,3 +1,4 @@
 pub mod Found
 pub mod LineParts
 pub mod Words
+pub mod ReadBack

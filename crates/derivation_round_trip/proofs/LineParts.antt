@@ -1,12 +1,11 @@
 -- The parts of the lines of a derivation: they are its bytes, and each is cut where it ends.
-use Rattle.std.proofs.Common.{◌≡◌, ◌≤ℤ◌, ℕ, suc, ◌+◌, ◌<◌, ◌≤◌, ℤ, pos, negsuc, List, [], ◌∷◌, ◌++◌, length, Bool, true, None, refl, sym, ap, ◌∙◌, subst, append_assoc, arith, lit≤}
+use Rattle.std.proofs.Common.{◌≡◌, ◌≤ℤ◌, ℕ, suc, ◌+◌, ◌<◌, ◌≤◌, ℤ, pos, negsuc, List, [], ◌∷◌, ◌++◌, length, true, None, refl, sym, ap, ◌∙◌, arith, lit≤}
 use Rattle.std.specs.Prelude.{slice_index, codes, All}
 use Rattle.std.specs.Fmt.{signed_decimal}
 use Rattle.std.specs.List.{prefix_len}
 use Rattle.std.proofs.lemmas.Int.{ints}
 use Rattle.std.proofs.lemmas.List.Elements.{All-head, All-tail}
 use Rattle.std.proofs.Math.Seq.{take-length}
-use Rattle.geo_tokens.specs.declared.token.Keyword.{Keyword}
 use Rattle.geo_tokens.specs.declared.token.Keyword.TheVariants as keywords
 use Rattle.geo_tokens.specs.declared.token.Sym.TheVariants as syms
 use Rattle.geo_tokens.specs.Bytes.{is_letter, is_word_byte}
@@ -14,7 +13,7 @@ use Rattle.geo_tokens.specs.Class.{word_bytes}
 use Rattle.geo_tokens.specs.Spelled.{spelled_as, words_of}
 use Rattle.geo_tokens.specs.Names.{NameTable, IsNameText, IsNameTable}
 use Rattle.geo_tokens.proofs.Spellings.{reserved}
-use Rattle.rule_print.specs.Canonical.{name, number, word, symbol, sign}
+use Rattle.rule_print.specs.Canonical.{name, number, word, symbol}
 use Rattle.rule_print.proofs.Lexemes.{EndsAll, space_ends, line_ends}
 use Rattle.layout_text.proofs.PrintedParts.{int_parts}
 use Rattle.layout_text.proofs.TextParts.{Part, blank, lexeme, all_bytes, Fits, bytes_both, fits_both}

@@ -111,7 +111,7 @@ module _ (n : NameTable) where
   Reads left start ps es = Leaves (lookup n) left start (words ps) es
 
   -- the same of the lines of the events
-  abbrev pub ReadsLines : List Symbol → List Symbol → ℕ → List Event → Type 0
+  abbrev ReadsLines : List Symbol → List Symbol → ℕ → List Event → Type 0
   ReadsLines left start o es = Reads left start (lines_parts n o es) es
 
   both_read : (left middle start : List Symbol) (ps qs : List Part) (es fs : List Event) → Reads middle start ps es → Reads left middle qs fs → Reads left start (ps ++ qs) (es ++ fs)

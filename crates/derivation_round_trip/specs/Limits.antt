@@ -1,5 +1,5 @@
 -- Which events a text can have: its numbers are from -10^9 to 10^9.
-use Rattle.std.specs.Prelude.{◌≤◌, ◌≤ℤ◌, ℕ, ℤ, pos, negsuc}
+use Rattle.std.specs.Prelude.{◌≤ℤ◌, ℤ, pos, negsuc}
 use Rattle.derivation.specs.declared.event.Event.{Event}
 use Rattle.derivation.specs.declared.event.Event.TheVariants.{SplitShape, SplitUpto, SplitFrom, Drop, Raise, Lower, Gone, Dead, Cover, EndCovers, By, Cut, CutFrom}
 
