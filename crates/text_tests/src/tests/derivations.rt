@@ -99,7 +99,7 @@ fn the_first_fault_is_found_in_any_pieces(rt: HostRuntime) -> Result<(), Fail> {
                 Ok(_) => None,
                 Err(fault) => Some(fault),
             };
-            let wanted = TextFault::At(100 + *place, *word);
+            let wanted = TextFault::At(place.saturating_add(100), *word);
             assert!(rt;
                 fault == Some(wanted),
                 "{text:?} in pieces of {size}: {fault:?}"
