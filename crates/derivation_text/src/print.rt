@@ -188,7 +188,7 @@ fn write_line<W: Sink>(names: &Names, o: ObjId, e: Event, sink: &mut W) -> Resul
 }
 
 // The object whose covers are listed behind an event.
-fn listed(o: ObjId, e: Event) -> ObjId
+pub fn listed(o: ObjId, e: Event) -> ObjId
     ensures { result.0 ≡ listed o.0 e }
 {
     match e {

@@ -1,5 +1,6 @@
 mod answer;
 mod boxes;
+mod derivations;
 mod formulas;
 mod layouts;
 mod mistakes;

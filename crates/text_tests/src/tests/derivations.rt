@@ -1,0 +1,158 @@
+//! Derivations that are read in pieces and printed, and their first faults.
+
+use derivation::Log;
+use derivation_reading::Feeder;
+use derivation_text::{all_named, print_derivation};
+use geo_chan::CleanSink;
+use geo_tokens::fault::FaultWord::{self, Byte, Name, Number, Syntax, Unknown};
+use geo_tokens::fault::TextFault;
+use geo_tokens::names::Names;
+use std::alloc::{AllocError, Global};
+use std::process::Abort;
+use std::test::Fail;
+
+/// Two dimensions, and two objects, of which one has the name of a word of derivations.
+fn table(alloc: Global) -> Result<Names, AllocError> {
+    let mut names = Names::new(alloc, 2);
+    names.add_shape(b"s")?;
+    names.add_shape(b"t")?;
+    names.add_object(b"a", &[0, 1])?;
+    names.add_object(b"split", &[0])?;
+    Ok(names)
+}
+
+/// The lines of the derivation that stands at the place 100 of an input and comes in pieces of this size.
+fn lines(alloc: Global, names: &Names, text: &[u8], size: usize) -> Result<Vec<u8>, TextFault> {
+    let mut log = Log::new(alloc);
+    let mut feeder = Feeder::start(alloc, names, 100);
+    for piece in text.chunks(size.max(1)) {
+        feeder.feed(piece, &mut log)?;
+    }
+    feeder.finish(&mut log)?;
+    let mut sink = CleanSink::new(alloc);
+    if all_named(names, log.events()) {
+        print_derivation(names, &log, &mut sink).ok();
+    }
+    Ok(Vec::from_slice(alloc, sink.bytes())?)
+}
+
+const SIZES: &[usize] = &[1, 2, 7, 1000];
+
+/// All kinds of nodes and covers.
+const LINES: &[u8] =
+    b"split a shape s\nsplit a 1 upto 4\nsplit a 2 from -3\ndrop a t\nby 1\nraise a 1 2 [\ns\ncut 1 3\nby 1\nby 2\n]\nlower split 2 7 [\ns\nfrom 2 -1\nby 3\nby 4\n]\ndead 5\ngone a [\ns\nby 1\nt\nby 2\n]\ndead 2\ndead 3\nqed\n";
+
+/// The same derivation, spelled in another way.
+const SPELLED: &[u8] =
+    b" none split a shape s # the first case\nsplit a 01 upto 4 split a 2 from - 3 drop a t by 001 raise a 1 2[s cut 1 3 by 1 by 2]lower split 2 7[s from 2 -1 by 3 by 4]\tdead 5 gone a[s by 1 t by 2]dead 2\r\ndead 0003 qed ? not looked at";
+
+#[test]
+fn derivations_are_read_in_any_pieces(rt: HostRuntime) -> Result<(), Fail> {
+    let alloc = rt.alloc();
+    let names = table(alloc)?;
+    for size in SIZES {
+        for text in [LINES, SPELLED] {
+            let Ok(read) = lines(alloc, &names, text, *size) else {
+                assert!(rt; false, "pieces of {size}");
+                continue;
+            };
+            assert!(rt; read.as_slice() == LINES, "pieces of {size}");
+        }
+    }
+    Ok(())
+}
+
+/// Texts with their first fault, and its place in the text.
+const FAULTS: &[(&[u8], u64, FaultWord)] = &[
+    (b" by 1 qed", 1, Syntax),
+    (b"", 0, Syntax),
+    (b" split a 1 upto 0 dead 1", 24, Syntax),
+    (b"dead 1", 6, Syntax),
+    (b"dead - 1 qed", 5, Syntax),
+    (b"dead 1 dead 1 qed", 7, Syntax),
+    (b"split a 1 upto - - 1 dead 1 dead 1 qed", 17, Syntax),
+    (b"raise a 3 1 [ s by 1 ] dead 1 qed", 8, Unknown),
+    (b"split a 0 upto 1 dead 1 dead 1 qed", 8, Unknown),
+    (b"gone b [ ] qed", 5, Unknown),
+    (b"gone split [ t by 1 ] qed", 13, Unknown),
+    (b"drop split t by 1 dead 1 qed", 11, Unknown),
+    (b"gone b ? ] qed", 5, Unknown),
+    (b"dead 1000000001 qed", 5, Number),
+    (b"dead 1x qed", 5, Number),
+    (b"dead 1 ? qed", 7, Byte),
+    (b"dead 1 ! qed", 7, Byte),
+    (
+        b"dead 1 abcdefghijklmnopqrstuvwxyzabcdefghijklmno qed",
+        7,
+        Name,
+    ),
+    (b"dead 1 qed1 qed", 7, Syntax),
+];
+
+#[test]
+fn the_first_fault_is_found_in_any_pieces(rt: HostRuntime) -> Result<(), Fail> {
+    let alloc = rt.alloc();
+    let names = table(alloc)?;
+    for size in SIZES {
+        for (text, place, word) in FAULTS {
+            let fault = match lines(alloc, &names, text, *size) {
+                Ok(_) => None,
+                Err(fault) => Some(fault),
+            };
+            let wanted = TextFault::At(place.saturating_add(100), *word);
+            assert!(rt;
+                fault == Some(wanted),
+                "{text:?} in pieces of {size}: {fault:?}"
+            );
+        }
+    }
+    Ok(())
+}
+
+/// What is answered to each of the pieces, with the number of the events so far.
+fn answers(alloc: Global, names: &Names, pieces: &[&[u8]]) -> Result<String, AllocError> {
+    let mut log = Log::new(alloc);
+    let mut feeder = Feeder::start(alloc, names, 0);
+    let mut shown = String::new(alloc);
+    for piece in pieces {
+        let answer = feeder.feed(piece, &mut log);
+        let one = format!(in alloc; "{answer:?} {}, ", log.events().len())?;
+        shown.push_str(one.as_str())?;
+    }
+    Ok(shown)
+}
+
+/// Pieces, and what is answered to them: a token is whole with the byte behind it, a byte that can begin no token at once.
+const PIECES: &[(&[&[u8]], &str)] = &[
+    (
+        &[b"dead 1", b" ", b"qed", b" ", b"?"],
+        "Ok(false) 0, Ok(false) 1, Ok(false) 1, Ok(true) 1, Ok(true) 1, ",
+    ),
+    (
+        &[b"dead 1 ", b"?", b" qed "],
+        "Ok(false) 1, Err(At(7, Byte)) 1, Err(At(7, Byte)) 1, ",
+    ),
+    (
+        &[b"dead 1 ", b"!", b" qed "],
+        "Ok(false) 1, Ok(false) 1, Err(At(7, Byte)) 1, ",
+    ),
+    (
+        &[b"dead 1 que", b"d", b" "],
+        "Ok(false) 1, Ok(false) 1, Err(At(7, Syntax)) 1, ",
+    ),
+    (
+        &[b"dead 12345678901", b" "],
+        "Ok(false) 0, Err(At(5, Number)) 0, ",
+    ),
+];
+
+#[test]
+fn answers_come_with_the_piece_that_completes_them(rt: HostRuntime) -> Result<(), Fail> {
+    let alloc = rt.alloc();
+    let names = table(alloc)?;
+    for (pieces, wanted) in PIECES {
+        let shown = answers(alloc, &names, pieces)?;
+        assert!(rt; shown.as_str() == *wanted, "{}", shown.as_str());
+    }
+    Ok(())
+}
