@@ -1,6 +1,6 @@
 # Completion of geost's words in bash: source this file from ~/.bashrc.
 _geost() {
-  local words="first judge show"
+  local words="first judge check show"
   if [ "$COMP_CWORD" -eq 1 ]; then
     COMPREPLY=($(compgen -W "$words" -- "${COMP_WORDS[COMP_CWORD]}"))
   elif [ "$COMP_CWORD" -eq 2 ] && [ "${COMP_WORDS[1]}" = first ]; then
