@@ -26,7 +26,7 @@ use Rattle.derivation_reading.specs.Machine.{Leaves, Opens, Spells}
 use Rattle.derivation_reading.specs.declared.symbol.Symbol.TheVariants.{Text}
 use Rattle.derivation_reading.specs.Begins.{Begins}
 use Rattle.derivation_reading.specs.FirstFault.{most_bytes, token_at, IsText, IsRead, HasFault, HasFirstFault, inside, no_token, syntax, unknown}
-use Rattle.derivation_reading.specs.Feeding.{HasFaultFrom, HasReached, IsNext, IsNextFault, Reaches, HasLeft, Keeps, Accepts, failure}
+use Rattle.derivation_reading.specs.Feeding.{HasFaultFrom, HasReached, IsNext, IsNextFault, Reaches, HasLeft, Keeps, Accepts, FailsOpen, failed_open, failure}
 use Rattle.derivation_reading.proofs.Steps.{one_more}
 use Rattle.derivation_reading.proofs.Viable.{opens_begins, unknown_begins, wrong_begins_none}
 use Rattle.derivation_reading.proofs.Cuttings.{before_last, is_token_at}
@@ -57,18 +57,24 @@ in_input from place f p = min-eq_left (omega arith)
 appended : (before a b : List Event) → before ++ a ≡ before ++ b → a ≡ b
 appended before a b e = append_cancel_left before a b e
 
+-- a fault of the text, as the input counts its place
+pub fault_in_input : (n : NameTable) (from : ℕ) (text : List ℕ) (place : ℕ) (word : FaultWord) → from ≤ 2 ^ 62 → place ≤ most_bytes → HasFirstFault n text place word
+    → HasFaultFrom n from text (faults.At (min (from + place) (2 ^ 64 - 1)) word)
+fault_in_input n from text place word low near fault =
+    subst (λ (q : ℕ). HasFaultFrom n from text (faults.At q word)) (sym (in_input from place low near)) (place, refl, fault)
+
 module _ (f g : Feeder) (keeps : Keeps f g) where
-  same_names : g.names.now ≡ f.names.now
+  pub same_names : g.names.now ≡ f.names.now
   same_names = ap (λ (b : _). b.now) keeps.names
 
   -- a fault of the text at this place
-  pub fails_at : (text : List ℕ) (us : List Token) (gs : List Event) (place : ℕ) (word : FaultWord) → f.place ≤ 2 ^ 62 → place ≤ most_bytes
+  fails_at : (text : List ℕ) (us : List Token) (gs : List Event) (place : ℕ) (word : FaultWord) → f.place ≤ 2 ^ 62 → place ≤ most_bytes
       → HasFirstFault f.names.now text place word → g.progress ≡ failure f place word → HasReached g g.progress text us gs
   fails_at text us gs place word low near fault e =
       subst (λ (p : Progress). HasReached g p text us gs) (sym e)
-      (subst (λ (q : ℕ). HasFaultFrom g.names.now g.place text (faults.At q word)) (sym (in_input f.place place low near))
-      (subst (λ (m : NameTable). HasFaultFrom m g.place text (faults.At (f.place + place) word)) (sym same_names)
-      (subst (λ (q : ℕ). HasFaultFrom f.names.now q text (faults.At (f.place + place) word)) (sym keeps.place) (place, refl, fault))))
+      (subst (λ (m : NameTable). HasFaultFrom m g.place text (faults.At (min (f.place + place) (2 ^ 64 - 1)) word)) (sym same_names)
+      (subst (λ (q : ℕ). HasFaultFrom f.names.now q text (faults.At (min (f.place + place) (2 ^ 64 - 1)) word)) (sym keeps.place)
+      (fault_in_input f.names.now f.place text place word low near fault)))
 
 module _ (f g : Feeder) (text : List ℕ) (ts : List Token) (t : Token) (s : Symbol) (es before later : List Event) where
   abbrev names : NameTable
@@ -161,11 +167,40 @@ reaches_nothing f s before here text ts es more e place opens shows =
     (subst (λ (u : List Event). Opens (lookup f.names.now) (lexemes text ts) (s ∷ reverse f.behind.items) u)
     (sym (append-nil es) ∙ ap (λ (u : List Event). es ++ u) (appended before [] more (append-nil before ∙ e))) opens)
 
-module _ (f g : Feeder) (keeps : Keeps f g) (low : f.place ≤ 2 ^ 62) (text : List ℕ) (us : List Token) (s : Symbol) (ss : List Symbol) (es : List Event)
-    (opens : Opens (lookup f.names.now) (lexemes text us) (s ∷ ss) es) where
-  -- a fault of tokens behind those that were read
-  pub reaches_fault : (place : ℕ) (word : FaultWord) → IsNextFault text us place word → g.progress ≡ failure f place word → (gs : List Event)
-      → HasReached g g.progress text us gs
-  reaches_fault place word h e gs =
-      fails_at f g keeps text us gs place word low (let q = h.short in omega (arith, q))
-      (inside (no_token h.rest us s (record { others = ss; events = es; cut = h.cut; opens = opens }) h.bad h.short)) e
+-- a fault of tokens behind those that were read
+token_fault : (n : NameTable) (text : List ℕ) (us : List Token) (s : Symbol) (ss : List Symbol) (es : List Event) (place : ℕ) (word : FaultWord)
+    → Opens (lookup n) (lexemes text us) (s ∷ ss) es → IsNextFault text us place word → (place ≤ most_bytes) × HasFirstFault n text place word
+token_fault n text us s ss es place word opens h = (
+  (let q = h.short in omega (arith, q)),
+  inside (no_token h.rest us s (record { others = ss; events = es; cut = h.cut; opens = opens }) h.bad h.short),
+)
+
+pub reaches_fault : (f g : Feeder) (s : Symbol) (place : ℕ) (word : FaultWord) (before : List Event) → g ≡ record f { progress = failure f place word }
+    → Reaches f g s (takes.Fault place word) before before
+reaches_fault f g s place word before same text ts es more e low opens shows =
+    let fault = token_fault f.names.now text ts s (reverse f.behind.items) es place word opens shows in
+    subst (λ (x : Feeder). HasReached x x.progress text ts (es ++ more)) (sym same) (fault_in_input f.names.now f.place text place word low fault.0 fault.1)
+
+-- where the reading goes on, it ends with a fault
+module _ (f : Feeder) (place : ℕ) (word : FaultWord) (low : f.place ≤ 2 ^ 62) (near : place ≤ most_bytes)
+    (text : List ℕ) (us : List Token) (gs : List Event)
+    (fault : (s : Symbol) → f.progress ≡ Open s → Opens (lookup f.names.now) (lexemes text us) (s ∷ reverse f.behind.items) gs → HasFirstFault f.names.now text place word) where
+  failed : (p : Progress) → f.progress ≡ p → HasReached f p text us gs → HasReached f (failed_open f place word p) text us gs
+  failed (Open s) is r = fault_in_input f.names.now f.place text place word low near (fault s is r)
+  failed Done is r = r
+  failed (Failed x) is r = r
+
+  pub reached_failed : HasReached f f.progress text us gs → HasReached f (failed_open f place word f.progress) text us gs
+  reached_failed r = failed f.progress refl r
+
+-- a token, and a fault behind it
+pub reaches_both : (f g h : Feeder) (s : Symbol) (t : Token) (place : ℕ) (before later : List Event) → Keeps f g → Reaches f g s (takes.Token t) before later
+    → FailsOpen g h place words.Byte → Reaches f h s (takes.TokenAndFault t place) before later
+reaches_both f g h s t place before later keeps reached fails text ts es more e low opens shows =
+    let gs = es ++ more in
+    let us = ts ++ t ∷ [] in
+    let low_there : g.place ≤ 2 ^ 62 = subst (λ (q : ℕ). q ≤ 2 ^ 62) (sym keeps.place) low in
+    let near : place ≤ most_bytes = (let q = shows.1.short in omega (arith, q)) in
+    let failed = reached_failed g place words.Byte low_there near text us gs
+        (λ u is opened. (token_fault g.names.now text us u (reverse g.behind.items) gs place words.Byte opened shows.1).1) (reached text ts es more e low opens shows.0) in
+    subst (λ (x : Feeder). HasReached x x.progress text us gs) (sym fails) failed

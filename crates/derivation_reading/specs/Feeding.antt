@@ -110,6 +110,12 @@ Reaches old new s taken before later = (text : List ℕ) (ts : List Token) (es m
     → Opens (lookup old.names.now) (lexemes text ts) (s ∷ reverse old.behind.items) es → Shows old text ts taken
     → HasReached new new.progress text (with_taken ts taken) (es ++ more)
 
+-- behind a fault of tokens nothing comes
+abbrev pub Stops : Taken → Progress → Type 0
+Stops (takes.Fault place word) (Open s) = ⊥
+Stops (takes.TokenAndFault t place) (Open s) = ⊥
+Stops taken p = Unit {0}
+
 -- ---- one token
 
 -- the names, the place and the bytes that came stay

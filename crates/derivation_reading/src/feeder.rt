@@ -8,7 +8,7 @@ ghost use Rattle.derivation_reading.specs.declared.feeder.Progress.TheVariants.{
 ghost use Rattle.derivation_reading.specs.Terminals.{terminal_of, name_by};
 ghost use Rattle.derivation_reading.specs.Grammar.{lookup, next};
 ghost use Rattle.derivation_reading.specs.Outcomes.{symbols};
-ghost use Rattle.derivation_reading.specs.Feeding.{Comes, Ends, HasCome, HasLeft, Keeps, Accepts, Goes, Reaches, FailsOpen, answer_of, failure, without_byte};
+ghost use Rattle.derivation_reading.specs.Feeding.{Comes, Ends, HasCome, HasLeft, Keeps, Accepts, Goes, Reaches, Stops, FailsOpen, answer_of, failure, without_byte};
 
 use crate::production::{Behind, Outcome, next};
 use crate::symbol::{Symbol, terminal_of};
@@ -49,7 +49,9 @@ impl<'a> Feeder<'a> {
     /// Before the first piece of a text that begins at this place of the input. It takes no memory.
     pub fn start(alloc: Global, names: &'a Names, place: u64) -> Feeder<'a>
         requires place { place ≤ 2 ^ 62 }
-        ensures { HasCome result [] [] }
+        ensures come { HasCome result [] [] }
+        ensures names { result.names.now ≡ names.now }
+        ensures place { result.place ≡ place }
     {
         Feeder {
             names,
@@ -63,6 +65,8 @@ impl<'a> Feeder<'a> {
     /// Takes the next piece, and records the events that are whole with it. True where the word `qed` came.
     pub fn feed(&mut self, piece: &[u8], out: &mut Log) -> Result<bool, TextFault>
         ensures come { Comes self.old self.new piece.now out.old.events out.new.events }
+        ensures names { self.new.names ≡ self.old.names }
+        ensures place { self.new.place ≡ self.old.place }
         ensures answer { result ≡ answer_of self.new.progress }
     {
         for byte in piece {
@@ -74,6 +78,8 @@ impl<'a> Feeder<'a> {
     /// The text has ended. It is true where it is a derivation.
     pub fn finish(&mut self, out: &mut Log) -> Result<bool, TextFault>
         ensures ended { Ends self.old self.new out.old.events out.new.events }
+        ensures names { self.new.names ≡ self.old.names }
+        ensures place { self.new.place ≡ self.old.place }
         ensures answer { result ≡ answer_of self.new.progress }
     {
         if let Progress::Open(symbol) = self.progress {
@@ -102,7 +108,9 @@ impl<'a> Feeder<'a> {
 
     // Takes a byte, unless the reading has ended.
     fn take(&mut self, byte: u8, out: &mut Log)
-        ensures { Comes self.old self.new (byte ∷ []) out.old.events out.new.events }
+        ensures come { Comes self.old self.new (byte ∷ []) out.old.events out.new.events }
+        ensures names { self.new.names ≡ self.old.names }
+        ensures place { self.new.place ≡ self.old.place }
     {
         if let Progress::Open(symbol) = self.progress {
             match self.stream.count().cmp(&MOST_BYTES) {
@@ -117,7 +125,9 @@ impl<'a> Feeder<'a> {
     fn take_next(&mut self, symbol: Symbol, byte: u8, out: &mut Log)
         requires open { self.old.progress ≡ Open symbol }
         requires room { self.old.stream.count < 2 ^ 40 }
-        ensures { Comes self.old self.new (byte ∷ []) out.old.events out.new.events }
+        ensures come { Comes self.old self.new (byte ∷ []) out.old.events out.new.events }
+        ensures names { self.new.names ≡ self.old.names }
+        ensures place { self.new.place ≡ self.old.place }
     {
         let taken = self.stream.take(byte);
         self.accept_all(symbol, taken, out);
@@ -127,7 +137,9 @@ impl<'a> Feeder<'a> {
     fn take_last(&mut self, symbol: Symbol, byte: u8, out: &mut Log)
         requires open { self.old.progress ≡ Open symbol }
         requires full { self.old.stream.count ≡ 2 ^ 40 }
-        ensures { Comes self.old self.new (byte ∷ []) out.old.events out.new.events }
+        ensures come { Comes self.old self.new (byte ∷ []) out.old.events out.new.events }
+        ensures names { self.new.names ≡ self.old.names }
+        ensures place { self.new.place ≡ self.old.place }
     {
         let taken = before_the_end(self.stream.take(byte));
         self.accept_all(symbol, taken, out);
@@ -137,7 +149,9 @@ impl<'a> Feeder<'a> {
     // The text has ended where this may come next.
     fn end(&mut self, symbol: Symbol, out: &mut Log)
         requires open { self.old.progress ≡ Open symbol }
-        ensures { Ends self.old self.new out.old.events out.new.events }
+        ensures ended { Ends self.old self.new out.old.events out.new.events }
+        ensures names { self.new.names ≡ self.old.names }
+        ensures place { self.new.place ≡ self.old.place }
     {
         let taken = self.stream.finish();
         self.accept_all(symbol, taken, out);
@@ -164,6 +178,7 @@ impl<'a> Feeder<'a> {
         ensures grown { Continues out.old.events out.new.events }
         ensures keeps { Keeps self.old self.new }
         ensures reaches { Reaches self.old self.new symbol taken out.old.events out.new.events }
+        ensures stops { Stops taken self.new.progress }
     {
         match taken {
             Taken::Nothing => {}

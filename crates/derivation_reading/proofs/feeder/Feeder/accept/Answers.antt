@@ -1,18 +1,8 @@
-use Rattle.std.proofs.Common.{rules, ◌≡◌, ◌<◌, ◌≤◌, ◌^◌, [], ◌∷◌, ◌++◌, reverse, IfOk, ℕ, ◌+◌, ◌-◌, ◌*◌, length, ◌/◌, ◌%◌, Bool, true, false, nat_eq, nat_lt, List, slice_index_or, slice_set, bit_and, bit_or, Fits, w8, w32, w64, Bor, MutBor}
-use Rattle.token_stream.specs.declared.stream.Taken.TheVariants as takes
-use Rattle.token_stream.specs.Stream.{name_of}
-use Rattle.derivation.specs.Events.{Continues}
-use Rattle.derivation_reading.specs.declared.feeder.Progress.TheVariants.{Open}
-use Rattle.derivation_reading.specs.Terminals.{terminal_of, name_by}
-use Rattle.derivation_reading.specs.Grammar.{lookup, next}
-use Rattle.derivation_reading.specs.Outcomes.{symbols}
-use Rattle.derivation_reading.specs.Feeding.{Comes, Ends, HasCome, HasLeft, Keeps, Accepts, Goes, Reaches, FailsOpen, answer_of, failure, without_byte}
+use Rattle.derivation_reading.proofs.Reached.{continues, reaches}
 use Rattle.derivation_reading.proofs.feeder.Feeder.accept.Goals as goal
 
--- src/feeder.rt:180:5
 pub returns-clause-grown : goal.returns-clause-grown
-returns-clause-grown c = ?
+returns-clause-grown c = continues _ _ _ _ _ _ c.step.ensures.accepts
 
--- src/feeder.rt:180:5
 pub returns-clause-reaches : goal.returns-clause-reaches
-returns-clause-reaches c = ?
+returns-clause-reaches c = reaches c.args.self.now c.step.new.self c.args.token c.args.symbol c.args.out.now.events c.step.new.out.events c.step.ensures.keeps c.step.ensures.accepts

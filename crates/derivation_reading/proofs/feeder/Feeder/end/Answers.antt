@@ -1,18 +1,24 @@
-use Rattle.std.proofs.Common.{rules, ◌≡◌, ◌<◌, ◌≤◌, ◌^◌, [], ◌∷◌, ◌++◌, reverse, IfOk, ℕ, ◌+◌, ◌-◌, ◌*◌, length, ◌/◌, ◌%◌, Bool, true, false, nat_eq, nat_lt, List, slice_index_or, slice_set, bit_and, bit_or, Fits, w8, w32, w64, Bor, MutBor}
-use Rattle.token_stream.specs.declared.stream.Taken.TheVariants as takes
-use Rattle.token_stream.specs.Stream.{name_of}
-use Rattle.derivation.specs.Events.{Continues}
-use Rattle.derivation_reading.specs.declared.feeder.Progress.TheVariants.{Open}
-use Rattle.derivation_reading.specs.Terminals.{terminal_of, name_by}
-use Rattle.derivation_reading.specs.Grammar.{lookup, next}
-use Rattle.derivation_reading.specs.Outcomes.{symbols}
-use Rattle.derivation_reading.specs.Feeding.{Comes, Ends, HasCome, HasLeft, Keeps, Accepts, Goes, Reaches, FailsOpen, answer_of, failure, without_byte}
+use Rattle.std.proofs.Common.{◌≡◌, ℕ, sym, ap, ◌∙◌, subst, arith}
+use Rattle.geo_tokens.specs.declared.fault.FaultWord.TheVariants as words
+use Rattle.derivation_reading.specs.Feeding.{FailsOpen}
+use Rattle.derivation_reading.proofs.Ending.{ends_early, ends_long}
 use Rattle.derivation_reading.proofs.feeder.Feeder.end.Goals as goal
 
--- src/feeder.rt:138:5
-pub returns-then-count-lt-MOST_BYTES : goal.returns-then-count-lt-MOST_BYTES
-returns-then-count-lt-MOST_BYTES c = ?
+pub returns-then-count-lt-MOST_BYTES-clause-ended : goal.returns-then-count-lt-MOST_BYTES-clause-ended
+returns-then-count-lt-MOST_BYTES-clause-ended c =
+    let f = c.args.self.now in
+    let g = c.accept_all.new.self in
+    let h = c.fail_open.new.self in
+    let accepted = c.accept_all.ensures in
+    let same : c.count-count.result ≡ f.stream.count = c.count-count.ensures ∙ ap (λ y. y.count) accepted.keeps.stream in
+    ends_early f g h c.args.symbol c.finish-taken.result c.args.out.now.events c.accept_all.new.out.events c.requires.«open» c.finish-taken.ensures
+    accepted.keeps accepted.grown accepted.reaches accepted.stops (omega arith) (subst (λ (m : ℕ). FailsOpen g h m words.Syntax) same c.fail_open.ensures)
 
--- src/feeder.rt:138:5
-pub returns-else-count-lt-MOST_BYTES : goal.returns-else-count-lt-MOST_BYTES
-returns-else-count-lt-MOST_BYTES c = ?
+pub returns-else-count-lt-MOST_BYTES-clause-ended : goal.returns-else-count-lt-MOST_BYTES-clause-ended
+returns-else-count-lt-MOST_BYTES-clause-ended c =
+    let f = c.args.self.now in
+    let g = c.accept_all.new.self in
+    let accepted = c.accept_all.ensures in
+    let same : c.count-count.result ≡ f.stream.count = c.count-count.ensures ∙ ap (λ y. y.count) accepted.keeps.stream in
+    ends_long f g c.fail_open-else-count-lt-MOST_BYTES.new.self c.args.symbol c.finish-taken.result c.args.out.now.events c.accept_all.new.out.events c.requires.«open»
+    c.finish-taken.ensures accepted.keeps accepted.grown accepted.reaches accepted.stops (omega arith) c.fail_open-else-count-lt-MOST_BYTES.ensures

@@ -1,14 +1,18 @@
-use Rattle.std.proofs.Common.{rules, ◌≡◌, ◌<◌, ◌≤◌, ◌^◌, [], ◌∷◌, ◌++◌, reverse, IfOk, ℕ, ◌+◌, ◌-◌, ◌*◌, length, ◌/◌, ◌%◌, Bool, true, false, nat_eq, nat_lt, List, slice_index_or, slice_set, bit_and, bit_or, Fits, w8, w32, w64, Bor, MutBor}
-use Rattle.token_stream.specs.declared.stream.Taken.TheVariants as takes
-use Rattle.token_stream.specs.Stream.{name_of}
-use Rattle.derivation.specs.Events.{Continues}
-use Rattle.derivation_reading.specs.declared.feeder.Progress.TheVariants.{Open}
-use Rattle.derivation_reading.specs.Terminals.{terminal_of, name_by}
-use Rattle.derivation_reading.specs.Grammar.{lookup, next}
-use Rattle.derivation_reading.specs.Outcomes.{symbols}
-use Rattle.derivation_reading.specs.Feeding.{Comes, Ends, HasCome, HasLeft, Keeps, Accepts, Goes, Reaches, FailsOpen, answer_of, failure, without_byte}
+use Rattle.std.proofs.Common.{List, sym, ap, subst}
+use Rattle.derivation.specs.declared.event.Event.{Event}
+use Rattle.derivation_reading.specs.declared.feeder.Feeder.{Feeder}
+use Rattle.derivation_reading.specs.Feeding.{Ends}
+use Rattle.derivation_reading.proofs.Pieces.{ends_closed}
 use Rattle.derivation_reading.proofs.feeder.Feeder.finish.Goals as goal
+use Rattle.derivation_reading.proofs.feeder.Feeder.finish.Goals.{in-Open, in_default}
 
--- src/feeder.rt:75:5
 pub returns-clause-ended : goal.returns-clause-ended
-returns-clause-ended c = ?
+returns-clause-ended c =
+    let f = c.args.self.now in
+    let before = c.args.out.now.events in
+    elim c.match-self.branch [
+      | in-Open w ↦ subst (λ (x : Feeder). Ends f x before c.match-self.out.events) (sym w.self-is)
+          (subst (λ (x : List Event). Ends f w.end.new.self before x) (sym (ap (λ k. k.events) w.out-is)) w.end.ensures.ended)
+      | in_default w ↦ subst (λ (x : Feeder). Ends f x before c.match-self.out.events) (sym w.self-is)
+          (subst (λ (x : List Event). Ends f f before x) (sym (ap (λ k. k.events) w.out-is)) (ends_closed f before w.in_default.not-Open))
+    ]

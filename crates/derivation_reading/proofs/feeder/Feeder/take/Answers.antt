@@ -1,14 +1,6 @@
-use Rattle.std.proofs.Common.{rules, ◌≡◌, ◌<◌, ◌≤◌, ◌^◌, [], ◌∷◌, ◌++◌, reverse, IfOk, ℕ, ◌+◌, ◌-◌, ◌*◌, length, ◌/◌, ◌%◌, Bool, true, false, nat_eq, nat_lt, List, slice_index_or, slice_set, bit_and, bit_or, Fits, w8, w32, w64, Bor, MutBor}
-use Rattle.token_stream.specs.declared.stream.Taken.TheVariants as takes
-use Rattle.token_stream.specs.Stream.{name_of}
-use Rattle.derivation.specs.Events.{Continues}
-use Rattle.derivation_reading.specs.declared.feeder.Progress.TheVariants.{Open}
-use Rattle.derivation_reading.specs.Terminals.{terminal_of, name_by}
-use Rattle.derivation_reading.specs.Grammar.{lookup, next}
-use Rattle.derivation_reading.specs.Outcomes.{symbols}
-use Rattle.derivation_reading.specs.Feeding.{Comes, Ends, HasCome, HasLeft, Keeps, Accepts, Goes, Reaches, FailsOpen, answer_of, failure, without_byte}
+use Rattle.std.proofs.Common.{[], ◌∷◌}
+use Rattle.derivation_reading.proofs.Pieces.{stays_closed}
 use Rattle.derivation_reading.proofs.feeder.Feeder.take.Goals as goal
 
--- src/feeder.rt:104:5
-pub returns-in_default : goal.returns-in_default
-returns-in_default c = ?
+pub returns-in_default-clause-come : goal.returns-in_default-clause-come
+returns-in_default-clause-come c = stays_closed c.args.self.now (c.args.byte ∷ []) c.args.out.now.events c.in_default.not-Open

@@ -1,14 +1,18 @@
-use Rattle.std.proofs.Common.{rules, ◌≡◌, ◌<◌, ◌≤◌, ◌^◌, [], ◌∷◌, ◌++◌, reverse, IfOk, ℕ, ◌+◌, ◌-◌, ◌*◌, length, ◌/◌, ◌%◌, Bool, true, false, nat_eq, nat_lt, List, slice_index_or, slice_set, bit_and, bit_or, Fits, w8, w32, w64, Bor, MutBor}
-use Rattle.token_stream.specs.declared.stream.Taken.TheVariants as takes
-use Rattle.token_stream.specs.Stream.{name_of}
-use Rattle.derivation.specs.Events.{Continues}
-use Rattle.derivation_reading.specs.declared.feeder.Progress.TheVariants.{Open}
-use Rattle.derivation_reading.specs.Terminals.{terminal_of, name_by}
-use Rattle.derivation_reading.specs.Grammar.{lookup, next}
-use Rattle.derivation_reading.specs.Outcomes.{symbols}
-use Rattle.derivation_reading.specs.Feeding.{Comes, Ends, HasCome, HasLeft, Keeps, Accepts, Goes, Reaches, FailsOpen, answer_of, failure, without_byte}
+use Rattle.std.proofs.Common.{subst}
+use Rattle.token_stream.specs.declared.stream.Taken.{Taken}
+use Rattle.derivation_reading.specs.Feeding.{Reaches, Stops}
+use Rattle.derivation_reading.proofs.Ending.{comes_last}
 use Rattle.derivation_reading.proofs.feeder.Feeder.take_last.Goals as goal
 
--- src/feeder.rt:127:5
-pub returns : goal.returns
-returns c = ?
+pub returns-clause-come : goal.returns-clause-come
+returns-clause-come c =
+    let f = c.args.self.now in
+    let m = record f { stream = c.take.new.self } in
+    let g = c.accept_all.new.self in
+    let before = c.args.out.now.events in
+    let later = c.accept_all.new.out.events in
+    let accepted = c.accept_all.ensures in
+    let left = c.before_the_end-taken.ensures in
+    comes_last f g c.fail_open.new.self c.take.new.self c.args.symbol c.take.result c.args.byte before later c.requires.«open» c.requires.full c.take.ensures.taken
+    accepted.keeps accepted.grown (subst (λ (x : Taken). Reaches m g c.args.symbol x before later) left accepted.reaches)
+    (subst (λ (x : Taken). Stops x g.progress) left accepted.stops) c.fail_open.ensures

@@ -1,14 +1,8 @@
-use Rattle.std.proofs.Common.{rules, ◌≡◌, ◌<◌, ◌≤◌, ◌^◌, [], ◌∷◌, ◌++◌, reverse, IfOk, ℕ, ◌+◌, ◌-◌, ◌*◌, length, ◌/◌, ◌%◌, Bool, true, false, nat_eq, nat_lt, List, slice_index_or, slice_set, bit_and, bit_or, Fits, w8, w32, w64, Bor, MutBor}
-use Rattle.token_stream.specs.declared.stream.Taken.TheVariants as takes
-use Rattle.token_stream.specs.Stream.{name_of}
-use Rattle.derivation.specs.Events.{Continues}
-use Rattle.derivation_reading.specs.declared.feeder.Progress.TheVariants.{Open}
-use Rattle.derivation_reading.specs.Terminals.{terminal_of, name_by}
-use Rattle.derivation_reading.specs.Grammar.{lookup, next}
-use Rattle.derivation_reading.specs.Outcomes.{symbols}
-use Rattle.derivation_reading.specs.Feeding.{Comes, Ends, HasCome, HasLeft, Keeps, Accepts, Goes, Reaches, FailsOpen, answer_of, failure, without_byte}
+use Rattle.derivation_reading.proofs.Coming.{comes_next}
 use Rattle.derivation_reading.proofs.feeder.Feeder.take_next.Goals as goal
 
--- src/feeder.rt:117:5
-pub returns : goal.returns
-returns c = ?
+pub returns-clause-come : goal.returns-clause-come
+returns-clause-come c =
+    let accepted = c.accept_all.ensures in
+    comes_next c.args.self.now c.accept_all.new.self c.take-taken.new.self c.args.symbol c.take-taken.result c.args.byte c.args.out.now.events c.accept_all.new.out.events
+    c.requires.«open» c.requires.room c.take-taken.ensures.taken accepted.keeps accepted.grown accepted.reaches accepted.stops
