@@ -116,7 +116,7 @@ read_to f text more es s o =
     let count = o.has.count in
     let short = o.short in
     let tokens_inside = All-weaker (λ t. t.end ≤ 0 + length text) (λ t. t.end ≤ length text) (λ t h. omega arith) o.tokens
-        (cut_inside f.stream.start o.has.rest 0 text o.tokens (stands_now text o.tokens f.stream.start o.has.rest o.has.stands)) in
+    (cut_inside f.stream.start o.has.rest 0 text o.tokens (stands_now text o.tokens f.stream.start o.has.rest o.has.stands)) in
     record {
       end = f.stream.start;
       rest = o.has.rest ++ more;
@@ -178,7 +178,7 @@ module _ (f g : Feeder) (stream : TokenStream) (s : Symbol) (taken : Taken) (byt
       let cuts = λ (x : List ℕ). cut_to m f.names.now (text_now ++ x) is_open.tokens (s ∷ reverse f.behind.items) es taken (read x) (shows x) in
       let reached = λ (x : List ℕ). reaches (text_now ++ x) is_open.tokens es grown.0 grown.1 come.place (read x).opens (shows x) in
       let has : (u : Symbol) → g.progress ≡ Open u → Has g.stream text_now us × (length text_now ≤ most_bytes) = λ u e. (
-          subst (λ (y : TokenStream). Has y text_now us) (sym keeps.stream) (still_has stream taken text_now is_open.tokens u (subst (Stops taken) e stops) there),
-          short,
+        subst (λ (y : TokenStream). Has y text_now us) (sym keeps.stream) (still_has stream taken text_now is_open.tokens u (subst (Stops taken) e stops) there),
+        short,
       ) in
       (grown.0, grown.1, record { place = subst (λ (q : ℕ). q ≤ 2 ^ 62) (sym keeps.place) come.place; far = at g text_now us gs cuts g.progress has reached })

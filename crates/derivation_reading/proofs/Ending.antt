@@ -122,13 +122,16 @@ module _ (f g h : Feeder) (stream : TokenStream) (s : Symbol) (taken : Taken) (b
       let cuts = λ (x : List ℕ). cut_to m f.names.now (text_now ++ x) is_open.tokens (s ∷ reverse f.behind.items) es left (read x) (shows x) in
       let low : g.place ≤ 2 ^ 62 = subst (λ (q : ℕ). q ≤ 2 ^ 62) (sym keeps.place) come.place in
       let reached = λ (x : List ℕ). reached_failed g most_bytes words.Long low (omega arith) (text_now ++ x) us gs
-          (λ u is opened. long_fault g.names.now (text_now ++ x) us u (reverse g.behind.items) gs (cut_past stream text_now x is_open.tokens u taken size (subst (Stops left) is stops) there) opened
-          (omega (arith, size, length-append text_now x)))
-          (reaches (text_now ++ x) is_open.tokens es grown.0 grown.1 come.place (read x).opens (shows x)) in
-      (grown.0, grown.1, record {
-        place = subst (λ (x : Feeder). x.place ≤ 2 ^ 62) (sym fails) low;
-        far = closed g h most_bytes words.Long fails us gs text_now cuts reached;
-      })
+      (λ u is opened. long_fault g.names.now (text_now ++ x) us u (reverse g.behind.items) gs (cut_past stream text_now x is_open.tokens u taken size (subst (Stops left) is stops) there) opened
+      (omega (arith, size, length-append text_now x)))
+      (reaches (text_now ++ x) is_open.tokens es grown.0 grown.1 come.place (read x).opens (shows x)) in (
+        grown.0,
+        grown.1,
+        record {
+          place = subst (λ (x : Feeder). x.place ≤ 2 ^ 62) (sym fails) low;
+          far = closed g h most_bytes words.Long fails us gs text_now cuts reached;
+        },
+      )
 
 -- ---- the end of the text
 
@@ -145,7 +148,7 @@ module _ (f g h : Feeder) (s : Symbol) (taken : Taken) (before later : List Even
   -- with this fault, where it is open
   ends : (place : ℕ) (word : FaultWord) → place ≤ most_bytes → FailsOpen g h place word
       → ((text : List ℕ) (us : List Token) (u : Symbol) (gs : List Event) → f.stream.count ≡ length text → Cut (length text) [] 0 text us
-        → Opens (lookup g.names.now) (lexemes text us) (u ∷ reverse g.behind.items) gs → HasFirstFault g.names.now text place word)
+      → Opens (lookup g.names.now) (lexemes text us) (u ∷ reverse g.behind.items) gs → HasFirstFault g.names.now text place word)
       → Ends f h before later
   ends place word near fails fault text es come =
       let is_open : IsOpen f text es s = subst (λ (p : Progress). IsAt f p text es) open_before come.far in
@@ -157,8 +160,8 @@ module _ (f g h : Feeder) (s : Symbol) (taken : Taken) (before later : List Even
       let cut = cut_to f f.names.now text is_open.tokens (s ∷ reverse f.behind.items) es taken read shows in
       let low : g.place ≤ 2 ^ 62 = subst (λ (q : ℕ). q ≤ 2 ^ 62) (sym keeps.place) come.place in
       let reached = reached_failed g place word low near text us gs
-          (λ u is opened. fault text us u gs is_open.has.count (all_cut f.stream taken text is_open.tokens u (subst (Stops taken) is stops) there) opened)
-          (reaches text is_open.tokens es grown.0 grown.1 come.place read.opens shows) in
+      (λ u is opened. fault text us u gs is_open.has.count (all_cut f.stream taken text is_open.tokens u (subst (Stops taken) is stops) there) opened)
+      (reaches text is_open.tokens es grown.0 grown.1 come.place read.opens shows) in
       (grown.0, grown.1, at_end g h place word fails us gs text cut reached)
 
   -- a text that ends too early

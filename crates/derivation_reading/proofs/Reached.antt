@@ -202,5 +202,5 @@ reaches_both f g h s t place before later keeps reached fails text ts es more e 
     let low_there : g.place ≤ 2 ^ 62 = subst (λ (q : ℕ). q ≤ 2 ^ 62) (sym keeps.place) low in
     let near : place ≤ most_bytes = (let q = shows.1.short in omega (arith, q)) in
     let failed = reached_failed g place words.Byte low_there near text us gs
-        (λ u is opened. (token_fault g.names.now text us u (reverse g.behind.items) gs place words.Byte opened shows.1).1) (reached text ts es more e low opens shows.0) in
+    (λ u is opened. (token_fault g.names.now text us u (reverse g.behind.items) gs place words.Byte opened shows.1).1) (reached text ts es more e low opens shows.0) in
     subst (λ (x : Feeder). HasReached x x.progress text us gs) (sym fails) failed

@@ -78,13 +78,13 @@ known (Some n) f = f n
 -- the words that begin a node, what then follows, and `more` behind the node
 abbrev pub node_by : List ℕ → List Symbol → Next
 node_by w more =
-  if bytes_eq w (codes "split") then goes (SplitObject ∷ more)
-  else if bytes_eq w (codes "drop") then goes (DropObject ∷ more)
-  else if bytes_eq w (codes "raise") then goes (BoundObject From ∷ more)
-  else if bytes_eq w (codes "lower") then goes (BoundObject Upto ∷ more)
-  else if bytes_eq w (codes "gone") then goes (GoneObject ∷ more)
-  else if bytes_eq w (codes "dead") then goes (DeadNumber ∷ more)
-  else Wrong
+    if bytes_eq w (codes "split") then goes (SplitObject ∷ more)
+    else if bytes_eq w (codes "drop") then goes (DropObject ∷ more)
+    else if bytes_eq w (codes "raise") then goes (BoundObject From ∷ more)
+    else if bytes_eq w (codes "lower") then goes (BoundObject Upto ∷ more)
+    else if bytes_eq w (codes "gone") then goes (GoneObject ∷ more)
+    else if bytes_eq w (codes "dead") then goes (DeadNumber ∷ more)
+    else Wrong
 
 -- the words that begin a text
 abbrev pub text_by : List ℕ → Next
@@ -93,16 +93,16 @@ text_by w = if bytes_eq w (codes "none") then goes (Node ∷ Qed ∷ []) else no
 -- the words that begin a cover
 abbrev pub cover_by : List ℕ → Next
 cover_by w =
-  if bytes_eq w (codes "by") then goes (ByNumber ∷ [])
-  else if bytes_eq w (codes "cut") then goes (CutDimension Upto ∷ [])
-  else if bytes_eq w (codes "from") then goes (CutDimension From ∷ [])
-  else Wrong
+    if bytes_eq w (codes "by") then goes (ByNumber ∷ [])
+    else if bytes_eq w (codes "cut") then goes (CutDimension Upto ∷ [])
+    else if bytes_eq w (codes "from") then goes (CutDimension From ∷ [])
+    else Wrong
 
 abbrev pub part_by : ObjId → ℕ → List ℕ → Next
 part_by o d w =
-  if bytes_eq w (codes "upto") then goes (SplitNumber Upto o d Plus ∷ [])
-  else if bytes_eq w (codes "from") then goes (SplitNumber From o d Plus ∷ [])
-  else Wrong
+    if bytes_eq w (codes "upto") then goes (SplitNumber Upto o d Plus ∷ [])
+    else if bytes_eq w (codes "from") then goes (SplitNumber From o d Plus ∷ [])
+    else Wrong
 
 abbrev pub an : ℕ → ObjId
 an o = record { 0 = o }

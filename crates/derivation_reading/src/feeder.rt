@@ -216,7 +216,7 @@ impl<'a> Feeder<'a> {
     fn step(&mut self, symbol: Symbol, token: Token, out: &mut Log)
         ensures accepts { Accepts self.old self.new
             (next (lookup self.old.names.now) symbol (terminal_of token.kind)
-                (name_by token.kind (name_of self.old.stream)))
+            (name_by token.kind (name_of self.old.stream)))
             token.start out.old.events out.new.events }
         ensures keeps { Keeps self.old self.new }
     {

@@ -96,19 +96,28 @@ fn at_name(names: &Names, symbol: Symbol, name: &[u8]) -> Outcome
 fn split_shape(o: ObjId, place: u8) -> Outcome
     ensures { said result ≡ gives (events.SplitShape o place) (symbols.Node ∷ symbols.Node ∷ []) }
 {
-    Outcome::Gives(Event::SplitShape(o, place), Behind::Two(Symbol::Node, Symbol::Node))
+    Outcome::Gives(
+        Event::SplitShape(o, place),
+        Behind::Two(Symbol::Node, Symbol::Node),
+    )
 }
 
 fn drop_shape(o: ObjId, place: u8) -> Outcome
     ensures { said result ≡ gives (events.Drop o place) (symbols.Cover ∷ symbols.Node ∷ []) }
 {
-    Outcome::Gives(Event::Drop(o, place), Behind::Two(Symbol::Cover, Symbol::Node))
+    Outcome::Gives(
+        Event::Drop(o, place),
+        Behind::Two(Symbol::Cover, Symbol::Node),
+    )
 }
 
 fn cover_of(o: ObjId, place: u8) -> Outcome
     ensures { said result ≡ gives (events.Cover place) (symbols.Cover ∷ symbols.Covers o ∷ []) }
 {
-    Outcome::Gives(Event::Cover(place), Behind::Two(Symbol::Cover, Symbol::Covers(o)))
+    Outcome::Gives(
+        Event::Cover(place),
+        Behind::Two(Symbol::Cover, Symbol::Covers(o)),
+    )
 }
 
 fn text_by(name: &[u8]) -> Outcome

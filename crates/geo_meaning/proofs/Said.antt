@@ -7,12 +7,7 @@ use Rattle.problem_data.specs.Faults.{rule_name, rules}
 use Rattle.problem_data.specs.Meaning.{rule_of}
 use Rattle.problem_data.specs.Limits.{most_rules}
 use Rattle.problem_data.specs.Accepted.{IsSaid}
-use Rattle.problem_data.specs.WellFormed.{IsWellFormed}
 use Rattle.problem_data.proofs.Distinct.{few}
-use Rattle.problem_data.proofs.Accepted.{accepted_well_formed}
-
-pub said-formed : (p : ProblemData) → IsSaid p → IsWellFormed p
-said-formed p s = accepted_well_formed s.text p s.accepts
 
 pub few-rules : (p : ProblemData) → IsSaid p → length p.rules ≤ most_rules
 few-rules p s =

@@ -1,11 +1,10 @@
 // What is written.
 ghost use Rattle.std.specs.Prelude.{◌≡◌, ◌≤◌, codes, length};
-ghost use Rattle.geo_chan.specs.Written.{Writes};
+ghost use Rattle.geo_chan.specs.Written.{Prints};
 ghost use Rattle.problem_data.specs.Cells.{IsShaped};
-ghost use Rattle.problem_data.specs.WellFormed.{IsWellFormed};
 ghost use Rattle.geost_run.specs.Answer.{broken_rule, out_of_budget, refusal, rule_name};
 ghost use Rattle.geost_run.specs.Decision.{decision_text, IsDecided};
-ghost use Rattle.geost_run.specs.Ends.{Prints};
+ghost use Rattle.geost_run.specs.Ends.{WritesAnswer};
 
 use crate::Decision;
 use geo_chan::{Piece, PutFault, Sink, write_all_bytes, write_pieces};
@@ -22,7 +21,8 @@ pub fn write_decision<W: Sink>(
     decision: &Decision,
 ) -> Result<(), PutFault>
     requires { IsDecided decision.now }
-    ensures { Prints (W.written sink.old) (W.written sink.new) (W.faults sink.old) (W.faults sink.new) result (decision_text decision.now) }
+    ensures { WritesAnswer (W.written sink.old) (W.written sink.new)
+        (W.faults sink.old) (W.faults sink.new) result (decision_text decision.now) }
 {
     match decision {
         Decision::Refuse(place, word) => write_refusal(sink, *place, *word),
@@ -37,7 +37,8 @@ pub fn write_decision<W: Sink>(
 
 fn write_broken<W: Sink>(sink: &mut W, problem: &Problem, number: u16) -> Result<(), PutFault>
     requires { (1 ≤ number) × (number ≤ length problem.now.rules) }
-    ensures { Writes (W.written sink.old) (W.written sink.new) (W.faults sink.old) (W.faults sink.new) (W.quiet sink.old) (W.quiet sink.new) result (broken_rule (rule_name problem.now number)) }
+    ensures { Prints W.written W.faults W.quiet sink.old sink.new result
+        (broken_rule (rule_name problem.now number)) }
 {
     let rule = &problem.rules()[number as usize - 1];
     let pieces = [
@@ -49,7 +50,7 @@ fn write_broken<W: Sink>(sink: &mut W, problem: &Problem, number: u16) -> Result
 }
 
 fn write_budget<W: Sink>(sink: &mut W, most: u64) -> Result<(), PutFault>
-    ensures { Writes (W.written sink.old) (W.written sink.new) (W.faults sink.old) (W.faults sink.new) (W.quiet sink.old) (W.quiet sink.new) result (out_of_budget most) }
+    ensures { Prints W.written W.faults W.quiet sink.old sink.new result (out_of_budget most) }
 {
     let pieces = [
         Piece::Bytes(b"budget "),
@@ -60,7 +61,7 @@ fn write_budget<W: Sink>(sink: &mut W, most: u64) -> Result<(), PutFault>
 }
 
 fn write_refusal<W: Sink>(sink: &mut W, place: u64, word: FaultWord) -> Result<(), PutFault>
-    ensures { Writes (W.written sink.old) (W.written sink.new) (W.faults sink.old) (W.faults sink.new) (W.quiet sink.old) (W.quiet sink.new) result (refusal place word) }
+    ensures { Prints W.written W.faults W.quiet sink.old sink.new result (refusal place word) }
 {
     let pieces = [
         Piece::Bytes(b"refused "),

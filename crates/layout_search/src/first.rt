@@ -1,7 +1,6 @@
 //! The first layout, and when there is none within the budget.
 
 ghost use Rattle.std.specs.Prelude.{◌≡◌, ◌<◌, ◌≤◌, ◌++◌, [], ◌∷◌, IfOk, IsSome, OnOk, length, map};
-ghost use Rattle.problem_data.specs.WellFormed.{IsWellFormed};
 ghost use Rattle.geo_base.specs.Tuple.{Tuple, spot};
 ghost use Rattle.problem_data.specs.Cells.{IsTuple};
 ghost use Rattle.rule_ground.specs.Start.{first_state};
@@ -43,11 +42,11 @@ pub fn search_first(
     conditions: Vec<Cond>,
     budget: u64,
 ) -> Result<Outcome, AllocError>
-    requires problem { IsWellFormed problem.now }
     requires conditions { AreConditionsOf problem.now conditions.items }
     ensures walk { IfOk result (Lists problem.now conditions.items budget) }
     ensures layout { IfOk result (Finds problem.now) }
 {
+    problem.is_said();
     match problem.dims() {
         1 => search_in::<1>(alloc, problem, conditions, budget),
         2 => search_in::<2>(alloc, problem, conditions, budget),
@@ -100,12 +99,12 @@ fn search_in<const K: usize>(
     budget: u64,
 ) -> Result<Outcome, AllocError>
     requires k { (0 < K) × (K ≤ MAX_DIMS) }
-    requires problem { IsWellFormed problem.now }
     requires dims { problem.now.dims ≡ K }
     requires conditions { AreConditionsOf problem.now conditions.items }
     ensures walk { IfOk result (Lists problem.now conditions.items budget) }
     ensures layout { IfOk result (Finds problem.now) }
 {
+    problem.is_said();
     let first = start_state::<K>(alloc, problem)?;
     let _objects = first.objects();
     let order = search_order(alloc, problem)?;
@@ -127,12 +126,12 @@ fn found_layout<const K: usize>(
     search: &Search<K, Fixpoint<K>, NoRecord>,
 ) -> Result<Layout, AllocError>
     requires k { K ≤ MAX_DIMS }
-    requires problem { IsWellFormed problem.now }
     requires dims { problem.now.dims ≡ K }
     requires first { search.now.walk.first ≡ first_state problem.now }
     requires found { HasFoundIn problem.now search.now }
     ensures { IfOk result (λ l. HasFound search.now l × IsTuple problem.now l) }
 {
+    problem.is_said();
     let mut layout = Layout::new(alloc);
     for i in 0..problem.objects().len() {
         push_spot(search, ObjId(i as u16), &mut layout)?;

@@ -32,8 +32,8 @@ module _ (K : ℕ) (f : Feeder) (c : Checking) (answer : Checked) where
       let taken = subst (λ (es : List Event). HasTaken c.conds first es c.machine) (sym tree.1) h.taken in
       let fits = (text_events n h.over.table text h.events h.whole).0 in
       let fits_there = subst (λ (m : ℕ). All (EventFits m K) (node_events root)) h.over.objects
-          (subst (λ (k : ℕ). All (EventFits (length n.objects) k) (node_events root)) h.over.dims
-          (subst (λ (es : List Event). All (EventFits (length n.objects) n.dims) es) (sym tree.1) fits)) in
+      (subst (λ (k : ℕ). All (EventFits (length n.objects) k) (node_events root)) h.over.dims
+      (subst (λ (es : List Event). All (EventFits (length n.objects) n.dims) es) (sym tree.1) fits)) in
       record {
         events = h.events;
         root = root;

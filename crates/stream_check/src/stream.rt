@@ -80,7 +80,7 @@ impl<'a, const K: usize> StreamCheck<'a, K> {
         ensures checking { result ≡ Ok false → (first : List Reach) (text : List ℕ) (es : List EventOf)
             → IsChecking first K self.old.feeder self.old.checker self.old.log text es
             → (more : List EventOf) × IsChecking first K self.new.feeder self.new.checker
-                self.new.log (text ++ piece.now) (es ++ more) }
+            self.new.log (text ++ piece.now) (es ++ more) }
         ensures open { result ≡ Ok false → (s : SymbolOf) × (self.new.feeder.progress ≡ Open s) }
         ensures checked { result ≡ Ok true → (first : List Reach) (text rest : List ℕ)
             (es : List EventOf)
@@ -90,7 +90,7 @@ impl<'a, const K: usize> StreamCheck<'a, K> {
             (es : List EventOf)
             → IsChecking first K self.old.feeder self.old.checker self.old.log text es
             → HasFaultFrom self.old.feeder.names.now self.old.feeder.place
-                ((text ++ piece.now) ++ rest) fault) }
+            ((text ++ piece.now) ++ rest) fault) }
         ensures names { self.new.feeder.names ≡ self.old.feeder.names }
         ensures place { self.new.feeder.place ≡ self.old.feeder.place }
         ensures conditions { self.new.checker.conds ≡ self.old.checker.conds }
@@ -137,7 +137,7 @@ impl<'a, const K: usize> StreamCheck<'a, K> {
         ensures taken { OnOk result ((first : List Reach) (es : List EventOf)
             → HasTaken self.old.checker.conds first es self.old.checker.machine
             → HasTaken self.old.checker.conds first (es ++ self.old.log.events)
-                self.new.checker.machine) }
+            self.new.checker.machine) }
         ensures conditions { self.new.checker.conds ≡ self.old.checker.conds }
         ensures objects { length self.new.checker.machine.state
             ≡ length self.old.checker.machine.state }

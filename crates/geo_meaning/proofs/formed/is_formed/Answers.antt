@@ -1,8 +1,5 @@
-use Rattle.geo_meaning.proofs.Said.{few-rules, said-formed}
+use Rattle.geo_meaning.proofs.Said.{few-rules}
 use Rattle.geo_meaning.proofs.formed.is_formed.Goals as goal
 
-pub returns-clause-formed : goal.returns-clause-formed
-returns-clause-formed c = said-formed c.args.problem.now c.is_said.ensures
-
 pub returns-clause-rules : goal.returns-clause-rules
-returns-clause-rules c = few-rules c.args.problem.now c.is_said.ensures
+returns-clause-rules c = few-rules c.args.problem.now c.is_said.ensures.said

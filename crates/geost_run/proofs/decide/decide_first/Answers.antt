@@ -4,20 +4,14 @@ use Rattle.geo_tokens.specs.declared.fault.TextFault.{TextFault}
 use Rattle.geost_run.specs.Accepted.{AnswersAccepted}
 use Rattle.geost_run.specs.Decision.{decision_text, decision_status, IsDecided}
 use Rattle.geost_run.proofs.Refusals.{refused_as}
-use Rattle.problem_data.proofs.Accepted.{accepted_well_formed}
 use Rattle.layout_search.specs.FirstLayout.{Finds}
 use Rattle.layout_search.specs.declared.first.Outcome.{Outcome}
 use Rattle.geost_run.proofs.Ending.{shaped_tuple}
 use Rattle.geost_run.proofs.decide.decide_first.Goals as goal
 
-pub search_first-requires-clause-problem : goal.search_first-requires-clause-problem
-search_first-requires-clause-problem c = accepted_well_formed c.args.text.now c.in-Ok.accepted.problem c.in-Ok.ensures.accepted.spells
-
 pub returns-in-Found-clause-decided : goal.returns-in-Found-clause-decided
-returns-in-Found-clause-decided c = (
-  accepted_well_formed c.args.text.now c.in-Ok.accepted.problem c.in-Ok.ensures.accepted.spells,
-  shaped_tuple c.in-Ok.accepted.problem c.in-Found.layout (subst (λ (o : Outcome). Finds c.in-Ok.accepted.problem o) c.in-Found.is c.in_ok-layout.ensures.layout).layout.tuple,
-)
+returns-in-Found-clause-decided c =
+    shaped_tuple c.in-Ok.accepted.problem c.in-Found.layout (subst (λ (o : Outcome). Finds c.in-Ok.accepted.problem o) c.in-Found.is c.in_ok-layout.ensures.layout).layout.tuple
 
 pub returns-in-Err-clause-answer : goal.returns-in-Err-clause-answer
 returns-in-Err-clause-answer c =

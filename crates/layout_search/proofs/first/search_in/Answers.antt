@@ -45,11 +45,11 @@ found_layout-requires g c =
     let cs = c.args.conditions.items in
     let a = c.in_ok-search.search in
     let b = c.next.new.self in
-    let well = c.requires.problem in
+    let well = c.is_said.ensures.formed in
     let f = fresh-search p cs (map (λ (x : AnyIndexical g.row.K). x.cond) c.in_ok-propagator.propagator.list.items) c.in_ok-first.first c.in_ok-order.order c.args.budget a c.in_ok-propagator.ensures.conditions c.in_ok-first.ensures.value c.in_ok-order.ensures.value
     c.in_ok-search.ensures.walk c.in_ok-search.ensures.budget c.in_ok-search.ensures.walked in
     let h = first-answer a b _ c.in_ok-search.ensures.over c.in-Found.ensures.steps in
-    (omega arith, (omega arith, (c.requires.k.1, (well, (c.requires.dims, (ap (λ (W : Tree). W.first) (h.0 ∙ f.walk), found-in p cs well (state-is p well) c.requires.conditions c.args.budget a b f h.0 h.1))))))
+    (omega arith, (omega arith, (c.requires.k.1, (c.requires.dims, (ap (λ (W : Tree). W.first) (h.0 ∙ f.walk), found-in p cs well (state-is p well) c.requires.conditions c.args.budget a b f h.0 h.1)))))
 
 pub returns-in-Found-clause-walk : goal.returns-in-Found-clause-walk
 returns-in-Found-clause-walk g c =
@@ -57,7 +57,7 @@ returns-in-Found-clause-walk g c =
     let cs = c.args.conditions.items in
     let a = c.in_ok-search.search in
     let b = c.next.new.self in
-    let well = c.requires.problem in
+    let well = c.is_said.ensures.formed in
     let f = fresh-search p cs (map (λ (x : AnyIndexical g.row.K). x.cond) c.in_ok-propagator.propagator.list.items) c.in_ok-first.first c.in_ok-order.order c.args.budget a c.in_ok-propagator.ensures.conditions c.in_ok-first.ensures.value c.in_ok-order.ensures.value
     c.in_ok-search.ensures.walk c.in_ok-search.ensures.budget c.in_ok-search.ensures.walked in
     let h = first-answer a b _ c.in_ok-search.ensures.over c.in-Found.ensures.steps in
@@ -69,7 +69,7 @@ returns-in-Found-clause-layout g c =
     let cs = c.args.conditions.items in
     let a = c.in_ok-search.search in
     let b = c.next.new.self in
-    let well = c.requires.problem in
+    let well = c.is_said.ensures.formed in
     let f = fresh-search p cs (map (λ (x : AnyIndexical g.row.K). x.cond) c.in_ok-propagator.propagator.list.items) c.in_ok-first.first c.in_ok-order.order c.args.budget a c.in_ok-propagator.ensures.conditions c.in_ok-first.ensures.value c.in_ok-order.ensures.value
     c.in_ok-search.ensures.walk c.in_ok-search.ensures.budget c.in_ok-search.ensures.walked in
     let h = first-answer a b _ c.in_ok-search.ensures.over c.in-Found.ensures.steps in
@@ -81,7 +81,7 @@ returns-in-Ended-clause-walk g c =
     let cs = c.args.conditions.items in
     let a = c.in_ok-search.search in
     let b = c.next.new.self in
-    let well = c.requires.problem in
+    let well = c.is_said.ensures.formed in
     let f = fresh-search p cs (map (λ (x : AnyIndexical g.row.K). x.cond) c.in_ok-propagator.propagator.list.items) c.in_ok-first.first c.in_ok-order.order c.args.budget a c.in_ok-propagator.ensures.conditions c.in_ok-first.ensures.value c.in_ok-order.ensures.value
     c.in_ok-search.ensures.walk c.in_ok-search.ensures.budget c.in_ok-search.ensures.walked in
     let h = first-answer a b _ c.in_ok-search.ensures.over c.in-Ended.ensures.steps in
@@ -93,7 +93,7 @@ returns-in-Ended-clause-layout g c =
     let cs = c.args.conditions.items in
     let a = c.in_ok-search.search in
     let b = c.next.new.self in
-    let well = c.requires.problem in
+    let well = c.is_said.ensures.formed in
     let f = fresh-search p cs (map (λ (x : AnyIndexical g.row.K). x.cond) c.in_ok-propagator.propagator.list.items) c.in_ok-first.first c.in_ok-order.order c.args.budget a c.in_ok-propagator.ensures.conditions c.in_ok-first.ensures.value c.in_ok-order.ensures.value
     c.in_ok-search.ensures.walk c.in_ok-search.ensures.budget c.in_ok-search.ensures.walked in
     let h = first-answer a b _ c.in_ok-search.ensures.over c.in-Ended.ensures.steps in
@@ -105,7 +105,7 @@ returns-in-Budget-clause-walk g c =
     let cs = c.args.conditions.items in
     let a = c.in_ok-search.search in
     let b = c.next.new.self in
-    let well = c.requires.problem in
+    let well = c.is_said.ensures.formed in
     let f = fresh-search p cs (map (λ (x : AnyIndexical g.row.K). x.cond) c.in_ok-propagator.propagator.list.items) c.in_ok-first.first c.in_ok-order.order c.args.budget a c.in_ok-propagator.ensures.conditions c.in_ok-first.ensures.value c.in_ok-order.ensures.value
     c.in_ok-search.ensures.walk c.in_ok-search.ensures.budget c.in_ok-search.ensures.walked in
     let h = first-answer a b _ c.in_ok-search.ensures.over c.in-Budget.ensures.steps in
