@@ -14,7 +14,7 @@ use Rattle.geost_run.specs.Answer.{refusal, out_of_budget, Gives}
 use Rattle.geost_run.specs.declared.command.Command.{Command}
 use Rattle.geost_run.specs.declared.command.Command.TheVariants.{First, Show, Judge}
 use Rattle.geost_run.specs.declared.command.Status.{Status}
-use Rattle.geost_run.specs.declared.command.Status.TheVariants.{Answered, No, Refused, Budget, BadWords, BadToken, ReadFault, WriteFault, Memory}
+use Rattle.geost_run.specs.declared.command.Status.TheVariants.{Answered, No, Refused, Budget, Memory}
 
 -- `first N`. For an accepted problem a printed layout satisfies every rule by its direct meaning, over cells and finite quantifiers,
 -- and comes before every other layout; `none` means that there is no layout; `budget` comes where the first n members of the walk
