@@ -12,12 +12,13 @@ use Rattle.problem_text.specs.Canonical.{problem_text}
 use Rattle.rule_ground.specs.Order.{variables_for}
 use Rattle.layout_search.specs.FirstLayout.{IsFirstLayout}
 use Rattle.geost_run.specs.declared.command.Command.{Command}
-use Rattle.geost_run.specs.declared.command.Command.TheVariants.{First, Show, Judge}
+use Rattle.geost_run.specs.declared.command.Command.TheVariants.{First, Show, Judge, Check}
 use Rattle.geost_run.specs.declared.command.Status.{Status}
 use Rattle.geost_run.specs.declared.command.Status.TheVariants.{Answered, No, Refused, Budget}
 use Rattle.geost_run.specs.Answer.{broken_rule, rule_name, FirstAnswer, ShowAnswer, JudgeAnswer, AnswerTo, Answer}
 use Rattle.geost_run.proofs.Refusals.{same_problem}
 use Rattle.geost_run.proofs.Only.{given_once, answers_to}
+use Rattle.geost_run.proofs.OneCheck.{check_text}
 use Rattle.geost_run.proofs.OneRefusal.{one_refusal, one_fault_from, one_pair_refusal, same_refusal}
 
 -- two first layouts are one
@@ -69,6 +70,7 @@ text_of : (c : Command) (input t u : List ℕ) (s : Status) → AnswerTo c input
 text_of (First n) input t u s a b = first_text n input t u s a b
 text_of Show input t u s a b = show_text input t u s a b
 text_of Judge input t u s a b = judge_text input t u s a b
+text_of Check input t u s a b = check_text input t u s a b
 
 pub one_text : (words : List (List ℕ)) (input t u : List ℕ) (s : Status) → Answer words input t s → Answer words input u s → t ≡ u
 one_text words input t u s (inl (c, f, a)) b = text_of c input t u s a (answers_to words c input u s f b)

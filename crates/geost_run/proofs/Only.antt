@@ -19,7 +19,7 @@ use Rattle.layout_search.specs.FirstLayout.{walk_of, HasNoLayout}
 use Rattle.layout_search.proofs.Alike as alike
 use Rattle.layout_search.proofs.States.{state-is}
 use Rattle.geost_run.specs.declared.command.Command.{Command}
-use Rattle.geost_run.specs.declared.command.Command.TheVariants.{First, Show, Judge}
+use Rattle.geost_run.specs.declared.command.Command.TheVariants.{First, Show, Judge, Check}
 use Rattle.geost_run.specs.declared.command.Status.{Status}
 use Rattle.geost_run.specs.declared.command.Status.TheVariants.{Answered, No, Refused, Budget, BadWords, BadToken, ReadFault, WriteFault, Memory}
 use Rattle.geost_run.specs.Accepted.{IsAccepted, AreConditions}
@@ -28,6 +28,7 @@ use Rattle.geost_run.specs.Words.{HasForm}
 use Rattle.geost_run.specs.Answer.{RefusedAnswer, FirstAnswer, ShowAnswer, JudgeAnswer, Gives, AnswerTo, Answer}
 use Rattle.geost_run.specs.Texts.{IsRefusedPair}
 use Rattle.geost_run.proofs.TwoTexts.{one-cut}
+use Rattle.geost_run.proofs.OneCheck.{check_status}
 
 -- a text of which a problem with a layout is spelled spells none without
 layout_or_none : (input : List ℕ) (p q : ProblemData) (t : Tuple) → IsAccepted input p → IsLayout p t → IsAccepted input q → HasNoLayout q → ⊥
@@ -148,17 +149,35 @@ not_alone words n name f g = let e = sym f.0 ∙ g in absurd (omega (arith, ap l
 show_or_judge : codes "show" ∷ [] ≡ codes "judge" ∷ [] → ⊥
 show_or_judge e = absurd cc
 
+show_or_check : codes "show" ∷ [] ≡ codes "check" ∷ [] → ⊥
+show_or_check e = absurd cc
+
+abbrev first_letter : List (List ℕ) → ℕ
+first_letter [] = 0
+first_letter ([] ∷ words) = 0
+first_letter ((c ∷ cs) ∷ words) = c
+
+judge_or_check : codes "judge" ∷ [] ≡ codes "check" ∷ [] → ⊥
+judge_or_check e = (let other : 106 ≡ 99 = ap first_letter e in absurd (omega (arith, other)))
+
 -- words are of one command
 one_command : (words : List (List ℕ)) (c d : Command) → HasForm words c → HasForm words d → c ≡ d
 one_command words (First n) (First m) f g = ap First (same_number words n m f g)
 one_command words Show Show f g = refl
 one_command words Judge Judge f g = refl
+one_command words Check Check f g = refl
 one_command words (First n) Show f g = absurd (not_alone words n (codes "show") f g)
 one_command words (First n) Judge f g = absurd (not_alone words n (codes "judge") f g)
+one_command words (First n) Check f g = absurd (not_alone words n (codes "check") f g)
 one_command words Show (First m) f g = absurd (not_alone words m (codes "show") g f)
 one_command words Judge (First m) f g = absurd (not_alone words m (codes "judge") g f)
+one_command words Check (First m) f g = absurd (not_alone words m (codes "check") g f)
 one_command words Show Judge f g = absurd (show_or_judge (sym f ∙ g))
 one_command words Judge Show f g = absurd (show_or_judge (sym g ∙ f))
+one_command words Show Check f g = absurd (show_or_check (sym f ∙ g))
+one_command words Check Show f g = absurd (show_or_check (sym g ∙ f))
+one_command words Judge Check f g = absurd (judge_or_check (sym f ∙ g))
+one_command words Check Judge f g = absurd (judge_or_check (sym g ∙ f))
 
 -- an answer to words that have the form of a command is one to the command
 pub answers_to : (words : List (List ℕ)) (c : Command) (input text : List ℕ) (s : Status) → HasForm words c → Answer words input text s → AnswerTo c input text s
@@ -169,6 +188,7 @@ status_of : (c : Command) (input t u : List ℕ) (s r : Status) → AnswerTo c i
 status_of (First n) input t u s r a b = first_status n input t u s r a b
 status_of Show input t u s r a b = show_status input t u s r a b
 status_of Judge input t u s r a b = judge_status input t u s r a b
+status_of Check input t u s r a b = check_status input t u s r a b
 
 pub one_status : (words : List (List ℕ)) (input t u : List ℕ) (s r : Status) → Answer words input t s → Answer words input u r → s ≡ r
 one_status words input t u s r (inl (c, f, a)) b = status_of c input t u s r a (answers_to words c input u r f b)

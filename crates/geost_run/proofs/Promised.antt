@@ -3,15 +3,16 @@ use Rattle.std.proofs.Common.{◌≡◌, inl, inr, ℕ, List, refl, sym, subst}
 use Rattle.std.specs.Prelude.{Option, Some}
 use Rattle.geo_chan.specs.Causes.{Rose}
 use Rattle.geost_run.specs.declared.command.Command.{Command}
-use Rattle.geost_run.specs.declared.command.Command.TheVariants.{First, Show, Judge}
+use Rattle.geost_run.specs.declared.command.Command.TheVariants.{First, Show, Judge, Check}
 use Rattle.geost_run.specs.declared.command.Status.{Status}
 use Rattle.geost_run.specs.declared.command.Status.TheVariants.{Answered, No, Refused, Budget, BadWords, BadToken, ReadFault, WriteFault, Memory}
 use Rattle.geost_run.specs.Words.{HasForm}
 use Rattle.geost_run.specs.Answer.{FirstAnswer, Answer, AnswerTo, Begins, FrontOf}
 use Rattle.geost_run.specs.Reading.{Tells}
 use Rattle.geost_run.specs.Ends.{Ends}
-use Rattle.geost_run.specs.Headline.{Promises, IsFaultless, IsComplete}
+use Rattle.geost_run.specs.Headline.{Promises, BeginsWithNone, IsFaultless, IsComplete}
 use Rattle.geost_run.proofs.Ending.{ends_as}
+use Rattle.geost_run.proofs.OneCheck.{derived_or_refused}
 use Rattle.geost_run.proofs.Only.{answers_to, refused_too, given_or_refused}
 
 promised : (n : ℕ) (input text : List ℕ) (s : Status) → FirstAnswer n input text s → Promises n input text s
@@ -29,16 +30,19 @@ not-refused-by : (c : Command) (input text : List ℕ) → IsFaultless c input �
 not-refused-by (First n) input text (p, a) r = refused_too input text p a r
 not-refused-by Show input text (p, a) r = refused_too input text p a r
 not-refused-by Judge input text (p, t, g) (place, word, r, e) = given_or_refused input p t place word g r
+not-refused-by Check input text (p, root, g) (place, word, r, e) = derived_or_refused input p root place word g r
 
 no-bad-words : (c : Command) (input text : List ℕ) → AnswerTo c input text BadWords → ⊥
 no-bad-words (First m) input text a = a
 no-bad-words Show input text a = a
 no-bad-words Judge input text a = a
+no-bad-words Check input text a = a
 
 no-bad-token : (c : Command) (input text : List ℕ) → AnswerTo c input text BadToken → ⊥
 no-bad-token (First m) input text a = a
 no-bad-token Show input text a = a
 no-bad-token Judge input text a = a
+no-bad-token Check input text a = a
 
 -- where the words have a form, the texts no fault and no count rose, the answer was written, or memory ran out
 pub complete : (words : List (List ℕ)) (c : Command) (input : List ℕ) (left : Option (List ℕ)) (r0 r1 : ℕ) (w0 w1 : Option (List ℕ)) (f0 f1 : ℕ) (s : Status) → HasForm words c → left ≡ Some input → IsFaultless c input
@@ -64,3 +68,14 @@ pub run_promised : (words : List (List ℕ)) (n : ℕ) (left : Option (List ℕ)
     → Ends (Answer words) (Begins words) left r0 r1 w0 w1 f0 f1 s → Ends (Promises n) (FrontOf (Promises n)) left r0 r1 w0 w1 f0 f1 s
 run_promised words n left r0 r1 w0 w1 f0 f1 s form h =
     ends_as (Answer words) (Promises n) (Begins words) (FrontOf (Promises n)) left r0 r1 w0 w1 f0 f1 s (headline words n form) (front_promised words n form) h
+
+-- where this run answered `yes`, the problem has no layout
+pub run_sound : (words : List (List ℕ)) (left : Option (List ℕ)) (r0 r1 : ℕ) (w0 w1 : Option (List ℕ)) (f0 f1 : ℕ) (s : Status) → HasForm words Check → s ≡ Answered
+    → Ends (Answer words) (Begins words) left r0 r1 w0 w1 f0 f1 s → (input : List ℕ) × Tells left input × BeginsWithNone input
+run_sound words left r0 r1 w0 w1 f0 f1 s form e h = go (subst (λ (x : Status). Ends (Answer words) (Begins words) left r0 r1 w0 w1 f0 f1 x) e h)
+  where
+    go : Ends (Answer words) (Begins words) left r0 r1 w0 w1 f0 f1 Answered → (input : List ℕ) × Tells left input × BeginsWithNone input
+    go (r, f, g) =
+        let a = answers_to words Check g.input g.text Answered form g.answers in
+        let d = a.3 in
+        (g.input, g.told, (a.0, d.0, d.1, d.2, d.3, a.6))

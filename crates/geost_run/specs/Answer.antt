@@ -16,7 +16,7 @@ use Rattle.problem_data.specs.Layouts.{IsLayout}
 use Rattle.problem_text.specs.Canonical.{problem_text}
 use Rattle.problem_text.specs.NameTable.{name_table}
 use Rattle.geost_run.specs.declared.command.Command.{Command}
-use Rattle.geost_run.specs.declared.command.Command.TheVariants.{First, Show, Judge}
+use Rattle.geost_run.specs.declared.command.Command.TheVariants.{First, Show, Judge, Check}
 use Rattle.geost_run.specs.declared.command.Status.{Status}
 use Rattle.geost_run.specs.declared.command.Status.TheVariants.{Answered, No, Refused, Budget, BadWords}
 use Rattle.rule_ground.specs.Order.{variables_for}
@@ -101,6 +101,7 @@ abbrev pub AnswerTo : Command → List ℕ → List ℕ → Status → Type 0
 AnswerTo (First n) input text status = FirstAnswer n input text status
 AnswerTo Show input text status = ShowAnswer input text status
 AnswerTo Judge input text status = JudgeAnswer input text status
+AnswerTo Check input text status = CheckAnswer input text status
 
 -- a front part of a text that is an answer
 abbrev pub FrontOf : (List ℕ → List ℕ → Status → Type 0) → List ℕ → List ℕ → Type 0

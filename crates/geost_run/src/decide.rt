@@ -73,7 +73,7 @@ pub fn decide_judge(alloc: Global, text: &[u8]) -> Result<Decision, AllocError>
 }
 
 // The answer to a text with that fault.
-fn refuse(fault: TextFault) -> Result<Decision, AllocError>
+pub fn refuse(fault: TextFault) -> Result<Decision, AllocError>
     ensures { RefusesAs fault result }
 {
     match fault {
