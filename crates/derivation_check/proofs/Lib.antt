@@ -8,3 +8,4 @@ pub mod Steady
 pub mod Parts
 pub mod Sound
 pub mod Certain
+pub mod OneAnswer

@@ -1,79 +1,26 @@
 -- How a run ends, from what its parts did.
-use Rattle.std.proofs.Common.{◌≡◌, inl, inr, ℕ, ◌≤◌, List, [], ◌++◌, length, refl, sym, subst, ◌∙◌, ap, append-nil, arith}
+use Rattle.std.proofs.Common.{◌≡◌, inl, inr, ℕ, List, [], refl, sym, subst}
 use Rattle.std.specs.Prelude.{Option, None, Some, codes}
 use Rattle.std.specs.Io.KnownBytes.{Appends}
-use Rattle.std.proofs.lemmas.Grind.{common_steps}
 use Rattle.geo_chan.specs.Written.{AppendsFront}
 use Rattle.geo_base.specs.Tuple.{Tuple}
 use Rattle.problem_data.specs.Cells.{IsTuple, IsShaped}
 use Rattle.problem_data.specs.Problem.{ProblemData}
-use Rattle.geo_tokens.specs.declared.fault.FaultWord.{FaultWord}
-use Rattle.problem_data.specs.Accepted.{most_bytes, Accepts}
-use Rattle.problem_text.specs.FirstFault.{HasFirstFault, long, no_token, no_statements, in_statements}
 use Rattle.geost_run.specs.declared.command.Command.{Command}
 use Rattle.geost_run.specs.declared.command.Status.{Status}
-use Rattle.geost_run.specs.declared.command.Status.TheVariants.{Answered, No, Refused, Budget, BadWords, BadToken, ReadFault, WriteFault, Memory}
-use Rattle.geost_run.specs.Accepted.{IsAccepted, IsRefused, unread, misnamed, unexpanded, ungrounded}
+use Rattle.geost_run.specs.declared.command.Status.TheVariants.{BadWords, ReadFault, WriteFault, Memory}
 use Rattle.geost_run.specs.Words.{HasForm, HasNoForm}
 use Rattle.geost_run.specs.declared.decision.Decision.{Decision}
 use Rattle.geost_run.specs.declared.decision.Decision.TheVariants.{Refuse, Nothing, Layout, Shown}
 use Rattle.geost_run.specs.declared.decision.Decision.TheVariants as decisions
-use Rattle.geost_run.specs.Decision.{decision_text, decision_status}
-use Rattle.geost_run.specs.Answer.{RefusedAnswer, FirstAnswer, ShowAnswer, FrontOf, AnswerTo, BeginsOf, BadWordsAnswer, Answer, Begins}
-use Rattle.geost_run.specs.Reading.{Tells, IsFirstText}
+use Rattle.geost_run.specs.Decision.{decision_text, decision_status, Decides}
+use Rattle.geost_run.specs.Answer.{FrontOf, AnswerTo, BeginsOf, BadWordsAnswer, Answer, Begins}
+use Rattle.geost_run.specs.Reading.{Tells}
 use Rattle.geost_run.specs.Ends.{Gave, WroteFront, Ends, EndsUnread, Finishes}
 
--- the answer to the text that was read is the answer to the input
-whole_text : (input text : List ℕ) → IsFirstText input text → length text ≤ most_bytes → text ≡ input
-whole_text input text h short = elim h.whole [
-  | inl none ↦ sym (h.front ∙ ap (λ t. text ++ t) none ∙ append-nil text)
-  | inr over ↦ absurd (omega arith)
-]
-
-accepts_input : (input text : List ℕ) (p : ProblemData) → IsFirstText input text → Accepts text p → Accepts input p
-accepts_input input text p h a = subst (λ (t : List ℕ). Accepts t p) (whole_text input text h a.says.short) a
-
-fault_of_input : (input text : List ℕ) (place : ℕ) (word : FaultWord) → IsFirstText input text → HasFirstFault text place word → HasFirstFault input place word
-fault_of_input input text place word h (long l at is) = long (let e = ap length h.front in grind (arith, common_steps, e, l)) at is
-fault_of_input input text place word h (no_token s f) = subst (λ (t : List ℕ). HasFirstFault t place word) (whole_text input text h s) (no_token s f)
-fault_of_input input text place word h (no_statements s list tokens f) = subst (λ (t : List ℕ). HasFirstFault t place word) (whole_text input text h s) (no_statements s list tokens f)
-fault_of_input input text place word h (in_statements t says f) = subst (λ (u : List ℕ). HasFirstFault u place word) (whole_text input text h says.short) (in_statements t says f)
-
-accepted_input : (input text : List ℕ) (p : ProblemData) → IsFirstText input text → IsAccepted text p → IsAccepted input p
-accepted_input input text p h a = record { spells = accepts_input input text p h a.spells; names = a.names; expands = a.expands; grounds = a.grounds }
-
-refused_of_input : (input text : List ℕ) (place : ℕ) (word : FaultWord) → IsFirstText input text → IsRefused text place word → IsRefused input place word
-refused_of_input input text place word h (unread f) = unread (fault_of_input input text place word h f)
-refused_of_input input text place word h (misnamed p a m) = misnamed p (accepts_input input text p h a) m
-refused_of_input input text place word h (unexpanded p a right e) = unexpanded p (accepts_input input text p h a) right e
-refused_of_input input text place word h (ungrounded p a right x e) = ungrounded p (accepts_input input text p h a) right x e
-
-refused_input : (input text out : List ℕ) → IsFirstText input text → RefusedAnswer text out → RefusedAnswer input out
-refused_input input text out h (place, word, f, e) = (place, word, refused_of_input input text place word h f, e)
-
--- an answer to the text that was read is an answer to the input
-abbrev pub Lifts : (List ℕ → List ℕ → Type 0) → (List ℕ → List ℕ → Status → Type 0) → Type 0
-Lifts R answer = (input text out : List ℕ) (status : Status) → R input text → answer text out status → answer input out status
-
--- the text was read from a source that had this left, and it stands so to the input
-abbrev pub WasRead : (List ℕ → List ℕ → Type 0) → Option (List ℕ) → List ℕ → Type 0
-WasRead R left text = (input : List ℕ) × Tells left input × R input text
-
-pub lifts_first : (n : ℕ) → Lifts IsFirstText (FirstAnswer n)
-lifts_first n input text out Answered h (p, t, cs, a, are, l, f, e) = (p, t, cs, accepted_input input text p h a, are, l, f, e)
-lifts_first n input text out No h (p, cs, a, are, l, f, e) = (p, cs, accepted_input input text p h a, are, l, f, e)
-lifts_first n input text out Budget h (p, cs, a, are, l, e) = (p, cs, accepted_input input text p h a, are, l, e)
-lifts_first n input text out Refused h r = refused_input input text out h r
-lifts_first n input text out _ h a = a
-
-pub lifts_show : Lifts IsFirstText ShowAnswer
-lifts_show input text out Answered h (p, a, e) = (p, accepted_input input text p h a, e)
-lifts_show input text out Refused h r = refused_input input text out h r
-lifts_show input text out _ h a = a
-
-began : (R : List ℕ → List ℕ → Type 0) (answer : List ℕ → List ℕ → Status → Type 0) (left w0 w1 : Option (List ℕ)) (text out : List ℕ) (status : Status) → Lifts R answer → WasRead R left text → answer text out status → AppendsFront w0 w1 out → WroteFront (FrontOf answer) left w0 w1
-began R answer left w0 w1 text out status lifts (input, told, h) a (front, back, is, bytes) =
-    inr (record { input = input; front = front; told = told; starts = (out, status, back, lifts input text out status h a, is); bytes = bytes })
+began : (answer : List ℕ → List ℕ → Status → Type 0) (left w0 w1 : Option (List ℕ)) (d : Decision) → Decides answer left d → AppendsFront w0 w1 (decision_text d) → WroteFront (FrontOf answer) left w0 w1
+began answer left w0 w1 d (input, told, a) (front, back, is, bytes) =
+    inr (record { input = input; front = front; told = told; starts = (decision_text d, decision_status d, back, a, is); bytes = bytes })
 
 -- a status that only an answer has
 abbrev pub IsAnswered : Status → Type 0
@@ -140,23 +87,24 @@ is_answered (Layout p layout) = tt
 is_answered (Shown p) = tt
 is_answered decisions.Good = tt
 is_answered (decisions.Broken p i) = tt
+is_answered decisions.Proved = tt
+is_answered (decisions.Failing n) = tt
 
-gave_text : (R : List ℕ → List ℕ → Type 0) (answer : List ℕ → List ℕ → Status → Type 0) (left w0 w1 : Option (List ℕ)) (text out : List ℕ) (status : Status) → Lifts R answer → WasRead R left text → answer text out status → Appends w0 w1 out → Gave answer left w0 w1 status
-gave_text R answer left w0 w1 text out status lifts (input, told, h) a bytes = record { input = input; text = out; told = told; answers = lifts input text out status h a; bytes = bytes }
+gave : (answer : List ℕ → List ℕ → Status → Type 0) (left w0 w1 : Option (List ℕ)) (d : Decision) → Decides answer left d → Appends w0 w1 (decision_text d) → Gave answer left w0 w1 (decision_status d)
+gave answer left w0 w1 d (input, told, a) bytes = record { input = input; text = decision_text d; told = told; answers = a; bytes = bytes }
 
-given : (R : List ℕ → List ℕ → Type 0) (answer : List ℕ → List ℕ → Status → Type 0) (left : Option (List ℕ)) (r0 r1 : ℕ) (w0 w1 : Option (List ℕ)) (f0 f1 : ℕ) (text : List ℕ) (d : Decision) (result : Status) → Lifts R answer → WasRead R left text → r1 ≡ r0
-    → answer text (decision_text d) (decision_status d) → (f1 ≡ f0) × (result ≡ decision_status d) × Appends w0 w1 (decision_text d) → Ends answer (FrontOf answer) left r0 r1 w0 w1 f0 f1 result
-given R answer left r0 r1 w0 w1 f0 f1 text d result lifts h r a (f, same, bytes) =
+given : (answer : List ℕ → List ℕ → Status → Type 0) (left : Option (List ℕ)) (r0 r1 : ℕ) (w0 w1 : Option (List ℕ)) (f0 f1 : ℕ) (d : Decision) (result : Status) → r1 ≡ r0 → Decides answer left d
+    → (f1 ≡ f0) × (result ≡ decision_status d) × Appends w0 w1 (decision_text d) → Ends answer (FrontOf answer) left r0 r1 w0 w1 f0 f1 result
+given answer left r0 r1 w0 w1 f0 f1 d result r a (f, same, bytes) =
     subst (λ (x : Status). Ends answer (FrontOf answer) left r0 r1 w0 w1 f0 f1 x) (sym same)
-    (ends_given answer (FrontOf answer) left r0 r1 w0 w1 f0 f1 (decision_status d) (is_answered d) r f (gave_text R answer left w0 w1 text (decision_text d) (decision_status d) lifts h a bytes))
+    (ends_given answer (FrontOf answer) left r0 r1 w0 w1 f0 f1 (decision_status d) (is_answered d) r f (gave answer left w0 w1 d a bytes))
 
 -- a command that has decided, and wrote what it decided
-pub ends_text : (R : List ℕ → List ℕ → Type 0) (answer : List ℕ → List ℕ → Status → Type 0) (left : Option (List ℕ)) (r0 r1 : ℕ) (w0 w1 : Option (List ℕ)) (f0 f1 : ℕ) (text seen : List ℕ) (d : Decision) (result : Status) → Lifts R answer → WasRead R left text → r1 ≡ r0 → seen ≡ text
-    → answer seen (decision_text d) (decision_status d) → Finishes (decision_text d) (decision_status d) w0 w1 f0 f1 result → Ends answer (FrontOf answer) left r0 r1 w0 w1 f0 f1 result
-ends_text R answer left r0 r1 w0 w1 f0 f1 text seen d WriteFault lifts h r e a f = (r, f.0, began R answer left w0 w1 text (decision_text d) (decision_status d) lifts h (subst (λ (t : List ℕ). answer t (decision_text d) (decision_status d)) e a) f.1)
-ends_text R answer left r0 r1 w0 w1 f0 f1 text seen d Memory lifts h r e a f =
-    (r, f.0, began R answer left w0 w1 text (decision_text d) (decision_status d) lifts h (subst (λ (t : List ℕ). answer t (decision_text d) (decision_status d)) e a) f.1)
-ends_text R answer left r0 r1 w0 w1 f0 f1 text seen d status lifts h r e a f = given R answer left r0 r1 w0 w1 f0 f1 text d status lifts h r (subst (λ (t : List ℕ). answer t (decision_text d) (decision_status d)) e a) f
+pub ends_decided : (answer : List ℕ → List ℕ → Status → Type 0) (left : Option (List ℕ)) (r0 r1 : ℕ) (w0 w1 : Option (List ℕ)) (f0 f1 : ℕ) (d : Decision) (result : Status) → r1 ≡ r0 → Decides answer left d
+    → Finishes (decision_text d) (decision_status d) w0 w1 f0 f1 result → Ends answer (FrontOf answer) left r0 r1 w0 w1 f0 f1 result
+ends_decided answer left r0 r1 w0 w1 f0 f1 d WriteFault r a f = (r, f.0, began answer left w0 w1 d a f.1)
+ends_decided answer left r0 r1 w0 w1 f0 f1 d Memory r a f = (r, f.0, began answer left w0 w1 d a f.1)
+ends_decided answer left r0 r1 w0 w1 f0 f1 d status r a f = given answer left r0 r1 w0 w1 f0 f1 d status r a f
 
 -- a tuple has the form of one
 pub shaped_tuple : (p : ProblemData) (t : Tuple) → IsTuple p t → IsShaped p t

@@ -1,9 +1,8 @@
 -- The first word `end` of an input is that of a front part of it, where bytes of that part stand behind the word.
-use Rattle.std.proofs.Common.{◌≡◌, ℕ, ◌+◌, ◌-◌, ◌<◌, ◌≤◌, List, [], ◌∷◌, ◌++◌, length, take, drop, Bool, true, false, refl, sym, ap, ◌∙◌, subst, arith}
+use Rattle.std.proofs.Common.{◌≡◌, ℕ, ◌+◌, ◌<◌, ◌≤◌, List, [], ◌∷◌, ◌++◌, length, take, drop, Bool, true, false, refl, sym, ap, ◌∙◌, subst, arith}
 use Rattle.std.specs.Prelude.{slice_index, cond, codes}
 use Rattle.std.specs.List.{prefix_len}
 use Rattle.std.proofs.lemmas.List.{length-take, length-drop, length-append, drop-append-le, take-append-le}
-use Rattle.std.proofs.lemmas.List.Folds.{prefix_len-append}
 use Rattle.std.proofs.lemmas.List.Sums.{prefix_len-le-length}
 use Rattle.geo_tokens.specs.Bytes.{is_word_byte, is_line_byte}
 use Rattle.geo_tokens.specs.FirstEnd.{first_word, IsPassed, comment, other_word, other_byte, Passes, here, behind, IsFirstEnd}

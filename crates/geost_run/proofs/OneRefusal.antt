@@ -1,5 +1,5 @@
 -- A text that is refused has one first fault: one place, and one word.
-use Rattle.std.proofs.Common.{◌≡◌, ℕ, ◌+◌, ◌<◌, ◌≤◌, List, ◌++◌, length, Some, None, Err, sym, ◌∙◌, ap, subst, arith, append-nil, inl, inr}
+use Rattle.std.proofs.Common.{◌≡◌, ℕ, ◌+◌, ◌≤◌, List, length, Some, None, Err, sym, ◌∙◌, ap, subst, arith}
 use Rattle.std.specs.Prelude.{Option}
 use Rattle.geo_tokens.specs.declared.token.Token.{Token}
 use Rattle.geo_tokens.specs.declared.fault.FaultWord.{FaultWord}
@@ -38,9 +38,10 @@ use Rattle.layout_text.specs.FirstFault as layouts
 use Rattle.layout_text.specs.Faults as lines
 use Rattle.layout_text.proofs.Right.{layout_good}
 use Rattle.geost_run.specs.Accepted.{IsAccepted, IsRefused, unread, misnamed, unexpanded, ungrounded}
-use Rattle.geost_run.specs.Texts.{AreTextsOf, IsEndless, IsRefusedPair, endless, in_first, in_second}
+use Rattle.geost_run.specs.Texts.{IsRefusedPair, endless, in_first, in_second}
+use Rattle.geost_run.specs.Answer.{refusal}
 use Rattle.geost_run.proofs.Refusals.{same_problem, not_refused, right_or_wrong, within_or_large}
-use Rattle.geost_run.proofs.TwoTexts.{one-cut, long-refusal, spelled-short}
+use Rattle.geost_run.proofs.TwoTexts.{one-cut, long-front, long-refusal, spelled-short}
 
 -- ---- the first fault of a problem's text
 
@@ -157,32 +158,30 @@ module _ (text : List ℕ) where
 
 -- ---- the first fault of two texts
 
--- a first text that has no end within as many bytes as a text may have is too long
-long-front : (input a b : List ℕ) → IsEndless input → AreTextsOf input a b → 1048576 < length a
-long-front input a b e cut = elim cut.split [
-  | inl z ↦ e.none (length a) z
-  | inr z ↦ (let l : 1048576 < length input = e.long in let n : length input ≡ length a = ap length (cut.both ∙ ap (λ (v : List ℕ). a ++ v) z.1 ∙ append-nil a) in omega (arith, l, n))
-]
+module _ (Second : ProblemData → List ℕ → ℕ → ℕ → FaultWord → Type 0)
+    (one : (p : ProblemData) (text : List ℕ) (from k q : ℕ) (v w : FaultWord) → Second p text from k v → Second p text from q w → (q ≡ k) × (w ≡ v)) (input : List ℕ) where
+  pub one_pair_refusal : (k q : ℕ) (v w : FaultWord) → IsRefusedPair Second input k v → IsRefusedPair Second input q w → (q ≡ k) × (w ≡ v)
+  one_pair_refusal k q v w (endless e x y) (endless d i j) = (i ∙ sym x, j ∙ sym y)
+  one_pair_refusal k q v w (endless e x y) (in_first a b cut f) =
+      let l = long-refusal a q w (long-front input a b e cut) f in (l.0 ∙ sym x, l.1 ∙ sym y)
+  one_pair_refusal k q v w (endless e x y) (in_second a b cut p acc f) =
+      absurd (let l = long-front input a b e cut in let s = spelled-short a p acc.spells in omega (arith, l, s))
+  one_pair_refusal k q v w (in_first a b cut f) (endless d i j) =
+      let l = long-refusal a k v (long-front input a b d cut) f in (i ∙ sym l.0, j ∙ sym l.1)
+  one_pair_refusal k q v w (in_first a b cut f) (in_first c d cut' g) =
+      one_refusal a k q v w f (subst (λ (z : List ℕ). IsRefused z q w) (sym (one-cut input a b c d cut cut').0) g)
+  one_pair_refusal k q v w (in_first a b cut f) (in_second c d cut' p acc g) =
+      absurd (not_refused a p k v (subst (λ (z : List ℕ). IsAccepted z p) (sym (one-cut input a b c d cut cut').0) acc) f)
+  one_pair_refusal k q v w (in_second a b cut p acc f) (endless d i j) =
+      absurd (let l = long-front input a b d cut in let s = spelled-short a p acc.spells in omega (arith, l, s))
+  one_pair_refusal k q v w (in_second a b cut p acc f) (in_first c d cut' g) =
+      absurd (not_refused a p q w acc (subst (λ (z : List ℕ). IsRefused z q w) (sym (one-cut input a b c d cut cut').0) g))
+  one_pair_refusal k q v w (in_second a b cut p acc f) (in_second c d cut' s acc' g) =
+      let e = one-cut input a b c d cut cut' in
+      let same : s ≡ p = same_problem a s p (subst (λ (z : List ℕ). IsAccepted z s) (sym e.0) acc') acc in
+      let at_a : Second s b (length a) q w = subst (λ (z : List ℕ). Second s b (length z) q w) (sym e.0) (subst (λ (z : List ℕ). Second s z (length c) q w) (sym e.1) g) in
+      one p b (length a) k q v w f (subst (λ (x : ProblemData). Second x b (length a) q w) same at_a)
 
-pub one_pair_refusal : (input : List ℕ) (k q : ℕ) (v w : FaultWord) → IsRefusedPair input k v → IsRefusedPair input q w → (q ≡ k) × (w ≡ v)
-one_pair_refusal input k q v w (endless e x y) (endless d i j) = (i ∙ sym x, j ∙ sym y)
-one_pair_refusal input k q v w (endless e x y) (in_first a b cut f) =
-    let l = long-refusal a q w (long-front input a b e cut) f in (l.0 ∙ sym x, l.1 ∙ sym y)
-one_pair_refusal input k q v w (endless e x y) (in_second a b cut p acc f) =
-    absurd (let l = long-front input a b e cut in let s = spelled-short a p acc.spells in omega (arith, l, s))
-one_pair_refusal input k q v w (in_first a b cut f) (endless d i j) =
-    let l = long-refusal a k v (long-front input a b d cut) f in (i ∙ sym l.0, j ∙ sym l.1)
-one_pair_refusal input k q v w (in_first a b cut f) (in_first c d cut' g) =
-    one_refusal a k q v w f (subst (λ (z : List ℕ). IsRefused z q w) (sym (one-cut input a b c d cut cut').0) g)
-one_pair_refusal input k q v w (in_first a b cut f) (in_second c d cut' p acc g) =
-    absurd (not_refused a p k v (subst (λ (z : List ℕ). IsAccepted z p) (sym (one-cut input a b c d cut cut').0) acc) f)
-one_pair_refusal input k q v w (in_second a b cut p acc f) (endless d i j) =
-    absurd (let l = long-front input a b d cut in let s = spelled-short a p acc.spells in omega (arith, l, s))
-one_pair_refusal input k q v w (in_second a b cut p acc f) (in_first c d cut' g) =
-    absurd (not_refused a p q w acc (subst (λ (z : List ℕ). IsRefused z q w) (sym (one-cut input a b c d cut cut').0) g))
-one_pair_refusal input k q v w (in_second a b cut p acc f) (in_second c d cut' s acc' g) =
-    let e = one-cut input a b c d cut cut' in
-    let same : s ≡ p = same_problem a s p (subst (λ (z : List ℕ). IsAccepted z s) (sym e.0) acc') acc in
-    let at_a : layouts.HasFaultFrom s b (length a) q w =
-    subst (λ (z : List ℕ). layouts.HasFaultFrom s b (length z) q w) (sym e.0) (subst (λ (z : List ℕ). layouts.HasFaultFrom s z (length c) q w) (sym e.1) g) in
-    one_fault_from p b (length a) k q v w f (subst (λ (x : ProblemData). layouts.HasFaultFrom x b (length a) q w) same at_a)
+-- the same fault is written with the same text
+pub same_refusal : (k q : ℕ) (v w : FaultWord) → (q ≡ k) × (w ≡ v) → refusal q w ≡ refusal k v
+same_refusal k q v w e = ap (λ (n : ℕ). refusal n w) e.0 ∙ ap (λ (x : FaultWord). refusal k x) e.1

@@ -1,24 +1,25 @@
 -- The same words and the same input have one text, where the status is the same.
-use Rattle.std.proofs.Common.{◌≡◌, inl, inr, ℕ, ◌+◌, ◌<◌, ◌≤◌, List, refl, sym, ◌∙◌, ap, subst, arith}
-use Rattle.std.specs.Prelude.{codes}
+use Rattle.std.proofs.Common.{◌≡◌, inl, inr, ℕ, List, sym, ◌∙◌, ap, subst, arith}
 use Rattle.std.proofs.lemmas.Bool.{cases_lt}
 use Rattle.geo_base.specs.Tuple.{Tuple}
-use Rattle.geo_tokens.specs.declared.fault.FaultWord.{FaultWord}
 use Rattle.geo_conditions.specs.Walk.{values}
 use Rattle.geo_conditions.proofs.Fronts.{precedes_once}
 use Rattle.geo_meaning.specs.Judged.{IsFirstBroken}
 use Rattle.layout_text.specs.Block.{block_of}
+use Rattle.layout_text.specs.FirstFault as layouts
 use Rattle.problem_data.specs.Problem.{ProblemData}
 use Rattle.problem_text.specs.Canonical.{problem_text}
 use Rattle.rule_ground.specs.Order.{variables_for}
 use Rattle.layout_search.specs.FirstLayout.{IsFirstLayout}
-use Rattle.geost_run.specs.declared.command.Command.TheVariants.{First, Show, Judge}
+use Rattle.geost_run.specs.declared.command.Command.{Command}
+use Rattle.geost_run.specs.declared.command.Command.TheVariants.{First, Show, Judge, Check}
 use Rattle.geost_run.specs.declared.command.Status.{Status}
 use Rattle.geost_run.specs.declared.command.Status.TheVariants.{Answered, No, Refused, Budget}
-use Rattle.geost_run.specs.Answer.{refusal, broken_rule, rule_name, FirstAnswer, ShowAnswer, JudgeAnswer, Answer}
+use Rattle.geost_run.specs.Answer.{broken_rule, rule_name, FirstAnswer, ShowAnswer, JudgeAnswer, AnswerTo, Answer}
 use Rattle.geost_run.proofs.Refusals.{same_problem}
-use Rattle.geost_run.proofs.Only.{given_once, same_number, first_or_show, first_or_judge, show_or_judge}
-use Rattle.geost_run.proofs.OneRefusal.{one_refusal, one_pair_refusal}
+use Rattle.geost_run.proofs.Only.{given_once, answers_to}
+use Rattle.geost_run.proofs.OneCheck.{check_text}
+use Rattle.geost_run.proofs.OneRefusal.{one_refusal, one_fault_from, one_pair_refusal, same_refusal}
 
 -- two first layouts are one
 one_layout : (p : ProblemData) (t u : Tuple) → IsFirstLayout p t → IsFirstLayout p u → u ≡ t
@@ -29,9 +30,6 @@ one_layout p t u f g = elim (f.first u g.layout) [
     | inr a ↦ absurd (precedes_once (variables_for p) (values (variables_for p) t) (values (variables_for p) u) b a)
   ]
 ]
-
-same_refusal : (k q : ℕ) (v w : FaultWord) → (q ≡ k) × (w ≡ v) → refusal q w ≡ refusal k v
-same_refusal k q v w e = ap (λ (n : ℕ). refusal n w) e.0 ∙ ap (λ (x : FaultWord). refusal k x) e.1
 
 first_text : (n : ℕ) (input t u : List ℕ) (s : Status) → FirstAnswer n input t s → FirstAnswer n input u s → t ≡ u
 first_text n input t u Answered (p, x, cs, a, are, l, f, e) (q, y, ds, b, is, m, g, h) =
@@ -65,19 +63,16 @@ judge_text input t u No (p, x, n, g, b, e) (q, y, m, k, c, h) =
     let broken : IsFirstBroken p x m = subst (λ (z : Tuple). IsFirstBroken p z m) same.1 (subst (λ (z : ProblemData). IsFirstBroken z y m) same.0 c) in
     let other : u ≡ broken_rule (rule_name p m) = subst (λ (z : ProblemData). u ≡ broken_rule (rule_name z m)) same.0 h in
     e ∙ sym (other ∙ ap (λ (z : ℕ). broken_rule (rule_name p z)) (one_broken p x n m b broken))
-judge_text input t u Refused (k, v, f, e) (q, w, g, h) = e ∙ sym (h ∙ same_refusal k q v w (one_pair_refusal input k q v w f g))
+judge_text input t u Refused (k, v, f, e) (q, w, g, h) = e ∙ sym (h ∙ same_refusal k q v w (one_pair_refusal layouts.HasFaultFrom one_fault_from input k q v w f g))
 judge_text input t u _ a b = absurd a
 
+text_of : (c : Command) (input t u : List ℕ) (s : Status) → AnswerTo c input t s → AnswerTo c input u s → t ≡ u
+text_of (First n) input t u s a b = first_text n input t u s a b
+text_of Show input t u s a b = show_text input t u s a b
+text_of Judge input t u s a b = judge_text input t u s a b
+text_of Check input t u s a b = check_text input t u s a b
+
 pub one_text : (words : List (List ℕ)) (input t u : List ℕ) (s : Status) → Answer words input t s → Answer words input u s → t ≡ u
-one_text words input t u s (inl (First n, f, a)) (inl (First m, g, b)) = first_text m input t u s (subst (λ (k : ℕ). FirstAnswer k input t s) (same_number words n m f g) a) b
-one_text words input t u s (inl (Show, f, a)) (inl (Show, g, b)) = show_text input t u s a b
-one_text words input t u s (inl (Judge, f, a)) (inl (Judge, g, b)) = judge_text input t u s a b
-one_text words input t u s (inl (First n, f, a)) (inl (Show, g, b)) = absurd (first_or_show words n f g)
-one_text words input t u s (inl (Show, f, a)) (inl (First n, g, b)) = absurd (first_or_show words n g f)
-one_text words input t u s (inl (First n, f, a)) (inl (Judge, g, b)) = absurd (first_or_judge words n f g)
-one_text words input t u s (inl (Judge, f, a)) (inl (First n, g, b)) = absurd (first_or_judge words n g f)
-one_text words input t u s (inl (Show, f, a)) (inl (Judge, g, b)) = absurd (show_or_judge words f g)
-one_text words input t u s (inl (Judge, f, a)) (inl (Show, g, b)) = absurd (show_or_judge words g f)
-one_text words input t u s (inl (c, f, a)) (inr h) = absurd (h.none c f)
+one_text words input t u s (inl (c, f, a)) b = text_of c input t u s a (answers_to words c input u s f b)
 one_text words input t u s (inr h) (inl (c, f, a)) = absurd (h.none c f)
 one_text words input t u s (inr h) (inr k) = h.says ∙ sym k.says

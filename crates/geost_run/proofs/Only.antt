@@ -1,5 +1,5 @@
 -- The same words and the same input have one status.
-use Rattle.std.proofs.Common.{◌≡◌, inl, inr, ℕ, ℤ, ◌<◌, ◌≤◌, List, [], ◌∷◌, ◌++◌, length, refl, sym, ◌∙◌, ap, subst, arith, append-nil}
+use Rattle.std.proofs.Common.{◌≡◌, inl, inr, ℕ, ℤ, List, [], ◌∷◌, length, refl, sym, ◌∙◌, ap, subst, arith}
 use Rattle.std.specs.Prelude.{codes, decimal}
 use Rattle.std.proofs.lemmas.Fmt.{decimal_injective}
 use Rattle.geo_base.specs.Tuple.{Tuple}
@@ -18,15 +18,17 @@ use Rattle.rule_ground.proofs.Starts.{names-each}
 use Rattle.layout_search.specs.FirstLayout.{walk_of, HasNoLayout}
 use Rattle.layout_search.proofs.Alike as alike
 use Rattle.layout_search.proofs.States.{state-is}
-use Rattle.geost_run.specs.declared.command.Command.TheVariants.{First, Show, Judge}
+use Rattle.geost_run.specs.declared.command.Command.{Command}
+use Rattle.geost_run.specs.declared.command.Command.TheVariants.{First, Show, Judge, Check}
 use Rattle.geost_run.specs.declared.command.Status.{Status}
 use Rattle.geost_run.specs.declared.command.Status.TheVariants.{Answered, No, Refused, Budget, BadWords, BadToken, ReadFault, WriteFault, Memory}
-use Rattle.geost_run.specs.Accepted.{IsAccepted, IsRefused, AreConditions}
-use Rattle.geost_run.proofs.Refusals.{same_problem, not_refused}
+use Rattle.geost_run.specs.Accepted.{IsAccepted, AreConditions}
+use Rattle.geost_run.proofs.Refusals.{same_problem, not_refused, not_refused_pair}
 use Rattle.geost_run.specs.Words.{HasForm}
-use Rattle.geost_run.specs.Answer.{RefusedAnswer, FirstAnswer, ShowAnswer, JudgeAnswer, Gives, Answer}
-use Rattle.geost_run.specs.Texts.{IsRefusedPair, endless, in_first, in_second}
+use Rattle.geost_run.specs.Answer.{RefusedAnswer, FirstAnswer, ShowAnswer, JudgeAnswer, Gives, AnswerTo, Answer}
+use Rattle.geost_run.specs.Texts.{IsRefusedPair}
 use Rattle.geost_run.proofs.TwoTexts.{one-cut}
+use Rattle.geost_run.proofs.OneCheck.{check_status}
 
 -- a text of which a problem with a layout is spelled spells none without
 layout_or_none : (input : List ℕ) (p q : ProblemData) (t : Tuple) → IsAccepted input p → IsLayout p t → IsAccepted input q → HasNoLayout q → ⊥
@@ -109,17 +111,8 @@ good_or_broken input p q t u n g l k b =
     broken_of_all p t n l (subst (λ (x : Tuple). IsFirstBroken p x n) e.1 (subst (λ (x : ProblemData). IsFirstBroken x u n) e.0 b))
 
 -- what is refused gives nothing
-pub given_or_refused : (input : List ℕ) (p : ProblemData) (t : Tuple) (place : ℕ) (word : FaultWord) → Gives input p t → IsRefusedPair input place word → ⊥
-given_or_refused input p t place word (a, b, cut, acc, lay) (endless e x y) = elim cut.split [
-  | inl z ↦ (let l : length a ≤ 1048576 = acc.spells.says.short in let m = e.none (length a) z in omega (arith, l, m))
-  | inr z ↦ (let l : length a ≤ 1048576 = acc.spells.says.short in let n = ap length (cut.both ∙ ap (λ (v : List ℕ). a ++ v) z.1 ∙ append-nil a) in let m = e.long in omega (arith, l, m, n))
-]
-given_or_refused input p t place word (a, b, cut, acc, lay) (in_first c d cut' f) =
-    not_refused a p place word acc (subst (λ (z : List ℕ). IsRefused z place word) (sym (one-cut input a b c d cut cut').0) f)
-given_or_refused input p t place word (a, b, cut, acc, lay) (in_second c d cut' q acc' f) =
-    let e = one-cut input a b c d cut cut' in
-    let same : q ≡ p = same_problem a q p (subst (λ (z : List ℕ). IsAccepted z q) (sym e.0) acc') acc in
-    layout_or_fault p b t f.within word lay (subst (λ (x : ProblemData). layouts.HasFirstFault x b f.within word) same (subst (λ (z : List ℕ). layouts.HasFirstFault q z f.within word) (sym e.1) f.first))
+pub given_or_refused : (input : List ℕ) (p : ProblemData) (t : Tuple) (place : ℕ) (word : FaultWord) → Gives input p t → IsRefusedPair layouts.HasFaultFrom input place word → ⊥
+given_or_refused input p t place word (a, b, cut, acc, lay) = not_refused_pair layouts.HasFaultFrom input a b p place word cut acc (λ f. layout_or_fault p b t f.within word lay f.first)
 
 judge_status : (input t u : List ℕ) (s r : Status) → JudgeAnswer input t s → JudgeAnswer input u r → s ≡ r
 judge_status input t u Answered Answered a b = refl
@@ -139,36 +132,65 @@ judge_status input t u WriteFault r a b = absurd a
 judge_status input t u Memory r a b = absurd a
 judge_status input t u s _ a b = absurd b
 
+-- ---- the words
+
 -- words have one number
-pub same_number : (words : List (List ℕ)) (n m : ℕ) → HasForm words (First n) → HasForm words (First m) → n ≡ m
+same_number : (words : List (List ℕ)) (n m : ℕ) → HasForm words (First n) → HasForm words (First m) → n ≡ m
 same_number words n m f g = decimal_injective n m (omega (arith, f.2)) (omega (arith, g.2)) (second (sym f.0 ∙ g.0))
   where
     second : codes "first" ∷ decimal n ∷ [] ≡ codes "first" ∷ decimal m ∷ [] → decimal n ≡ decimal m
     second e = cc
 
+-- a word and a number are no word alone
+not_alone : (words : List (List ℕ)) (n : ℕ) (name : List ℕ) → HasForm words (First n) → words ≡ name ∷ [] → ⊥
+not_alone words n name f g = let e = sym f.0 ∙ g in absurd (omega (arith, ap length e))
+
+-- a word alone is no other
+show_or_judge : codes "show" ∷ [] ≡ codes "judge" ∷ [] → ⊥
+show_or_judge e = absurd cc
+
+show_or_check : codes "show" ∷ [] ≡ codes "check" ∷ [] → ⊥
+show_or_check e = absurd cc
+
+abbrev first_letter : List (List ℕ) → ℕ
+first_letter [] = 0
+first_letter ([] ∷ words) = 0
+first_letter ((c ∷ cs) ∷ words) = c
+
+judge_or_check : codes "judge" ∷ [] ≡ codes "check" ∷ [] → ⊥
+judge_or_check e = (let other : 106 ≡ 99 = ap first_letter e in absurd (omega (arith, other)))
+
 -- words are of one command
-pub first_or_show : (words : List (List ℕ)) (n : ℕ) → HasForm words (First n) → HasForm words Show → ⊥
-first_or_show words n f g = let e = sym f.0 ∙ g in absurd (omega (arith, ap length e))
+one_command : (words : List (List ℕ)) (c d : Command) → HasForm words c → HasForm words d → c ≡ d
+one_command words (First n) (First m) f g = ap First (same_number words n m f g)
+one_command words Show Show f g = refl
+one_command words Judge Judge f g = refl
+one_command words Check Check f g = refl
+one_command words (First n) Show f g = absurd (not_alone words n (codes "show") f g)
+one_command words (First n) Judge f g = absurd (not_alone words n (codes "judge") f g)
+one_command words (First n) Check f g = absurd (not_alone words n (codes "check") f g)
+one_command words Show (First m) f g = absurd (not_alone words m (codes "show") g f)
+one_command words Judge (First m) f g = absurd (not_alone words m (codes "judge") g f)
+one_command words Check (First m) f g = absurd (not_alone words m (codes "check") g f)
+one_command words Show Judge f g = absurd (show_or_judge (sym f ∙ g))
+one_command words Judge Show f g = absurd (show_or_judge (sym g ∙ f))
+one_command words Show Check f g = absurd (show_or_check (sym f ∙ g))
+one_command words Check Show f g = absurd (show_or_check (sym g ∙ f))
+one_command words Judge Check f g = absurd (judge_or_check (sym f ∙ g))
+one_command words Check Judge f g = absurd (judge_or_check (sym g ∙ f))
 
-pub first_or_judge : (words : List (List ℕ)) (n : ℕ) → HasForm words (First n) → HasForm words Judge → ⊥
-first_or_judge words n f g = let e = sym f.0 ∙ g in absurd (omega (arith, ap length e))
+-- an answer to words that have the form of a command is one to the command
+pub answers_to : (words : List (List ℕ)) (c : Command) (input text : List ℕ) (s : Status) → HasForm words c → Answer words input text s → AnswerTo c input text s
+answers_to words c input text s form (inl (d, f, a)) = subst (λ (x : Command). AnswerTo x input text s) (one_command words d c f form) a
+answers_to words c input text s form (inr h) = absurd (h.none c form)
 
-pub show_or_judge : (words : List (List ℕ)) → HasForm words Show → HasForm words Judge → ⊥
-show_or_judge words f g = apart_words (sym f ∙ g)
-  where
-    apart_words : codes "show" ∷ [] ≡ codes "judge" ∷ [] → ⊥
-    apart_words e = absurd cc
+status_of : (c : Command) (input t u : List ℕ) (s r : Status) → AnswerTo c input t s → AnswerTo c input u r → s ≡ r
+status_of (First n) input t u s r a b = first_status n input t u s r a b
+status_of Show input t u s r a b = show_status input t u s r a b
+status_of Judge input t u s r a b = judge_status input t u s r a b
+status_of Check input t u s r a b = check_status input t u s r a b
 
 pub one_status : (words : List (List ℕ)) (input t u : List ℕ) (s r : Status) → Answer words input t s → Answer words input u r → s ≡ r
-one_status words input t u s r (inl (First n, f, a)) (inl (First m, g, b)) = first_status m input t u s r (subst (λ (k : ℕ). FirstAnswer k input t s) (same_number words n m f g) a) b
-one_status words input t u s r (inl (Show, f, a)) (inl (Show, g, b)) = show_status input t u s r a b
-one_status words input t u s r (inl (Judge, f, a)) (inl (Judge, g, b)) = judge_status input t u s r a b
-one_status words input t u s r (inl (First n, f, a)) (inl (Show, g, b)) = absurd (first_or_show words n f g)
-one_status words input t u s r (inl (Show, f, a)) (inl (First n, g, b)) = absurd (first_or_show words n g f)
-one_status words input t u s r (inl (First n, f, a)) (inl (Judge, g, b)) = absurd (first_or_judge words n f g)
-one_status words input t u s r (inl (Judge, f, a)) (inl (First n, g, b)) = absurd (first_or_judge words n g f)
-one_status words input t u s r (inl (Show, f, a)) (inl (Judge, g, b)) = absurd (show_or_judge words f g)
-one_status words input t u s r (inl (Judge, f, a)) (inl (Show, g, b)) = absurd (show_or_judge words g f)
-one_status words input t u s r (inl (c, f, a)) (inr h) = absurd (h.none c f)
+one_status words input t u s r (inl (c, f, a)) b = status_of c input t u s r a (answers_to words c input u r f b)
 one_status words input t u s r (inr h) (inl (c, f, a)) = absurd (h.none c f)
 one_status words input t u s r (inr h) (inr k) = h.ends ∙ sym k.ends

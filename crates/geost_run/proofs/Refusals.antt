@@ -1,5 +1,5 @@
 -- A text is accepted or refused, and not both.
-use Rattle.std.proofs.Common.{◌≡◌, ℕ, List, refl, sym, ◌∙◌, subst}
+use Rattle.std.proofs.Common.{◌≡◌, ℕ, List, length, refl, sym, ◌∙◌, subst, arith}
 use Rattle.std.specs.Prelude.{Option, None, Some, Result, Ok, Err, IfOk}
 use Rattle.geost_run.specs.declared.decision.Decision.{Decision}
 use Rattle.geost_run.specs.declared.decision.Decision.TheVariants.{Refuse}
@@ -17,6 +17,8 @@ use Rattle.rule_expand.specs.Rules.{expansion_fault, IsFaultOf}
 use Rattle.rule_ground.specs.Ground.{ground_fault}
 use Rattle.rule_ground.specs.Ground as grounding
 use Rattle.geost_run.specs.Accepted.{IsAccepted, IsRefused, unread, misnamed, unexpanded, ungrounded, AnswersAccepted}
+use Rattle.geost_run.specs.Texts.{AreTextsOf, IsRefusedPair, endless, in_first, in_second}
+use Rattle.geost_run.proofs.TwoTexts.{one-cut, long-front, spelled-short}
 
 pub same_problem : (text : List ℕ) (p q : ProblemData) → IsAccepted text p → IsAccepted text q → p ≡ q
 same_problem text p q a b = accepted_once text p q a.spells b.spells
@@ -34,6 +36,18 @@ not_refused text p place word a (unexpanded q b right e) =
     within_or_large (expansion_fault p) (faults.At place word) a.expands (subst (λ (x : ProblemData). expansion_fault x ≡ Some (faults.At place word)) (accepted_once text q p b a.spells) e)
 not_refused text p place word a (ungrounded q b right x e) =
     within_or_large (ground_fault p) (faults.At place word) a.grounds (subst (λ (y : ProblemData). ground_fault y ≡ Some (faults.At place word)) (accepted_once text q p b a.spells) e)
+
+-- two texts of which neither has a fault are not refused
+pub not_refused_pair : (Second : ProblemData → List ℕ → ℕ → ℕ → FaultWord → Type 0) (input a b : List ℕ) (p : ProblemData) (place : ℕ) (word : FaultWord)
+    → AreTextsOf input a b → IsAccepted a p → (Second p b (length a) place word → ⊥) → IsRefusedPair Second input place word → ⊥
+not_refused_pair Second input a b p place word cut acc right (endless e x y) = let s = spelled-short a p acc.spells in let l = long-front input a b e cut in omega (arith, s, l)
+not_refused_pair Second input a b p place word cut acc right (in_first c d cut' f) =
+    not_refused a p place word acc (subst (λ (z : List ℕ). IsRefused z place word) (sym (one-cut input a b c d cut cut').0) f)
+not_refused_pair Second input a b p place word cut acc right (in_second c d cut' q acc' f) =
+    let e = one-cut input a b c d cut cut' in
+    let same : q ≡ p = same_problem a q p (subst (λ (z : List ℕ). IsAccepted z q) (sym e.0) acc') acc in
+    right (subst (λ (x : ProblemData). Second x b (length a) place word) same
+    (subst (λ (z : List ℕ). Second q b (length z) place word) (sym e.0) (subst (λ (z : List ℕ). Second q z (length c) place word) (sym e.1) f)))
 
 -- ---- what the calls answered
 

@@ -1,5 +1,5 @@
 -- What is answered to the bytes that were read of two texts is answered to the whole input.
-use Rattle.std.proofs.Common.{◌≡◌, ◌<◌, ◌≤◌, ◌+◌, ◌⊎◌, ℕ, List, [], ◌∷◌, ◌++◌, length, take, drop, refl, sym, ap, ◌∙◌, subst, arith, inl, inr, append-nil, append_assoc, length-append}
+use Rattle.std.proofs.Common.{◌≡◌, ◌<◌, ◌≤◌, ◌+◌, ℕ, List, [], ◌∷◌, ◌++◌, length, take, drop, refl, sym, ap, ◌∙◌, subst, arith, inl, inr, append-nil, append_assoc, length-append}
 use Rattle.std.specs.Prelude.{Option, None, Some, MatchOption}
 use Rattle.std.proofs.lemmas.Bool.{cases_lt}
 use Rattle.std.specs.Option.{unwrap_or}
@@ -7,19 +7,19 @@ use Rattle.std.proofs.lemmas.List.{take-append-drop, length-drop}
 use Rattle.std.proofs.Math.Seq.{take-append_seam, drop-append_seam}
 use Rattle.geo_tokens.specs.declared.fault.FaultWord.{FaultWord}
 use Rattle.geo_tokens.specs.declared.fault.FaultWord.TheVariants as words
-use Rattle.geo_tokens.specs.FirstEnd.{HasNoEnd, IsFirstEnd, IsOnlyEnd}
+use Rattle.geo_tokens.specs.FirstEnd.{HasNoEnd, IsFirstEnd}
 use Rattle.geo_tokens.proofs.Ends.{only_end}
 use Rattle.geo_base.specs.Tuple.{Tuple}
 use Rattle.problem_data.specs.Problem.{ProblemData}
 use Rattle.problem_data.specs.Accepted.{Accepts}
 use Rattle.problem_text.specs.FirstFault.{HasFirstFault, long, no_token, no_statements, in_statements}
 use Rattle.layout_text.specs.FirstFault as layouts
-use Rattle.geost_run.specs.Accepted.{IsAccepted, IsRefused, unread, misnamed, unexpanded, ungrounded}
+use Rattle.geost_run.specs.Accepted.{IsRefused, unread, misnamed, unexpanded, ungrounded}
 use Rattle.geost_run.specs.Texts.{AreTextsOf, IsEndless, IsRefusedPair, endless, in_first, in_second}
 use Rattle.geost_run.specs.Reading.{AreFirstTexts}
 use Rattle.geost_run.specs.Answer.{JudgeAnswer, Gives}
 use Rattle.geost_run.specs.declared.command.Status.{Status}
-use Rattle.geost_run.specs.declared.command.Status.TheVariants.{Answered, No, Refused, Budget, BadWords, BadToken, ReadFault, WriteFault, Memory}
+use Rattle.geost_run.specs.declared.command.Status.TheVariants.{Answered, No, Refused}
 use Rattle.geost_run.proofs.FrontEnds.{end-on, end-back}
 
 -- ---- a text that is too long
@@ -75,25 +75,32 @@ one-cut input a b c d h k = same-front a b c d (sym h.both ∙ k.both) (elim h.s
     whole : (u v : List ℕ) → input ≡ u ++ v → v ≡ [] → u ≡ input
     whole u v e n = sym (e ∙ ap (λ (z : List ℕ). u ++ z) n ∙ append-nil u)
 
+-- a first text that has no end within as many bytes as a text may have is too long
+pub long-front : (input a b : List ℕ) → IsEndless input → AreTextsOf input a b → 1048576 < length a
+long-front input a b e cut = elim cut.split [
+  | inl z ↦ e.none (length a) z
+  | inr z ↦ (let l : 1048576 < length input = e.long in let n : length input ≡ length a = ap length (cut.both ∙ ap (λ (v : List ℕ). a ++ v) z.1 ∙ append-nil a) in omega (arith, l, n))
+]
+
 -- ---- the bytes that were read, and the input
 
-module _ (input bytes : List ℕ) (h : AreFirstTexts input bytes) where
+module _ (input bytes more : List ℕ) (front : input ≡ bytes ++ more) where
   -- the first text ends within the bytes, and so it does in the input
-  texts-on : (first second : List ℕ) → AreTextsOf bytes first second → length first < length bytes → AreTextsOf input first (second ++ h.rest)
+  pub texts-on : (first second : List ℕ) → AreTextsOf bytes first second → length first < length bytes → AreTextsOf input first (second ++ more)
   texts-on first second t short = record {
-    both = h.front ∙ ap (λ (u : List ℕ). u ++ h.rest) t.both ∙ append_assoc first second h.rest;
+    both = front ∙ ap (λ (u : List ℕ). u ++ more) t.both ∙ append_assoc first second more;
     split = elim t.split [
-      | inl x ↦ inl (subst (λ (u : List ℕ). IsFirstEnd u (length first)) (sym h.front) (end-on h.rest bytes (length first) x short))
+      | inl x ↦ inl (subst (λ (u : List ℕ). IsFirstEnd u (length first)) (sym front) (end-on more bytes (length first) x short))
       | inr y ↦ absurd (let e = ap length (t.both ∙ ap (λ (z : List ℕ). first ++ z) y.1 ∙ append-nil first) in omega (arith, short, e))
     ];
   }
 
   endless-in : 1048576 < length bytes → ((e : ℕ) → IsFirstEnd bytes e → 1048576 < e) → IsEndless input
   endless-in l none = record {
-    long = omega (arith, l, ap length h.front, length-append bytes h.rest);
+    long = omega (arith, l, ap length front, length-append bytes more);
     none = λ e x. elim (cases_lt 1048576 e) [
       | inl b ↦ b
-      | inr b ↦ none e (end-back h.rest bytes e (subst (λ (u : List ℕ). IsFirstEnd u e) h.front x) (omega (arith, b, l)))
+      | inr b ↦ none e (end-back more bytes e (subst (λ (u : List ℕ). IsFirstEnd u e) front x) (omega (arith, b, l)))
     ];
   }
 
@@ -103,6 +110,15 @@ module _ (input bytes : List ℕ) (h : AreFirstTexts input bytes) where
     | inr y ↦ absurd (no-end bytes y.0 e x)
   ]
 
+  -- a fault of the first text of so many bytes is one of the input's
+  pub refused-first : (Second : ProblemData → List ℕ → ℕ → ℕ → FaultWord → Type 0) (first second : List ℕ) (place : ℕ) (word : FaultWord) → 1048576 < length bytes → AreTextsOf bytes first second
+      → IsRefused first place word → IsRefusedPair Second input place word
+  refused-first Second first second place word l t f = elim (cases_lt 1048576 (length first)) [
+    | inl b ↦ (let w = long-refusal first place word b f in endless (endless-in l (beyond first second t b)) w.0 w.1)
+    | inr b ↦ in_first first (second ++ more) (texts-on first second t (omega (arith, b, l))) f
+  ]
+
+module _ (input bytes : List ℕ) (h : AreFirstTexts input bytes) where
   module _ (l : 1048576 < length bytes) (far : (e : ℕ) → IsFirstEnd bytes e → e ≤ 1048576 → e + 1048576 < length bytes) where
     long-second : (first second : List ℕ) → AreTextsOf bytes first second → length first ≤ 1048576 → 1048576 < length second
     long-second first second t s = elim t.split [
@@ -110,15 +126,12 @@ module _ (input bytes : List ℕ) (h : AreFirstTexts input bytes) where
       | inr y ↦ absurd (let e = ap length (t.both ∙ ap (λ (z : List ℕ). first ++ z) y.1 ∙ append-nil first) in omega (arith, s, l, e))
     ]
 
-    refused-cut : (place : ℕ) (word : FaultWord) → IsRefusedPair bytes place word → IsRefusedPair input place word
-    refused-cut place word (endless e a w) = endless (endless-in l e.none) a w
-    refused-cut place word (in_first first second t f) = elim (cases_lt 1048576 (length first)) [
-      | inl b ↦ (let w = long-refusal first place word b f in endless (endless-in l (beyond first second t b)) w.0 w.1)
-      | inr b ↦ in_first first (second ++ h.rest) (texts-on first second t (omega (arith, b, l))) f
-    ]
+    refused-cut : (place : ℕ) (word : FaultWord) → IsRefusedPair layouts.HasFaultFrom bytes place word → IsRefusedPair layouts.HasFaultFrom input place word
+    refused-cut place word (endless e a w) = endless (endless-in input bytes h.rest h.front l e.none) a w
+    refused-cut place word (in_first first second t f) = refused-first input bytes h.rest h.front layouts.HasFaultFrom first second place word l t f
     refused-cut place word (in_second first second t p a f) =
         let s = spelled-short first p a.spells in
-        in_second first (second ++ h.rest) (texts-on first second t (omega (arith, s, l))) p a
+        in_second first (second ++ h.rest) (texts-on input bytes h.rest h.front first second t (omega (arith, s, l))) p a
         (record { within = f.within; first = long-layout p second h.rest f.within word (long-second first second t s) f.first; at = f.at })
 
     gives-cut : (p : ProblemData) (t : Tuple) → Gives bytes p t → ⊥
@@ -130,9 +143,9 @@ module _ (input bytes : List ℕ) (h : AreFirstTexts input bytes) where
   same-input : h.rest ≡ [] → bytes ≡ input
   same-input none = sym (h.front ∙ ap (λ (z : List ℕ). bytes ++ z) none ∙ append-nil bytes)
 
-  lift-refused : (place : ℕ) (word : FaultWord) → IsRefusedPair bytes place word → IsRefusedPair input place word
+  lift-refused : (place : ℕ) (word : FaultWord) → IsRefusedPair layouts.HasFaultFrom bytes place word → IsRefusedPair layouts.HasFaultFrom input place word
   lift-refused place word r = elim h.whole [
-    | inl none ↦ subst (λ (u : List ℕ). IsRefusedPair u place word) (same-input none) r
+    | inl none ↦ subst (λ (u : List ℕ). IsRefusedPair layouts.HasFaultFrom u place word) (same-input none) r
     | inr cut ↦ refused-cut cut.0 cut.1 place word r
   ]
 

@@ -1,8 +1,11 @@
 -- What the program answers: the text that it writes and the status that it ends with.
-use Rattle.std.specs.Prelude.{◌≡◌, ◌⊎◌, ◌++◌, ◌-◌, ℕ, List, [], ◌∷◌, codes, decimal}
+use Rattle.std.specs.Prelude.{◌≡◌, ◌⊎◌, ◌++◌, ◌+◌, ◌-◌, ℕ, List, [], ◌∷◌, codes, decimal}
 use Rattle.geo_base.specs.Tuple.{Tuple}
 use Rattle.geo_conditions.specs.declared.cond.Cond.{Cond}
 use Rattle.geo_conditions.specs.Walk.{values, IsListing, More, End, OutOfBudget}
+use Rattle.derivation.specs.Nodes.{Node, node_events}
+use Rattle.derivation.specs.Valid.{Valid, FailsFirst}
+use Rattle.derivation_reading.specs.FirstFault as derivations
 use Rattle.geo_tokens.specs.declared.fault.FaultWord.{FaultWord}
 use Rattle.geo_tokens.specs.Fault.{fault_bytes}
 use Rattle.layout_text.specs.Block.{block_of}
@@ -11,11 +14,13 @@ use Rattle.geo_meaning.specs.Judged.{IsFirstBroken, rule_at}
 use Rattle.problem_data.specs.Problem.{ProblemData}
 use Rattle.problem_data.specs.Layouts.{IsLayout}
 use Rattle.problem_text.specs.Canonical.{problem_text}
+use Rattle.problem_text.specs.NameTable.{name_table}
 use Rattle.geost_run.specs.declared.command.Command.{Command}
-use Rattle.geost_run.specs.declared.command.Command.TheVariants.{First, Show, Judge}
+use Rattle.geost_run.specs.declared.command.Command.TheVariants.{First, Show, Judge, Check}
 use Rattle.geost_run.specs.declared.command.Status.{Status}
-use Rattle.geost_run.specs.declared.command.Status.TheVariants.{Answered, No, Refused, Budget, BadWords, BadToken, ReadFault, WriteFault, Memory}
+use Rattle.geost_run.specs.declared.command.Status.TheVariants.{Answered, No, Refused, Budget, BadWords}
 use Rattle.rule_ground.specs.Order.{variables_for}
+use Rattle.rule_ground.specs.Start.{first_state}
 use Rattle.layout_search.specs.FirstLayout.{walk_of, IsFirstLayout, HasNoLayout}
 use Rattle.geost_run.specs.Accepted.{IsAccepted, IsRefused, AreConditions}
 use Rattle.geost_run.specs.Texts.{AreTextsOf, IsRefusedPair}
@@ -66,14 +71,37 @@ Gives input p t = (first : List ℕ) × (second : List ℕ) × AreTextsOf input 
 abbrev pub JudgeAnswer : List ℕ → List ℕ → Status → Type 0
 JudgeAnswer input text Answered = (p : ProblemData) × (t : Tuple) × Gives input p t × IsLayout p t × (text ≡ codes "good\n")
 JudgeAnswer input text No = (p : ProblemData) × (t : Tuple) × (n : ℕ) × Gives input p t × IsFirstBroken p t n × (text ≡ broken_rule (rule_name p n))
-JudgeAnswer input text Refused = (place : ℕ) × (word : FaultWord) × IsRefusedPair input place word × (text ≡ refusal place word)
+JudgeAnswer input text Refused = (place : ℕ) × (word : FaultWord) × IsRefusedPair layouts.HasFaultFrom input place word × (text ≡ refusal place word)
 JudgeAnswer input text _ = ⊥
+
+-- the input is a problem and a text behind it that spells the derivation over its names
+abbrev pub Derives : List ℕ → ProblemData → Node → Type 0
+Derives input p root = (first : List ℕ) × (second : List ℕ) × AreTextsOf input first second × IsAccepted first p × derivations.IsText (name_table p) second (node_events root)
+
+-- the first fault of a text that spells no derivation over the problem's names, where it begins at the place `from` of the input
+pub record HasDerivationFault (p : ProblemData) (text : List ℕ) (from place : ℕ) (word : FaultWord) : Type 0 where
+  pub within : ℕ
+  pub first : derivations.HasFirstFault (name_table p) text within word
+  pub at : place ≡ from + within
+
+-- no NODE
+abbrev pub failing_node : ℕ → List ℕ
+failing_node n = codes "no " ++ (decimal n ++ codes "\n")
+
+-- `check`. `yes` where every node of the derivation is valid, which only a problem without a layout has; else the number of the first
+-- node that fails, in text order; other texts are refused at their first fault.
+abbrev pub CheckAnswer : List ℕ → List ℕ → Status → Type 0
+CheckAnswer input text Answered = (p : ProblemData) × (cs : List Cond) × (root : Node) × Derives input p root × AreConditions p cs × Valid cs (first_state p) root × HasNoLayout p × (text ≡ codes "yes\n")
+CheckAnswer input text No = (p : ProblemData) × (cs : List Cond) × (root : Node) × (n : ℕ) × Derives input p root × AreConditions p cs × FailsFirst cs (first_state p) root n × (text ≡ failing_node n)
+CheckAnswer input text Refused = (place : ℕ) × (word : FaultWord) × IsRefusedPair HasDerivationFault input place word × (text ≡ refusal place word)
+CheckAnswer input text _ = ⊥
 
 -- The answer to each command: one line a command.
 abbrev pub AnswerTo : Command → List ℕ → List ℕ → Status → Type 0
 AnswerTo (First n) input text status = FirstAnswer n input text status
 AnswerTo Show input text status = ShowAnswer input text status
 AnswerTo Judge input text status = JudgeAnswer input text status
+AnswerTo Check input text status = CheckAnswer input text status
 
 -- a front part of a text that is an answer
 abbrev pub FrontOf : (List ℕ → List ℕ → Status → Type 0) → List ℕ → List ℕ → Type 0

@@ -3,6 +3,7 @@ use Rattle.std.specs.Prelude.{◌≡◌, ◌⊎◌, ℕ, ℤ, List, [], length, 
 use Rattle.geo_base.specs.Tuple.{Tuple}
 use Rattle.geo_conditions.specs.declared.cond.Cond.{Cond}
 use Rattle.geo_conditions.specs.Walk.{IsFront, GoesOn, is_full}
+use Rattle.derivation.specs.Nodes.{Node}
 use Rattle.geo_tokens.specs.declared.fault.FaultWord.{FaultWord}
 use Rattle.layout_text.specs.Block.{block_of}
 use Rattle.problem_data.specs.Problem.{ProblemData}
@@ -10,11 +11,12 @@ use Rattle.problem_data.specs.Layouts.{IsLayout}
 use Rattle.rule_ground.specs.Order.{ComesBefore}
 use Rattle.layout_search.specs.FirstLayout.{walk_of}
 use Rattle.geost_run.specs.Accepted.{IsAccepted, IsRefused, AreConditions}
-use Rattle.geost_run.specs.Answer.{refusal, out_of_budget, Gives}
+use Rattle.geost_run.specs.Texts.{AreTextsOf}
+use Rattle.geost_run.specs.Answer.{refusal, out_of_budget, Gives, Derives}
 use Rattle.geost_run.specs.declared.command.Command.{Command}
-use Rattle.geost_run.specs.declared.command.Command.TheVariants.{First, Show, Judge}
+use Rattle.geost_run.specs.declared.command.Command.TheVariants.{First, Show, Judge, Check}
 use Rattle.geost_run.specs.declared.command.Status.{Status}
-use Rattle.geost_run.specs.declared.command.Status.TheVariants.{Answered, No, Refused, Budget, BadWords, BadToken, ReadFault, WriteFault, Memory}
+use Rattle.geost_run.specs.declared.command.Status.TheVariants.{Answered, No, Refused, Budget, Memory}
 
 -- `first N`. For an accepted problem a printed layout satisfies every rule by its direct meaning, over cells and finite quantifiers,
 -- and comes before every other layout; `none` means that there is no layout; `budget` comes where the first n members of the walk
@@ -28,11 +30,17 @@ Promises n input text Budget =
 Promises n input text Refused = (place : ℕ) × (word : FaultWord) × IsRefused input place word × (text ≡ refusal place word)
 Promises n input text _ = ⊥
 
+-- `check`, where it says `yes`. The input begins with a problem that has no layout, whoever wrote the derivation behind it.
+abbrev pub BeginsWithNone : List ℕ → Type 0
+BeginsWithNone input =
+    (p : ProblemData) × (first : List ℕ) × (second : List ℕ) × AreTextsOf input first second × IsAccepted first p × ((t : Tuple) → IsLayout p t → ⊥)
+
 -- the texts of the input are without a fault
 abbrev pub IsFaultless : Command → List ℕ → Type 0
 IsFaultless (First n) input = (p : ProblemData) × IsAccepted input p
 IsFaultless Show input = (p : ProblemData) × IsAccepted input p
 IsFaultless Judge input = (p : ProblemData) × (t : Tuple) × Gives input p t
+IsFaultless Check input = (p : ProblemData) × (root : Node) × Derives input p root
 
 -- a status with which the whole of a command's answer was written, or want of memory
 abbrev pub IsComplete : Status → Type 0

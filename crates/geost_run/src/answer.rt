@@ -1,11 +1,12 @@
-// How a command is carried out: its texts are read, its answer is decided, and that is written.
-ghost use Rattle.std.specs.Prelude.{◌≡◌, ◌≤◌, IfOk, length};
+// How a command is carried out: its answer to the input is decided, and that is written.
+ghost use Rattle.std.specs.Prelude.{◌≡◌, IfOk};
 ghost use Rattle.geost_run.specs.Answer.{AnswerTo, BeginsOf};
-ghost use Rattle.geost_run.specs.Decision.{decision_text, decision_status, IsDecided};
+ghost use Rattle.geost_run.specs.Decision.{decision_text, decision_status, Decides, IsDecided};
 ghost use Rattle.geost_run.specs.Ends.{Ends, Finishes};
-ghost use Rattle.geost_run.specs.Reading.{IsReadFor, ReadCause, TakesAtMost, most_taken};
+ghost use Rattle.geost_run.specs.Reading.{ReadCause, TakesAtMost, most_taken};
 
-use crate::decide::decide;
+use crate::check::decide_check;
+use crate::decide::{decide_first, decide_judge, decide_show};
 use crate::{
     Command, Decision, ReadFault, Status, read_first_text, read_two_texts, write_decision,
 };
@@ -24,31 +25,38 @@ pub fn carry_out<S: Source, W: Sink>(
         (W.written sink.old) (W.written sink.new) (W.faults sink.old) (W.faults sink.new) result }
     ensures most { TakesAtMost (most_taken command) (S.left source.old) (S.left source.new) }
 {
-    let text = match read_input(alloc, command, source) {
-        Ok(text) => text,
-        Err(ReadFault::Failed) => return Status::ReadFault,
-        Err(ReadFault::Memory) => return Status::Memory,
-    };
-    match decide(alloc, command, &text) {
+    match decide_input(alloc, command, source) {
         Ok(decision) => finish(alloc, sink, &decision),
-        Err(_) => Status::Memory,
+        Err(ReadFault::Failed) => Status::ReadFault,
+        Err(ReadFault::Memory) => Status::Memory,
     }
 }
 
-// The bytes that the command reads.
-fn read_input<S: Source>(
+// Decides on the command's answer to the input.
+fn decide_input<S: Source>(
     alloc: Global,
     command: Command,
     source: &mut S,
-) -> Result<Vec<u8>, ReadFault>
-    ensures input { IfOk result (λ text. IsReadFor command (S.left source.old) text.items) }
-    ensures short { IfOk result (λ text. length text.items ≤ 2097153) }
+) -> Result<Decision, ReadFault>
+    ensures answer { IfOk result (Decides (AnswerTo command) (S.left source.old)) }
+    ensures decided { IfOk result IsDecided }
     ensures most { TakesAtMost (most_taken command) (S.left source.old) (S.left source.new) }
     ensures cause { ReadCause (S.faults source.old) (S.faults source.new) result }
 {
     match command {
-        Command::First(_) | Command::Show => read_first_text(alloc, source),
-        Command::Judge => read_two_texts(alloc, source),
+        Command::First(most) => {
+            let text = read_first_text(alloc, source)?;
+            Ok(decide_first(alloc, most, &text)?)
+        }
+        Command::Show => {
+            let text = read_first_text(alloc, source)?;
+            Ok(decide_show(alloc, &text)?)
+        }
+        Command::Judge => {
+            let text = read_two_texts(alloc, source)?;
+            Ok(decide_judge(alloc, &text)?)
+        }
+        Command::Check => decide_check(alloc, source),
     }
 }
 

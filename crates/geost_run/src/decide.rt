@@ -1,10 +1,10 @@
-// What is answered to the bytes that a command read.
+// What each command that reads its texts whole answers to them.
 ghost use Rattle.std.specs.Prelude.{◌≡◌, ◌≤◌, IfOk, length};
-ghost use Rattle.geost_run.specs.Answer.{AnswerTo, FirstAnswer, ShowAnswer, JudgeAnswer};
+ghost use Rattle.geost_run.specs.Answer.{FirstAnswer, ShowAnswer, JudgeAnswer};
 ghost use Rattle.geost_run.specs.Decision.{decision_text, decision_status, IsDecided, RefusesAs};
 
+use crate::Decision;
 use crate::accepted::{Accepted, read_accepted};
-use crate::{Command, Decision};
 use geo_meaning::judging::{Judged, judge_rules};
 use geo_tokens::fault::TextFault;
 use geo_tokens::first_end::first_text_end;
@@ -12,22 +12,8 @@ use layout_search::{Outcome, search_first};
 use layout_text::read_layout;
 use std::alloc::{AllocError, Global};
 
-// Decides on the command's answer.
-pub fn decide(alloc: Global, command: Command, text: &[u8]) -> Result<Decision, AllocError>
-    requires { length text.now ≤ 2097153 }
-    ensures answer { IfOk result (λ decision.
-        AnswerTo command text.now (decision_text decision) (decision_status decision)) }
-    ensures decided { IfOk result IsDecided }
-{
-    match command {
-        Command::First(most) => decide_first(alloc, most, text),
-        Command::Show => decide_show(alloc, text),
-        Command::Judge => decide_judge(alloc, text),
-    }
-}
-
 // The first layout of the problem, where the walk to it has at most `most` members.
-fn decide_first(alloc: Global, most: u64, text: &[u8]) -> Result<Decision, AllocError>
+pub fn decide_first(alloc: Global, most: u64, text: &[u8]) -> Result<Decision, AllocError>
     ensures answer { IfOk result (λ decision.
         FirstAnswer most text.now (decision_text decision) (decision_status decision)) }
     ensures decided { IfOk result IsDecided }
@@ -48,7 +34,7 @@ fn decide_first(alloc: Global, most: u64, text: &[u8]) -> Result<Decision, Alloc
 }
 
 // The problem in its canonical spelling.
-fn decide_show(alloc: Global, text: &[u8]) -> Result<Decision, AllocError>
+pub fn decide_show(alloc: Global, text: &[u8]) -> Result<Decision, AllocError>
     ensures answer { IfOk result (λ decision.
         ShowAnswer text.now (decision_text decision) (decision_status decision)) }
     ensures decided { IfOk result IsDecided }
@@ -60,7 +46,7 @@ fn decide_show(alloc: Global, text: &[u8]) -> Result<Decision, AllocError>
 }
 
 // Whether every rule holds on the layout that the second text gives, else the first rule that does not.
-fn decide_judge(alloc: Global, text: &[u8]) -> Result<Decision, AllocError>
+pub fn decide_judge(alloc: Global, text: &[u8]) -> Result<Decision, AllocError>
     requires { length text.now ≤ 2097153 }
     ensures answer { IfOk result (λ decision.
         JudgeAnswer text.now (decision_text decision) (decision_status decision)) }
@@ -87,7 +73,7 @@ fn decide_judge(alloc: Global, text: &[u8]) -> Result<Decision, AllocError>
 }
 
 // The answer to a text with that fault.
-fn refuse(fault: TextFault) -> Result<Decision, AllocError>
+pub fn refuse(fault: TextFault) -> Result<Decision, AllocError>
     ensures { RefusesAs fault result }
 {
     match fault {

@@ -24,6 +24,10 @@ pub enum Decision {
     Good,
     /// The rule of this number, from 1 in file order, is the first that does not hold.
     Broken(Problem, u16),
+    /// Every node of the derivation is valid.
+    Proved,
+    /// The node of this number, from 1 in text order, is the first that fails.
+    Failing(u64),
 }
 
 impl Decision {
@@ -34,8 +38,10 @@ impl Decision {
         match self {
             Decision::Refuse(_, _) => Status::Refused,
             Decision::Budget(_) => Status::Budget,
-            Decision::Layout(_, _) | Decision::Shown(_) | Decision::Good => Status::Answered,
-            Decision::Nothing | Decision::Broken(_, _) => Status::No,
+            Decision::Layout(_, _) | Decision::Shown(_) | Decision::Good | Decision::Proved => {
+                Status::Answered
+            }
+            Decision::Nothing | Decision::Broken(_, _) | Decision::Failing(_) => Status::No,
         }
     }
 }

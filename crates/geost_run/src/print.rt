@@ -2,7 +2,7 @@
 ghost use Rattle.std.specs.Prelude.{◌≡◌, ◌≤◌, codes, length};
 ghost use Rattle.geo_chan.specs.Written.{Prints};
 ghost use Rattle.problem_data.specs.Cells.{IsShaped};
-ghost use Rattle.geost_run.specs.Answer.{broken_rule, out_of_budget, refusal, rule_name};
+ghost use Rattle.geost_run.specs.Answer.{broken_rule, failing_node, out_of_budget, refusal, rule_name};
 ghost use Rattle.geost_run.specs.Decision.{decision_text, IsDecided};
 ghost use Rattle.geost_run.specs.Ends.{WritesAnswer};
 
@@ -32,6 +32,8 @@ pub fn write_decision<W: Sink>(
         Decision::Shown(problem) => print_problem(alloc, problem, sink),
         Decision::Good => write_all_bytes(sink, b"good\n"),
         Decision::Broken(problem, number) => write_broken(sink, problem, *number),
+        Decision::Proved => write_all_bytes(sink, b"yes\n"),
+        Decision::Failing(node) => write_failing(sink, *node),
     }
 }
 
@@ -55,6 +57,17 @@ fn write_budget<W: Sink>(sink: &mut W, most: u64) -> Result<(), PutFault>
     let pieces = [
         Piece::Bytes(b"budget "),
         Piece::Number(most as i128),
+        Piece::Bytes(b"\n"),
+    ];
+    write_pieces(sink, &pieces)
+}
+
+fn write_failing<W: Sink>(sink: &mut W, node: u64) -> Result<(), PutFault>
+    ensures { Prints W.written W.faults W.quiet sink.old sink.new result (failing_node node) }
+{
+    let pieces = [
+        Piece::Bytes(b"no "),
+        Piece::Number(node as i128),
         Piece::Bytes(b"\n"),
     ];
     write_pieces(sink, &pieces)

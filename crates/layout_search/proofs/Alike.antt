@@ -15,7 +15,7 @@ use Rattle.linear_conditions.specs.CondTree.{CondTree, linear, shape_is, shape_i
 use mathlib.Core.Former.{Count}
 
 abbrev mutual
-  tree-possible : State → CondTree → Bool
+  pub tree-possible : State → CondTree → Bool
   tree-possible S (linear f) = le_z (least_value f S) (pos 0)
   tree-possible S (shape_is o s) = has S o s
   tree-possible S (shape_is_not o s) = not (is_only (reach S o).places s)
@@ -26,7 +26,7 @@ abbrev mutual
   how-many-possible S (a_cond c cs) = count (tree-possible S c) + how-many-possible S cs
 
 mutual
-  view-possible : (S : State) (c : Cond) → tree-possible S (cond_view c) ≡ possible c S
+  pub view-possible : (S : State) (c : Cond) → tree-possible S (cond_view c) ≡ possible c S
   view-possible S (Lin f) = refl
   view-possible S (Shape o s) = refl
   view-possible S (NotShape o s) = refl

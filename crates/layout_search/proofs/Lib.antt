@@ -1,5 +1,6 @@
 mod Walked
 pub mod Alike
+pub mod AlikeRows
 pub mod States
 mod Outcomes
 mod Spots

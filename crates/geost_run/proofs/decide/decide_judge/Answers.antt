@@ -1,4 +1,4 @@
-use Rattle.std.proofs.Common.{◌≡◌, ◌≤◌, ◌++◌, List, ℕ, length, inl, inr, Err, refl, sym, subst, arith}
+use Rattle.std.proofs.Common.{ℕ, Err, refl, sym, subst, arith}
 use Rattle.geost_run.specs.Texts.{in_first, in_second}
 use Rattle.geost_run.proofs.TwoTexts.{cut-at}
 use Rattle.layout_text.specs.FirstFault.{HasFaultFrom, AnswersLayout}

@@ -1,4 +1,4 @@
-use Rattle.std.proofs.Common.{◌≡◌, ◌≤◌, ◌∙◌, List, ℕ, length, inl, inr, sym, subst, arith, rules}
+use Rattle.std.proofs.Common.{◌≡◌, ◌∙◌, List, ℕ, length, inl, inr, sym, subst, arith, rules}
 use Rattle.std.proofs.lemmas.Bool.{cases_eq}
 use Rattle.geo_tokens.specs.FirstEnd.{IsFirstEnd}
 use Rattle.geost_run.proofs.Taking.{nothing_on, read_on}

@@ -1,4 +1,4 @@
-use Rattle.std.proofs.Common.{◌≡◌, List, ℕ, subst}
+use Rattle.std.proofs.Common.{List, ℕ, subst}
 use Rattle.std.proofs.lemmas.Result.{IfOk-weaker}
 use Rattle.geost_run.specs.Reading.{ReadsUpTo}
 use Rattle.geost_run.proofs.Taking.{two_texts, first_short, both_most}

@@ -1,7 +1,7 @@
-use Rattle.std.proofs.Common.{◌≡◌, ◌≤◌, ◌-◌, ◌∙◌, arith, length, ap, rules, inr, refl}
+use Rattle.std.proofs.Common.{◌≡◌, ◌≤◌, ◌-◌, ◌∙◌, arith, length, rules, inr, refl}
 use Rattle.std.proofs.lemmas.Grind.{common_steps}
-use Rattle.std.proofs.lemmas.Result.{MatchResult-at_ok, MatchResult-at_err, IfOk-at_ok}
-use Rattle.geost_run.proofs.Taking.{none_behind, more_behind, kept_behind, taken_most, read_enough, ended_behind, ended_most, piece_is}
+use Rattle.std.proofs.lemmas.Result.{MatchResult-at_ok, IfOk-at_ok}
+use Rattle.geost_run.proofs.Taking.{none_behind, more_behind, taken_most, read_enough, ended_behind, ended_most, piece_is}
 use Rattle.geost_run.proofs.read.read_up_to.Goals as goal
 
 pub reading-init : goal.reading-init

@@ -1,4 +1,4 @@
-use Rattle.std.proofs.Common.{◌≡◌, ◌≤◌, ◌-◌, length}
+use Rattle.std.proofs.Common.{◌≡◌, ◌-◌, length}
 use Rattle.geost_run.proofs.Taking.{HasTaken}
 use Rattle.geost_run.proofs.read.read_up_to.Given as goal
 
