@@ -1,4 +1,6 @@
 pub mod Moves
+pub mod Cases
+pub mod Recording
 pub mod Listing
 pub mod Visit
 pub mod Token

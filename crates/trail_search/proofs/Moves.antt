@@ -18,7 +18,7 @@ use Rattle.trail_search.specs.Shed.{Sheds}
 -- ---- places
 
 -- places count from 1
-place_from_1 : (bs : List Bool) (s : ℕ) → place_in bs s ≡ true → 1 ≤ s
+pub place_from_1 : (bs : List Bool) (s : ℕ) → place_in bs s ≡ true → 1 ≤ s
 place_from_1 bs zero h = absurd (false≢true h)
 place_from_1 bs (suc s) h = omega arith
 
@@ -60,7 +60,7 @@ set_kept bs k zero ne h = h
 set_kept bs k (suc u) ne h = let ne' : u ≢ k = omega arith in get_or-set_other bs k u false false ne' ∙ h
 
 -- what is not true is false
-not_true : (b : Bool) → (b ≡ true → ⊥) → b ≡ false
+pub not_true : (b : Bool) → (b ≡ true → ⊥) → b ≡ false
 not_true true h = absurd (h refl)
 not_true false h = refl
 

@@ -1,5 +1,5 @@
 -- What `next` answers.
-use Rattle.std.proofs.Common.{◌≡◌, ◌≢◌, ℕ, ◌+◌, ◌<◌, ◌≤◌, Bool, true, false, List, [], ◌∷◌, ◌++◌, length, drop, refl, sym, ap, ◌∙◌, subst, inl, inr, arith, ℤ, Option, Some, None, take, eq-eqb}
+use Rattle.std.proofs.Common.{◌≡◌, ◌≢◌, ℕ, ◌+◌, ◌<◌, ◌≤◌, Bool, true, false, List, [], ◌∷◌, ◌++◌, length, drop, refl, sym, ap, ◌∙◌, subst, inl, inr, arith, ℤ, Option, Some, None, take, nat_eq, eq-eqb, eqb-true}
 use Rattle.std.specs.List.{All}
 use Rattle.std.proofs.Math.ListN.{length-append}
 use Rattle.std.proofs.Math.Seq.{take-length}
@@ -8,6 +8,7 @@ use Rattle.geo_conditions.specs.Conditions.{FitsIn}
 use Rattle.geo_conditions.specs.Reach.{State, IsState}
 use Rattle.std.proofs.lemmas.Bool.{cases_lt}
 use Rattle.geo_conditions.specs.Walk.{Order, NamesEach, Variable, variables, variables_in, Tree, is_full, IsFront, IsWhole, GoesOn}
+use Rattle.derivation.specs.declared.event.Event.{Event}
 use Rattle.trail_search.specs.declared.step.Step.{Step}
 use Rattle.trail_search.specs.declared.step.Step.TheVariants.{Found, Ended, Budget, Memory}
 use Rattle.trail_search.specs.Next.{Quest, Answers, AsBefore, IsSound}
@@ -104,50 +105,7 @@ no_variables k S (o ∷ os) down n e = absurd (cc)
 pub no_objects : (k : ℕ) (p : Position) → (order : Order) × NamesEach k p.first order × (p.variables ≡ variables_in order) → p.variables ≡ [] → length p.first ≡ 0
 no_objects k p h e = no_variables k p.first h.0.objects h.0.down h.1 (sym h.2 ∙ e)
 
--- a word is there
-not_none : (s : Step) → Some s ≡ None → ⊥
-not_none s o = cc
-
--- the variables stay those of the order
-named_on : (k : ℕ) (p q : Position) → SameWalk p q → (order : Order) × NamesEach k p.first order × (p.variables ≡ variables_in order) → (order : Order) × NamesEach k q.first order × (q.variables ≡ variables_in order)
-named_on k p q s h = (h.0, subst (λ (S : State). NamesEach k S h.0) (sym s.first) h.1, s.variables ∙ h.2)
-
--- after a full member the search is sound
-pub sound_found : (k : ℕ) (b : Bool) (cs ds : List Cond) (a c n : ℕ) (p q : Position) (found : Bool) (over : Option Step) → IsSound k b cs a n p found over → over ≡ None → IsWell k q → SameWalk p q → ds ≡ cs → c ≡ a → GoesOnAs cs n p Found q → IsSound k b ds c n q true over
-sound_found k b cs ds a c n p q found over i o x s e d h = record {
-  well = x;
-  state = subst (λ (S : State). IsState k S) (sym s.first) i.state;
-  count = λ y. h.2.5;
-  objects = ap length s.first ∙ i.objects ∙ sym d;
-  fits = subst (λ (z : List Cond). All (λ c. FitsIn c q.first) z) (sym e) (subst (λ (z : State). All (λ c. FitsIn c z) cs) (sym s.first) i.fits);
-  ready = λ y. subst (λ (z : List Cond). IsReady z q true) (sym e) h.2.6;
-  memory = λ y. absurd (not_none Memory (sym y ∙ o));
-  last = i.last;
-  named = named_on k p q s i.named;
-}
-
--- a search that is over is sound
-pub sound_over : (k : ℕ) (b : Bool) (cs ds : List Cond) (a c n : ℕ) (p q : Position) (found found' : Bool) (over : Option Step) (e : Step) → IsSound k b cs a n p found over → IsWell k q → SameWalk p q → ds ≡ cs → c ≡ a → (e ≡ Memory → b ≡ true) → e ≢ Found → IsSound k b ds c n q found' (Some e)
-sound_over k b cs ds a c n p q found found' over e i x s f d m not_found = record {
-  well = x;
-  state = subst (λ (S : State). IsState k S) (sym s.first) i.state;
-  count = λ o. absurd (not_none e o);
-  objects = ap length s.first ∙ i.objects ∙ sym d;
-  fits = subst (λ (z : List Cond). All (λ c. FitsIn c q.first) z) (sym f) (subst (λ (z : State). All (λ c. FitsIn c z) cs) (sym s.first) i.fits);
-  ready = λ o. absurd (not_none e o);
-  memory = λ o. m (some_same e Memory o);
-  last = λ o. not_found (some_same e Found o);
-  named = named_on k p q s i.named;
-}
-  where
-    some_same : (s t : Step) → Some s ≡ Some t → s ≡ t
-    some_same s t o = cc
-
--- a word other than want of memory
-pub not_memory : (s : Step) → s ≢ Memory → s ≡ Memory → (b : Bool) → b ≡ true
-not_memory s n e b = absurd (n e)
-
--- want of memory is answered only where events are kept
-pub only_kept : (b : Bool) (s : Step) → (b ≡ false → s ≢ Memory) → s ≡ Memory → b ≡ true
-only_kept true s h e = refl
-only_kept false s h e = absurd (h refl e)
+-- a list of the length 0
+pub no_events : (es : List Event) (n : ℕ) → n ≡ length es → nat_eq n 0 ≡ true → es ≡ []
+no_events [] n e h = refl
+no_events (x ∷ es) n e h = absurd (let z : n ≡ 0 = eqb-true n 0 h in omega (arith, e, z))

@@ -7,6 +7,8 @@ use Rattle.geo_conditions.specs.Reach.{State, IsState, Tuple}
 use Rattle.geo_conditions.specs.Walk.{Order, NamesEach, variables_in, Tree, values, is_full, IsFront, IsWhole, GoesOn}
 use Rattle.derivation.specs.declared.event.Event.{Event}
 use Rattle.trail_search.specs.Walker.{Position, IsWell, IsReady}
+use Rattle.whole_derivation.specs.Whole.{IsDerivation}
+use Rattle.trail_search.specs.Record.{Derives}
 use Rattle.trail_search.specs.declared.step.Step.{Step}
 use Rattle.trail_search.specs.declared.step.Step.TheVariants.{Found, Ended, Budget, Memory}
 
@@ -65,13 +67,17 @@ is_found Memory = false
 abbrev pub HasFound : Quest → Tuple → Type 0
 HasFound a t = a.layout ≡ Some (values a.walk.variables t)
 
+-- the events are a derivation, which is valid on the first state of the walk
+abbrev pub HasDerived : Quest → Type 0
+HasDerived a = IsDerivation a.walk.conditions a.walk.first a.events
+
 -- the values, after a Found
 abbrev pub layout_when : Bool → List ℤ → Option (List ℤ)
 layout_when false l = None
 layout_when true l = Some l
 
 -- what is true of each search. Without a list of events no memory is ever wanted
-pub record IsSound (k : ℕ) (keeps : Bool) (cs : List Cond) (number n : ℕ) (p : Position) (found : Bool) (over : Option Step) : Type 0 where
+pub record IsSound (k : ℕ) (keeps : Bool) (cs : List Cond) (number n : ℕ) (p : Position) (found : Bool) (over : Option Step) (some_found began_empty : Bool) (events : List Event) : Type 0 where
   pub well : IsWell k p
   pub state : IsState k p.first
   pub count : over ≡ None → p.walked ≤ n
@@ -81,3 +87,5 @@ pub record IsSound (k : ℕ) (keeps : Bool) (cs : List Cond) (number n : ℕ) (p
   pub memory : over ≡ Some Memory → keeps ≡ true
   pub last : over ≢ Some Found
   pub named : (order : Order) × NamesEach k p.first order × (p.variables ≡ variables_in order)
+  pub some : found ≡ true → some_found ≡ true
+  pub derives : keeps ≡ true → began_empty ≡ true → some_found ≡ false → p.token ≡ None → Derives cs p over events

@@ -1,8 +1,11 @@
 -- The variables of the code.
 use Rattle.std.specs.Prelude.{◌≡◌, ◌<◌, ℕ, List, length, slice_index_or, map, Option, None, Some, ℤ, pos, negsuc, true, false}
 use Rattle.derivation.specs.declared.event.Event.{Event}
-use Rattle.derivation.specs.declared.event.Event.TheVariants.{SplitShape, SplitUpto, SplitFrom}
-use Rattle.geo_conditions.specs.Walk.{Variable as Seen, PlaceOf, CoordinateOf}
+use Rattle.derivation.specs.declared.side.Side.TheVariants.{Upto, From}
+use Rattle.derivation.specs.declared.half.Half.{Half}
+use Rattle.derivation.specs.declared.half.Half.TheVariants.{OfPlace, OfSide}
+use Rattle.derivation.specs.Nodes.{split_event}
+use Rattle.geo_conditions.specs.Walk.{Variable as Seen, PlaceOf, CoordinateOf, object_of}
 use Rattle.trail_search.specs.declared.variable.Variable.{Variable}
 use Rattle.trail_search.specs.declared.variable.Variable.TheVariants.{Place, Coordinate}
 
@@ -11,12 +14,16 @@ abbrev pub variable_of : Variable → Seen
 variable_of (Place o) = PlaceOf o.0
 variable_of (Coordinate o d down) = CoordinateOf o.0 d down
 
--- the event of two cases: the variable has the value v, or one that comes after it
+-- the two cases of a variable: it has the value v, or one that comes after it
+abbrev pub half_of : Seen → ℤ → Half
+half_of (PlaceOf o) (pos s) = OfPlace s
+half_of (PlaceOf o) (negsuc n) = OfPlace 0
+half_of (CoordinateOf o d false) v = OfSide (Upto d v)
+half_of (CoordinateOf o d true) v = OfSide (From d v)
+
+-- their event
 abbrev pub split_of : Seen → ℤ → Event
-split_of (PlaceOf o) (pos s) = SplitShape (record { 0 = o }) s
-split_of (PlaceOf o) (negsuc n) = SplitShape (record { 0 = o }) 0
-split_of (CoordinateOf o d false) v = SplitUpto (record { 0 = o }) d v
-split_of (CoordinateOf o d true) v = SplitFrom (record { 0 = o }) d v
+split_of x v = split_event (object_of x) (half_of x v)
 
 -- the variable is the place of the object o, or its coordinate in that dimension
 abbrev pub IsAt : ℕ → Option ℕ → Seen → Type 0

@@ -1,9 +1,10 @@
-ghost use Rattle.std.specs.Prelude.{◌≡◌, ℕ, ◌<◌, ◌≤◌, ◌≤ℤ◌, ◌↔◌, IsTrue, true, false, pos, length};
-ghost use Rattle.geo_conditions.specs.Reach.{reach, has, NotEmpty};
+ghost use Rattle.std.specs.Prelude.{◌≡◌, ℕ, ℤ, ◌<◌, ◌≤◌, ◌<ℤ◌, ◌≤ℤ◌, ◌↔◌, IsTrue, true, false, pos, length, slice_set};
+ghost use Rattle.geo_conditions.specs.Reach.{reach, has, low, high, with_low, with_high, NotEmpty};
 ghost use Rattle.geo_conditions.specs.Walk.{PlaceOf, CoordinateOf, object_of, IsFirstValue, IsFixed};
 ghost use Rattle.geo_state.specs.Trail.{IsSmall};
-ghost use Rattle.trail_search.specs.Cursor.{Narrows, IsFrom, IsValueOf, HasAfter, HasDimension};
-ghost use Rattle.trail_search.specs.Shed.{Sheds};
+ghost use Rattle.trail_search.specs.Cursor.{after, Narrows, IsFrom, IsValueOf, HasAfter, HasDimension};
+ghost use Rattle.trail_search.specs.Record.{with_first, with_later, IsFixedTo};
+ghost use Rattle.trail_search.specs.Shed.{Clears, Sheds};
 ghost use Rattle.trail_search.specs.Variables.{variable_of};
 
 use super::variable::Variable;
@@ -91,6 +92,7 @@ fn shed<const K: usize>(t: &mut Trailed<K>, o: ObjId, from: u8, to: u8)
     requires order { from ≤ to }
     requires to { to ≤ 17 }
     ensures sheds { Sheds t.old.state t.new.state o.0 from to }
+    ensures clears { Clears t.old.state t.new.state o.0 from to }
     ensures levels { t.new.levels ≡ t.old.levels }
     ensures restores { t.new.restores ≡ t.old.restores }
 {
@@ -99,14 +101,15 @@ fn shed<const K: usize>(t: &mut Trailed<K>, o: ObjId, from: u8, to: u8)
     }
 }
 
-/// Fixes a variable to its first value.
-pub fn fix<const K: usize>(t: &mut Trailed<K>, x: Variable, u: i64)
+/// Takes away the later values of a variable, and leaves its first one.
+fn keep_first<const K: usize>(t: &mut Trailed<K>, x: Variable, u: i64)
     requires k { K ≤ MAX_DIMS }
     requires object { object_of (variable_of x) < length t.old.state }
     requires dimension { HasDimension K (variable_of x) }
     requires full { NotEmpty (reach t.old.state (object_of (variable_of x))) }
     requires first { IsFirstValue t.old.state (variable_of x) u }
     ensures narrows { Narrows t.old.state t.new.state (λ T. IsFixed T (variable_of x) u) }
+    ensures first { t.new.state ≡ with_first (variable_of x) u t.old.state }
     ensures levels { t.new.levels ≡ t.old.levels }
     ensures restores { t.new.restores ≡ t.old.restores }
 {
@@ -127,12 +130,32 @@ pub fn fix<const K: usize>(t: &mut Trailed<K>, x: Variable, u: i64)
     }
 }
 
+/// Fixes a variable to its first value. Where it has no later one, it is fixed already.
+pub fn fix<const K: usize>(t: &mut Trailed<K>, x: Variable, u: i64)
+    requires k { K ≤ MAX_DIMS }
+    requires object { object_of (variable_of x) < length t.old.state }
+    requires dimension { HasDimension K (variable_of x) }
+    requires full { NotEmpty (reach t.old.state (object_of (variable_of x))) }
+    requires first { IsFirstValue t.old.state (variable_of x) u }
+    ensures narrows { Narrows t.old.state t.new.state (λ T. IsFixed T (variable_of x) u) }
+    ensures fixed { IsFixedTo t.old.state (variable_of x) u t.new.state }
+    ensures levels { t.new.levels ≡ t.old.levels }
+    ensures restores { t.new.restores ≡ t.old.restores }
+{
+    if has_after(t.state(), x, u) {
+        keep_first(t, x, u);
+    }
+}
+
 /// Takes away the values of a variable before `v`.
 pub fn bound<const K: usize>(t: &mut Trailed<K>, x: Variable, v: i64)
     requires k { K ≤ MAX_DIMS }
     requires object { object_of (variable_of x) < length t.old.state }
     requires dimension { HasDimension K (variable_of x) }
     ensures narrows { Narrows t.old.state t.new.state (λ T. IsFrom T (variable_of x) v) }
+    ensures later { (u : ℤ) → v ≡ after (variable_of x) u
+        → IsFirstValue t.old.state (variable_of x) u → HasAfter t.old.state (variable_of x) u
+        → t.new.state ≡ with_later (variable_of x) u t.old.state }
     ensures levels { t.new.levels ≡ t.old.levels }
     ensures restores { t.new.restores ≡ t.old.restores }
 {
@@ -158,6 +181,8 @@ fn raise_to<const K: usize>(t: &mut Trailed<K>, o: ObjId, d: usize, v: i64)
     requires dimension { d < K }
     ensures narrows { Narrows t.old.state t.new.state
         (λ T. IsFrom T (CoordinateOf o.0 d false) v) }
+    ensures raised { low t.old.state o.0 d <ℤ v → v ≤ℤ high t.old.state o.0 d
+        → t.new.state ≡ slice_set t.old.state o.0 (with_low (reach t.old.state o.0) d v) }
     ensures levels { t.new.levels ≡ t.old.levels }
     ensures restores { t.new.restores ≡ t.old.restores }
 {
@@ -179,6 +204,8 @@ fn lower_to<const K: usize>(t: &mut Trailed<K>, o: ObjId, d: usize, v: i64)
     requires object { o.0 < length t.old.state }
     requires dimension { d < K }
     ensures narrows { Narrows t.old.state t.new.state (λ T. IsFrom T (CoordinateOf o.0 d true) v) }
+    ensures lowered { v <ℤ high t.old.state o.0 d → low t.old.state o.0 d ≤ℤ v
+        → t.new.state ≡ slice_set t.old.state o.0 (with_high (reach t.old.state o.0) d v) }
     ensures levels { t.new.levels ≡ t.old.levels }
     ensures restores { t.new.restores ≡ t.old.restores }
 {

@@ -7,7 +7,7 @@ ghost use Rattle.geo_conditions.specs.Conditions.{AllFit};
 ghost use Rattle.geo_conditions.specs.Reach.{Tuple, TupleIn, spot};
 ghost use Rattle.geo_conditions.specs.Walk.{NamesEach, variables_in, values};
 ghost use Rattle.geo_state.specs.Trail.{IsSmall};
-ghost use Rattle.trail_search.specs.Next.{Steps, HasFound, is_found};
+ghost use Rattle.trail_search.specs.Next.{Steps, HasDerived, HasFound, is_found};
 
 use super::start::start_walker;
 use super::step::Step;
@@ -58,7 +58,7 @@ impl<const K: usize, P: Propagate<K>, R: Recorder> Model for Search<K, P, R> {
     } };
 
     ghost invariant = { λ s. IsSound K R.keeps (P.conditions s.prop) (P.objects s.prop)
-        s.budget s.walker s.found s.over };
+        s.budget s.walker s.found s.over s.some_found s.began_empty (R.list s.rec) };
 }
 
 impl<const K: usize, P: Propagate<K> + Drop, R: Recorder + Drop> Search<K, P, R> {
@@ -117,7 +117,9 @@ impl<const K: usize, P: Propagate<K> + Drop, R: Recorder + Drop> Search<K, P, R>
 }
 
 impl<const K: usize, P: Propagate<K>, R: Recorder> Search<K, P, R> {
-    /// Goes on to the next layout. With a recorder that keeps no list it never wants memory.
+    /// Goes on to the next layout. With a recorder that keeps no list it never wants memory. Where
+    /// the walk without a token is used up and had no layout, and the recorder's list was empty at
+    /// the start, the events in it are one derivation, which is valid on the first state.
     pub fn next(&mut self) -> Step
         requires k { K ≤ MAX_DIMS }
         ensures steps { Steps self.old result self.new }
@@ -127,6 +129,8 @@ impl<const K: usize, P: Propagate<K>, R: Recorder> Search<K, P, R> {
         ensures events { R.keeps ≡ true → Continues self.old.events self.new.events }
         ensures refusals { self.old.refusals ≤ self.new.refusals }
         ensures no_record { R.keeps ≡ false → result ≢ Step.Memory }
+        ensures derived { R.keeps ≡ true → result ≡ Step.Ended → self.new.some_found ≡ false
+            → self.old.began_empty ≡ true → self.old.walk.after ≡ None → HasDerived self.new }
     {
         if let Some(step) = self.over {
             return step;

@@ -1,7 +1,9 @@
-ghost use Rattle.std.specs.Prelude.{◌≡◌, ℕ, ℤ, ◌≤◌, ◌<◌, List, [], length};
+ghost use Rattle.std.specs.Prelude.{◌≡◌, ℕ, ℤ, ◌≤◌, ◌<◌, true, false, None, List, [], length};
 ghost use Rattle.std.specs.List.{All};
 ghost use Rattle.derivation.specs.Events.{Growth};
 ghost use Rattle.geo_conditions.specs.Conditions.{FitsIn};
+ghost use Rattle.whole_derivation.specs.Whole.{IsDerivation};
+ghost use Rattle.trail_search.specs.Record.{IsRecord, IsUnmoved};
 ghost use Rattle.trail_search.specs.Walker.{IsWell, SameWalk, depth, Searches, Walks, is_answer, GoesOnAs, IsReady, StandsAt};
 
 use super::step::Step;
@@ -31,6 +33,9 @@ fn walk<const K: usize, P: Propagate<K>, R: Recorder>(
         (R.refusals rec.new) (is_answer result) }
     ensures walks { (w : List (List ℤ)) → Searches (P.conditions prop.old) walker.old w
         → Walks (P.conditions prop.old) budget walker.old w result walker.new }
+    ensures ended { result ≡ Step.Ended → R.keeps ≡ true → walker.old.token ≡ None
+        → IsRecord (P.conditions prop.old) walker.old (R.list rec.old)
+        → IsDerivation (P.conditions prop.old) walker.old.first (R.list rec.new) }
 {
     loop {
         match walker.settle(prop, rec) {
@@ -82,6 +87,9 @@ fn walk_empty<const K: usize, P: Propagate<K>, R: Recorder>(
         (R.refusals rec.new) (is_answer result) }
     ensures walks { IsReady (P.conditions prop.old) walker.old found
         → GoesOnAs (P.conditions prop.old) budget walker.old result walker.new }
+    ensures ended { result ≡ Step.Ended → R.keeps ≡ true → found ≡ false
+        → walker.old.token ≡ None → IsUnmoved walker.old → R.list rec.old ≡ []
+        → IsDerivation (P.conditions prop.old) walker.old.first (R.list rec.new) }
 {
     if found {
         return Step::Ended;
@@ -125,6 +133,9 @@ pub fn go_on<const K: usize, P: Propagate<K>, R: Recorder>(
         (R.refusals rec.new) (is_answer result) }
     ensures walks { IsReady (P.conditions prop.old) walker.old found
         → GoesOnAs (P.conditions prop.old) budget walker.old result walker.new }
+    ensures ended { result ≡ Step.Ended → R.keeps ≡ true → found ≡ false
+        → walker.old.token ≡ None → IsUnmoved walker.old → R.list rec.old ≡ []
+        → IsDerivation (P.conditions prop.old) walker.old.first (R.list rec.new) }
 {
     if walker.is_bare() {
         return walk_empty(prop, rec, walker, budget, found);

@@ -1,12 +1,14 @@
-ghost use Rattle.std.specs.Prelude.{◌≡◌, ℕ, ℤ, pos, ◌+◌, ◌-◌, ◌^◌, min, ◌<◌, ◌≤◌, ◌↔◌, ◌≢◌, None, Some, IsTrue, true, false, List, [], ◌∷◌, ◌++◌, length, get_or, slice_set, IsOk, OnErr};
+ghost use Rattle.std.specs.Prelude.{◌≡◌, ℕ, ℤ, pos, ◌+◌, ◌-◌, ◌^◌, min, ◌<◌, ◌≤◌, ◌↔◌, ◌≢◌, None, Some, IsTrue, true, false, List, [], ◌∷◌, ◌++◌, length, get_or, slice_set, IfOk, OnOk, MatchBool};
 ghost use Rattle.std.specs.List.{All};
 ghost use Rattle.geo_conditions.specs.declared.cond.Cond.{Cond};
 ghost use Rattle.geo_conditions.specs.Conditions.{FitsIn};
 ghost use Rattle.geo_conditions.specs.Reach.{reach, NotEmpty, HasNoEmpty};
 ghost use Rattle.geo_conditions.specs.Walk.{Variable as Seen, object_of, IsFirstValue, IsFixed};
+ghost use Rattle.derivation.specs.declared.event.Event.{Event as EventOf};
 ghost use Rattle.derivation.specs.Events.{Grows};
 ghost use Rattle.geo_state.specs.Settle.{SettlesOr};
 ghost use Rattle.trail_search.specs.Cursor.{Narrows, IsFrom, IsValueOf, HasDimension};
+ghost use Rattle.trail_search.specs.Record.{IsClosedRecord, IsFixedTo, IsRecord, RecordsCases, SettlesRecord};
 ghost use Rattle.trail_search.specs.Variables.{variable_of, IsAt, HasOne};
 ghost use Rattle.trail_search.specs.Walker.{IsWell, SameWalk, depth, path, FirstBound, IsFresh, Leaves, StaysOn, Tightens, Rests, Searches, IsStuck, IsReady, SettledAs};
 
@@ -127,6 +129,9 @@ impl<const K: usize> Walker<K> {
         ensures walked { self.new.walked ≡ self.old.walked }
         ensures conditions { P.conditions prop.new ≡ P.conditions prop.old }
         ensures number { P.objects prop.new ≡ P.objects prop.old }
+        ensures record { IfOk result (λ a. R.keeps ≡ true
+            → IsRecord (P.conditions prop.old) self.old (R.list rec.old)
+            → SettlesRecord (P.conditions prop.old) a self.new (R.list rec.new)) }
         ensures grows { Grows R.keeps R.list R.refusals rec.old rec.new result }
     {
         prop.settle(&mut self.trail, rec)
@@ -144,6 +149,9 @@ impl<const K: usize> Walker<K> {
         requires object { object_of (variable_of x) < length self.now.trail.state }
         requires dimension { HasDimension K (variable_of x) }
         requires fits { IsValueOf (variable_of x) u }
+        ensures cases { OnOk result (R.keeps ≡ true
+            → RecordsCases self.now.trail.state (variable_of x) u
+            (R.list rec.old) (R.list rec.new)) }
         ensures grows { Grows R.keeps R.list R.refusals rec.old rec.new result }
     {
         if has_after(self.trail.state(), x, u) {
@@ -197,6 +205,7 @@ impl<const K: usize> Walker<K> {
         requires count { self.old.walked < 2 ^ 64 - 1 }
         ensures narrows { Narrows self.old.trail.state self.new.trail.state
             (λ T. IsFixed T (variable_of x) u) }
+        ensures fixed { IsFixedTo self.old.trail.state (variable_of x) u self.new.trail.state }
         ensures levels { self.new.trail.levels ≡ self.old.trail.levels }
         ensures restores { self.new.trail.restores
             ≡ self.old.trail.restores ++ self.old.trail.state ∷ [] }
@@ -270,7 +279,11 @@ impl<const K: usize> Walker<K> {
         ensures depth { depth self.new ≡ depth self.old + 1 }
         ensures searches { (cs : List Cond) (w : List (List ℤ)) → Rests cs self.old w
             → Searches cs self.new (w ++ (path self.old ++ u ∷ []) ∷ []) }
+        ensures record { self.old.token ≡ None → (cs : List Cond) (old new : List EventOf)
+            → RecordsCases self.old.trail.state (variable_of x) u old new
+            → IsRecord cs self.old old → IsRecord cs self.new new }
     {
+        let _objects = self.trail.state().objects();
         let stay = self.along_bound(u);
         self.enter(x, u);
         match stay {
@@ -286,6 +299,8 @@ impl<const K: usize> Walker<K> {
         requires well { IsWell K self.old }
         requires open { 0 < depth self.old }
         ensures left { Leaves result self.old self.new }
+        ensures record { (cs : List Cond) (es : List EventOf) → IsClosedRecord cs self.old es
+            → MatchBool result (IsRecord cs self.new es) (IsClosedRecord cs self.new es) }
         ensures same { SameWalk self.old self.new }
         ensures values { self.new.values ≡ self.old.values }
         ensures along { self.new.along ≡ false }
@@ -316,6 +331,8 @@ impl<const K: usize> Walker<K> {
             → IsStuck cs self.old w → Searches cs self.new w }
         ensures stuck { (result ≡ false) → (cs : List Cond) (w : List (List ℤ))
             → IsStuck cs self.old w → IsStuck cs self.new w }
+        ensures record { (cs : List Cond) (es : List EventOf) → IsClosedRecord cs self.old es
+            → MatchBool result (IsRecord cs self.new es) (IsClosedRecord cs self.new es) }
     {
         while self.depth() > 0 {
             if self.leave() {
@@ -349,6 +366,7 @@ impl<const K: usize> Walker<K> {
         ensures walked { self.new.walked ≡ 0 }
         ensures depth { depth self.new ≡ 0 }
         ensures searches { (cs : List Cond) → Searches cs self.new [] }
+        ensures unmoved { self.old.token ≡ None → self.new.trail ≡ self.old.trail }
     {
         if let Some(v) = self.first_bound() {
             self.tighten(v);
@@ -365,6 +383,7 @@ impl<const K: usize> Walker<K> {
         ensures same { SameWalk self.old self.new }
         ensures walked { self.new.walked ≡ 0 }
         ensures ready { (cs : List Cond) → IsReady cs self.new false }
+        ensures unmoved { self.old.token ≡ None → self.new.trail ≡ self.old.trail }
     {
         if !self.is_bare() {
             self.set_off();

@@ -1,45 +1,33 @@
-use Rattle.std.proofs.Common.{◌≡◌, ◌<◌, ◌+◌, length, set, arith, ap, sym, ◌∙◌, subst, refl, ℤ, Bool, true, false}
-use Rattle.std.proofs.lemmas.Int.{ints}
-use Rattle.geo_base.specs.Boxes.{coordinate}
-use Rattle.geo_conditions.specs.Reach.{State, IsState, Region, reach, has, NotEmpty, low, high, with_low, with_high}
+use Rattle.std.proofs.Common.{◌≡◌, ◌∙◌, true, false, sym, ap, subst, refl, ℤ}
+use Rattle.std.proofs.lemmas.Bool.{false≢true}
+use Rattle.geo_conditions.specs.Reach.{State}
+use Rattle.geo_conditions.specs.Walk.{IsFixed, IsFirstValue}
 use Rattle.geo_state.proofs.Numbers.{kept64}
-use Rattle.geo_state.proofs.Shapes.{lo_long, hi_long, places_long}
-use Rattle.geo_conditions.specs.Walk.{object_of, IsFixed, IsFirstValue, CoordinateOf}
-use Rattle.trail_search.specs.declared.variable.Variable.{Variable}
-use Rattle.trail_search.specs.declared.variable.Variable.TheVariants.{Place, Coordinate}
+use Rattle.trail_search.specs.Cursor.{HasAfter, Narrows}
+use Rattle.trail_search.specs.Record.{with_first}
 use Rattle.trail_search.specs.Variables.{variable_of}
-use Rattle.trail_search.specs.Cursor.{HasDimension, Narrows, IsFrom}
-use Rattle.trail_search.proofs.Moves.{fix_least, fix_up, fix_down}
+use Rattle.trail_search.proofs.Cases.{fixed_already, has_later, has_no_later}
 use Rattle.trail_search.proofs.narrow.fix.Goals as goal
 
-pub returns-in-Place-clause-narrows : goal.returns-in-Place-clause-narrows
-returns-in-Place-clause-narrows g c =
+pub returns-then-has_after-clause-narrows : goal.returns-then-has_after-clause-narrows
+returns-then-has_after-clause-narrows g c =
     let S = c.args.t.now.state in
-    let is = c.in-Place.is in
-    let o = c.in-Place.o.0 in
-    subst (λ (y : Variable). Narrows S c.shed.new.t.state (λ T. IsFixed T (variable_of y) c.args.u)) (sym is)
-    (fix_least S c.shed.new.t.state o c.least_place-place.result (c.least_place-place.result + 1) c.args.u (subst (λ (T : State). length (reach T o).places ≡ 16) c.state.ensures.value c.region-region.ensures.places) (subst (λ (y : Variable). IsFirstValue S (variable_of y) c.args.u) is c.requires.first) (ap (λ (T : State). has T o c.least_place-place.result) (sym c.state-in-Place.ensures.value) ∙ c.least_place-place.ensures.there) (λ z t. c.least_place-place.ensures.least z (ap (λ (T : State). has T o z) c.state-in-Place.ensures.value ∙ t)) refl c.shed.ensures.sheds)
+    subst (λ (z : ℤ). Narrows S c.keep_first.new.t.state (λ T. IsFixed T (variable_of c.args.x) z)) (kept64 c.args.u c.ranges.u.sfits) c.keep_first.ensures.narrows
 
-pub returns-then-down-clause-narrows : goal.returns-then-down-clause-narrows
-returns-then-down-clause-narrows g c =
+pub returns-then-has_after-clause-fixed : goal.returns-then-has_after-clause-fixed
+returns-then-has_after-clause-fixed g c =
     let S = c.args.t.now.state in
-    let o = c.in-Coordinate.o.0 in
-    let d = c.in-Coordinate.d in
-    let is : c.args.x ≡ Coordinate c.in-Coordinate.o d true = c.in-Coordinate.is ∙ ap (λ (b : Bool). Coordinate c.in-Coordinate.o d b) c.if-down.true in
-    let k : d < g.row.K = subst (λ (y : Variable). HasDimension g.row.K (variable_of y)) is c.requires.dimension in
-    let shape : IsState g.row.K S = subst (IsState g.row.K) c.state-in-Coordinate.ensures.value c.objects-objects.ensures.shape in
-    let h : o < length S = subst (λ (y : Variable). object_of (variable_of y) < length S) is c.requires.object in
-    subst (λ (y : Variable). Narrows S c.set_low.new.self.state (λ T. IsFixed T (variable_of y) c.args.u)) (sym is)
-    (fix_down S c.set_low.new.self.state o d c.args.u h (omega (arith, lo_long g.row.K S o shape h, k)) (subst (λ (y : Variable). NotEmpty (reach S (object_of (variable_of y)))) is c.requires.full) (subst (λ (y : Variable). IsFirstValue S (variable_of y) c.args.u) is c.requires.first) (c.set_low.ensures.state ∙ ap (λ (z : ℤ). set S o (with_low (reach S o) d z)) (kept64 c.args.u c.ranges.u.sfits)))
+    let later = has_later c.state.result.now S (variable_of c.args.x) _ c.args.u c.has_after.result c.has_after.ensures c.state.ensures.value (kept64 c.args.u c.ranges.u.sfits) c.if-has_after.true in
+    (λ y. c.keep_first.ensures.first ∙ ap (λ (z : ℤ). with_first (variable_of c.args.x) z S) (kept64 c.args.u c.ranges.u.sfits), λ none. absurd (none later))
 
-pub returns-else-down-clause-narrows : goal.returns-else-down-clause-narrows
-returns-else-down-clause-narrows g c =
+pub returns-else-has_after-clause-fixed : goal.returns-else-has_after-clause-fixed
+returns-else-has_after-clause-fixed g c =
     let S = c.args.t.now.state in
-    let o = c.in-Coordinate.o.0 in
-    let d = c.in-Coordinate.d in
-    let is : c.args.x ≡ Coordinate c.in-Coordinate.o d false = c.in-Coordinate.is ∙ ap (λ (b : Bool). Coordinate c.in-Coordinate.o d b) c.if-down.false in
-    let k : d < g.row.K = subst (λ (y : Variable). HasDimension g.row.K (variable_of y)) is c.requires.dimension in
-    let shape : IsState g.row.K S = subst (IsState g.row.K) c.state-in-Coordinate.ensures.value c.objects-objects.ensures.shape in
-    let h : o < length S = subst (λ (y : Variable). object_of (variable_of y) < length S) is c.requires.object in
-    subst (λ (y : Variable). Narrows S c.set_high.new.self.state (λ T. IsFixed T (variable_of y) c.args.u)) (sym is)
-    (fix_up S c.set_high.new.self.state o d c.args.u h (omega (arith, hi_long g.row.K S o shape h, k)) (subst (λ (y : Variable). NotEmpty (reach S (object_of (variable_of y)))) is c.requires.full) (subst (λ (y : Variable). IsFirstValue S (variable_of y) c.args.u) is c.requires.first) (c.set_high.ensures.state ∙ ap (λ (z : ℤ). set S o (with_high (reach S o) d z)) (kept64 c.args.u c.ranges.u.sfits)))
+    let none = has_no_later c.state.result.now S (variable_of c.args.x) _ c.args.u c.has_after.result c.has_after.ensures c.state.ensures.value (kept64 c.args.u c.ranges.u.sfits) c.if-has_after.false in
+    (λ y. absurd (none y), λ n. refl)
+
+pub returns-else-has_after-clause-narrows : goal.returns-else-has_after-clause-narrows
+returns-else-has_after-clause-narrows g c =
+    let S = c.args.t.now.state in
+    let none = has_no_later c.state.result.now S (variable_of c.args.x) _ c.args.u c.has_after.result c.has_after.ensures c.state.ensures.value (kept64 c.args.u c.ranges.u.sfits) c.if-has_after.false in
+    fixed_already S (variable_of c.args.x) c.args.u c.requires.object c.requires.first none

@@ -1,4 +1,4 @@
-use Rattle.std.proofs.Common.{◌≡◌, ◌<◌, ◌+◌, ◌-◌, ◌*◌, ℕ, true, false, ap, sym, ◌∙◌, subst, arith, length, refl, List, ℤ, get_or}
+use Rattle.std.proofs.Common.{◌≡◌, ◌<◌, ◌+◌, ◌-◌, ◌*◌, ℕ, Bool, true, false, ap, sym, ◌∙◌, subst, arith, length, refl, List, ℤ, get_or}
 use Rattle.std.specs.Prelude.{Result, Ok, Err}
 use Rattle.std.specs.List.{All}
 use Rattle.std.proofs.lemmas.Bool.{false≢true}
@@ -14,10 +14,13 @@ use Rattle.trail_search.specs.Cursor.{HasDimension, IsValueOf}
 use Rattle.trail_search.specs.Walker.{Position, SameWalk, Walking, KeptAs, DeadAs, depth}
 use Rattle.trail_search.proofs.Walking.{object_at, fact_at}
 use Rattle.trail_search.proofs.Loop.{loop_start, loop_dead, loop_ended, loop_budget, loop_visit, loop_found, measure_dead, measure_visit, dead_as, kept_as}
+use Rattle.std.specs.Prelude.{MatchBool}
+use Rattle.trail_search.specs.Record.{IsRecord, IsClosedRecord, RecordsCases}
+use Rattle.trail_search.proofs.Recording.{kept_record, dead_record, cases_of, record_end}
 use Rattle.trail_search.proofs.walk.walk.Goals as goal
 
 pub loop-walker-init : goal.loop-walker-init
-loop-walker-init g c = (loop_start g.row.K (g.P.Propagate.conditions c.args.prop.now) c.args.budget c.args.walker.now c.requires.well c.requires.count c.requires.open, refl, refl, growth_none _ _ _)
+loop-walker-init g c = (loop_start g.row.K (g.P.Propagate.conditions c.args.prop.now) c.args.budget c.args.walker.now c.requires.well c.requires.count c.requires.open, refl, refl, growth_none _ _ _, λ k t r. r)
 
 pub returns-then-not-retreat-clause-walks : goal.returns-then-not-retreat-clause-walks
 returns-then-not-retreat-clause-walks g c =
@@ -35,6 +38,9 @@ loop-walker-preserved-else-not-retreat g c =
       c.settle.ensures.conditions ∙ i.1,
       c.settle.ensures.number ∙ i.2,
       growth_on i.3 c.in-Ok-Dead.ensures.grows,
+      λ k t r.
+          let closed = dead_record (g.P.Propagate.conditions c.loop-walker.prop) cs c.in-Ok-Dead.field-0 c.loop-walker.walker c.settle.new.self (g.R.Recorder.list c.loop-walker.rec) (g.R.Recorder.list c.settle.new.rec) i.1 c.in-Ok-Dead.field-0-is (c.in-Ok-Dead.ensures.record k) (i.4 k t r) in
+          subst (λ (b : Bool). MatchBool b (IsRecord cs c.retreat.new.self (g.R.Recorder.list c.settle.new.rec)) (IsClosedRecord cs c.retreat.new.self (g.R.Recorder.list c.settle.new.rec))) c.if-not-retreat.false (c.retreat.ensures.record cs (g.R.Recorder.list c.settle.new.rec) closed),
     )
 
 pub first_value-u-requires : goal.first_value-u-requires
@@ -95,6 +101,10 @@ loop-walker-preserved g c =
       c.settle.ensures.conditions ∙ i.1,
       c.settle.ensures.number ∙ i.2,
       growth_on (growth_on i.3 c.in-Ok-Kept.ensures.grows) (growth_succeeded _ c.record_split.ensures.grows (sym c.is_err.ensures.value ∙ c.if-is_err.false)),
+      λ k t f.
+          let kept = kept_record (g.P.Propagate.conditions c.loop-walker.prop) cs c.in-Ok-Kept.field-0 c.loop-walker.walker s (g.R.Recorder.list c.loop-walker.rec) (g.R.Recorder.list c.settle.new.rec) i.1 c.in-Ok-Kept.field-0-is (c.in-Ok-Kept.ensures.record k) (i.4 k t f) in
+          let cases = cases_of (g.R.Recorder.keeps ≡ true → RecordsCases s.trail.state (variable_of c.variable-x.result) _ (g.R.Recorder.list c.settle.new.rec) (g.R.Recorder.list c.record_split.new.rec)) c.record_split.result c.record_split.ensures.cases (sym c.is_err.ensures.value ∙ c.if-is_err.false) k in
+          c.descend.ensures.record (c.settle.ensures.same.token ∙ i.0.same.token ∙ t) cs (g.R.Recorder.list c.settle.new.rec) (g.R.Recorder.list c.record_split.new.rec) cases kept,
     )
 
 pub returns-in-Err-clause-grows : goal.returns-in-Err-clause-grows
@@ -111,3 +121,12 @@ returns-then-is_err-clause-grows g c = growth_on (growth_on c.loop-walker.invari
 
 pub returns-then-is_full-clause-grows : goal.returns-then-is_full-clause-grows
 returns-then-is_full-clause-grows g c = growth_on (growth_on c.loop-walker.invariant.3 c.in-Ok-Kept.ensures.grows) (growth_succeeded _ c.record_split.ensures.grows (sym c.is_err.ensures.value ∙ c.if-is_err.false))
+
+pub returns-then-not-retreat-clause-ended : goal.returns-then-not-retreat-clause-ended
+returns-then-not-retreat-clause-ended g c = λ e k t r.
+    let i = c.loop-walker.invariant in
+    let cs = g.P.Propagate.conditions c.args.prop.now in
+    let es = g.R.Recorder.list c.settle.new.rec in
+    let closed = dead_record (g.P.Propagate.conditions c.loop-walker.prop) cs c.in-Ok-Dead.field-0 c.loop-walker.walker c.settle.new.self (g.R.Recorder.list c.loop-walker.rec) es i.1 c.in-Ok-Dead.field-0-is (c.in-Ok-Dead.ensures.record k) (i.4 k t r) in
+    let left = subst (λ (b : Bool). MatchBool b (IsRecord cs c.retreat.new.self es) (IsClosedRecord cs c.retreat.new.self es)) c.if-not-retreat.true (c.retreat.ensures.record cs es closed) in
+    record_end cs c.args.walker.now c.retreat.new.self es (c.retreat.ensures.same.first ∙ c.settle.ensures.same.first ∙ i.0.same.first) (c.retreat.ensures.none c.if-not-retreat.true) left

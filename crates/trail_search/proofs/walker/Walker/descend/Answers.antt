@@ -9,6 +9,9 @@ use Rattle.trail_search.specs.Cursor.{HasDimension, Narrows, IsFrom, bound_at}
 use Rattle.trail_search.proofs.Walking.{object_at, fact_at, same_trans, depth_entered, next_entered, bound_small, bound_fits}
 use Rattle.geo_state.proofs.Numbers.{kept64}
 use Rattle.trail_search.proofs.Standing.{well_entered, path_entered, descend_on, descend_off}
+use Rattle.geo_conditions.specs.Reach.{IsState}
+use Rattle.trail_search.specs.Record.{IsFixedTo}
+use Rattle.trail_search.proofs.Recording.{half_fits, opened_record}
 use Rattle.trail_search.proofs.walker.Walker.descend.Goals as goal
 
 pub enter-requires : goal.enter-requires
@@ -101,3 +104,41 @@ returns-in-None-clause-searches g c = λ cs w h.
     let t : StaysOn p c.args.u None = subst (λ (z : ℤ). StaysOn p z None) k (subst (StaysOn p _) c.in-None.is c.along_bound-stay.ensures) in
     let n : Narrows p.trail.state r.trail.state (λ T. IsFixed T x c.args.u) = subst (λ (S : State). Narrows p.trail.state S (λ T. IsFixed T x c.args.u)) (sym (ap (λ (t : Trail). t.state) q)) (subst (λ (z : ℤ). Narrows p.trail.state e.trail.state (λ T. IsFixed T x z)) k c.enter.ensures.narrows) in
     descend_off cs p r w c.args.u x o.objects c.requires.number o.values c.requires.variable c.requires.first (same_trans p e r c.enter.ensures.same c.stray.ensures.same) (ap (λ (t : Trail). t.restores) q ∙ c.enter.ensures.restores) (c.stray.ensures.values ∙ v) (c.stray.ensures.walked ∙ c.enter.ensures.walked) c.stray.ensures.along n t h
+
+pub returns-in-Some-clause-record : goal.returns-in-Some-clause-record
+returns-in-Some-clause-record g c = λ none.
+    let p = c.args.self.now in
+    let k = kept64 c.args.u c.ranges.u.sfits in
+    let t : StaysOn p c.args.u (Some c.in-Some.v) = subst (λ (z : ℤ). StaysOn p z (Some c.in-Some.v)) k (subst (StaysOn p _) c.in-Some.is c.along_bound-stay.ensures) in
+    absurd (some_none t.0 (sym t.2 ∙ none))
+  where
+    some_none : {A : Type 0} (a : A) → Some a ≡ None → ⊥
+    some_none a e = cc
+
+pub returns-in-None-clause-record : goal.returns-in-None-clause-record
+returns-in-None-clause-record g c = λ none cs old new cases h.
+    let p = c.args.self.now in
+    let e = c.enter.new.self in
+    let r = c.stray.new.self in
+    let o = c.requires.well in
+    let k = kept64 c.args.u c.ranges.u.sfits in
+    let x = variable_of c.args.x in
+    let q = c.stray.ensures.trail in
+    let same = same_trans p e r c.enter.ensures.same c.stray.ensures.same in
+    let a = object_at p.first p.variables (depth p) x o.objects c.requires.number c.requires.variable in
+    let there : object_of x < length p.trail.state = omega (arith, a, o.inside.objects) in
+    let shape : IsState g.row.K p.trail.state = subst (IsState g.row.K) (c.state.ensures.value ∙ ap (λ (z : Position). z.trail.state) c.self.view_is) c.objects-objects.ensures.shape in
+    let fixed : IsFixedTo p.trail.state x c.args.u r.trail.state = subst (λ (S : State). IsFixedTo p.trail.state x c.args.u S) (sym (ap (λ (t : Trail). t.state) q)) (subst (λ (z : ℤ). IsFixedTo p.trail.state x z e.trail.state) k c.enter.ensures.fixed) in
+    opened_record p r x c.args.u
+    (record {
+      first = same.first;
+      variables = same.variables;
+      values = c.stray.ensures.values ∙ c.enter.ensures.values ∙ ap (set p.values (depth p)) k;
+      restores = ap (λ (t : Trail). t.restores) q ∙ c.enter.ensures.restores;
+      number = c.requires.number;
+      room = omega (arith, o.values, c.requires.number);
+      variable = c.requires.variable;
+    })
+    cs old new c.requires.first
+    (half_fits g.row.K p.trail.state x c.args.u shape there (fact_at (HasDimension g.row.K) p.variables (depth p) x o.dimensions c.requires.number c.requires.variable) c.requires.fits c.requires.first)
+    fixed cases h

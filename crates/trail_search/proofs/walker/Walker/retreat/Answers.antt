@@ -1,6 +1,8 @@
 use Rattle.std.proofs.Common.{◌≡◌, ◌++◌, ◌∷◌, [], Bool, true, false, List, ap, sym, ◌∙◌, subst, arith, length}
 use Rattle.std.proofs.Math.ListN.{length-append}
 use Rattle.geo_conditions.proofs.Points.{inside_self}
+use Rattle.std.specs.Prelude.{MatchBool}
+use Rattle.trail_search.specs.Record.{IsRecord, IsClosedRecord}
 use Rattle.trail_search.specs.Walker.{Position, Leaves}
 use Rattle.trail_search.proofs.Walking.{same_trans}
 use Rattle.trail_search.proofs.Standing.{well_left, retreated, still_stuck}
@@ -32,4 +34,13 @@ loop-self-preserved g c =
       c.leave.ensures.walked ∙ i.2,
       omega (arith, i.3, n, length-append r.trail.restores (r.trail.state ∷ [])),
       λ cs w h. still_stuck cs p r w r.trail.state l.0 l.1 o.objects o.depth o.values c.leave.ensures.same l.2 c.leave.ensures.values (i.4 cs w h) c.leave.ensures.walked c.leave.ensures.along l.3,
+      λ cs es h. subst (λ (b : Bool). MatchBool b (IsRecord cs r es) (IsClosedRecord cs r es)) c.if-leave.false (c.leave.ensures.record cs es (i.5 cs es h)),
     )
+
+pub returns-then-leave-clause-record : goal.returns-then-leave-clause-record
+returns-then-leave-clause-record g c = λ cs es h.
+    let r = c.leave.new.self in
+    subst (λ (b : Bool). MatchBool b (IsRecord cs r es) (IsClosedRecord cs r es)) c.if-leave.true (c.leave.ensures.record cs es (c.loop-self.invariant.5 cs es h))
+
+pub returns-clause-record : goal.returns-clause-record
+returns-clause-record g c = c.loop-self.invariant.5

@@ -3,7 +3,12 @@ use Rattle.geo_conditions.specs.Reach.{State, Inside}
 use Rattle.trail_search.specs.Walker.{Position, SameWalk}
 use Rattle.geo_state.specs.Settle.{SettlesOr}
 use Rattle.geo_state.proofs.Fits.{all_fit}
+use Rattle.std.specs.Prelude.{Result, Ok, Err, IfOk, true, List}
+use Rattle.derivation.specs.declared.event.Event.{Event}
+use Rattle.geo_state.specs.Settle.{Records}
+use Rattle.trail_search.specs.Record.{IsRecord, SettlesRecord}
 use Rattle.trail_search.proofs.Standing.{settled_in, settles_inside, well_settled}
+use Rattle.trail_search.proofs.Recording.{settled_if}
 use Rattle.trail_search.proofs.walker.Walker.settle.Goals as goal
 
 pub settle-requires : goal.settle-requires
@@ -41,3 +46,11 @@ returns-clause-well g c =
 
 pub returns-clause-grows : goal.returns-clause-grows
 returns-clause-grows g c = c.settle.ensures.grows
+
+pub returns-clause-record : goal.returns-clause-record
+returns-clause-record g c =
+    let p = c.args.self.now in
+    let cs = g.P.Propagate.conditions c.args.prop.now in
+    settled_if cs g.R.Recorder.keeps p _ c.self.inside.trail.state (g.R.Recorder.list c.args.rec.now) (g.R.Recorder.list c.settle.new.rec) c.settle.result
+    (record { first = ap (λ (q : Position). q.first) c.self.view_is; variables = ap (λ (q : Position). q.variables) c.self.view_is; values = ap (λ (q : Position). q.values) c.self.view_is; restores = c.settle.ensures.levels.1 ∙ ap (λ (q : Position). q.trail.restores) c.self.view_is })
+    (ap (λ (q : Position). q.trail.state) c.self.view_is) c.settle.ensures.record
