@@ -1,0 +1,4 @@
+pub mod Named
+pub mod Limited
+pub mod FirstWord
+pub mod ReadBack

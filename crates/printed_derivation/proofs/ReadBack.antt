@@ -1,0 +1,106 @@
+-- What is printed of a derivation is read back as its events, also behind white space and comments.
+use Rattle.std.proofs.Common.{◌≡◌, ℕ, ◌+◌, ◌≤◌, List, [], ◌∷◌, ◌++◌, length, map, None, refl, sym, ap, ◌∙◌, subst, append_assoc, arith, lit≤}
+use Rattle.std.specs.Prelude.{codes}
+use Rattle.std.specs.List.{All}
+use Rattle.std.proofs.lemmas.List.{length-append}
+use Rattle.std.proofs.Math.Seq.{take-length}
+use Rattle.geo_tokens.specs.declared.token.Token.{Token}
+use Rattle.geo_tokens.specs.declared.token.Kind.{Kind}
+use Rattle.geo_tokens.specs.Bytes.{bytes_of}
+use Rattle.geo_tokens.specs.Cut.{Cut, white}
+use Rattle.geo_tokens.specs.Names.{NameTable, IsNameText, IsNameTable}
+use Rattle.geo_tokens.proofs.Cuts.{gap_more}
+use Rattle.geo_tokens.proofs.Spellings.{reserved}
+use Rattle.blank_texts.specs.Blank.{IsBlank, moved}
+use Rattle.blank_texts.proofs.Lines.{blank_stays}
+use Rattle.blank_texts.proofs.Moved.{gaps_then, bytes_moved, tokens_moved}
+use Rattle.rule_print.specs.Canonical.{Written, name, kind_of, spelling}
+use Rattle.rule_print.proofs.ShownTokens.{Stands}
+use Rattle.layout_text.proofs.TextParts as parts
+use Rattle.layout_text.proofs.TextParts.{Part, all_bytes, tokens_from, parts_are_tokens, parts_stand_whole}
+use Rattle.geo_conditions.specs.declared.cond.Cond.{Cond}
+use Rattle.geo_conditions.specs.Reach.{State}
+use Rattle.derivation.specs.declared.event.Event.{Event}
+use Rattle.derivation.specs.Nodes.{Node, node_events}
+use Rattle.derivation_text.specs.Lines.{derivation_text, AreNamed}
+use Rattle.derivation_reading.specs.Terminals.{Lexeme, terminal_of, name_by, lexeme, lexemes}
+use Rattle.derivation_reading.specs.Grammar.{lookup}
+use Rattle.derivation_reading.specs.Machine.{Spells}
+use Rattle.derivation_reading.specs.FirstFault.{most_bytes, IsText}
+use Rattle.derivation_reading.proofs.Cuttings.{cut_length}
+use Rattle.derivation_round_trip.specs.Limits.{IsLimited}
+use Rattle.derivation_round_trip.proofs.LineParts.{text_parts, text_bytes, text_fits}
+use Rattle.derivation_round_trip.proofs.Words.{seen, words, words_read}
+use Rattle.whole_derivation.specs.Whole.{IsDerivation}
+use Rattle.printed_derivation.specs.Tables.{IsTableOf}
+use Rattle.printed_derivation.specs.Laws.{printed, printed_behind}
+use Rattle.printed_derivation.proofs.Named.{named}
+use Rattle.printed_derivation.proofs.Limited.{limited}
+use Rattle.printed_derivation.proofs.FirstWord.{behind_none}
+
+-- ---- lexemes
+
+same_lexeme : (k l : Kind) (b c : List ℕ) → k ≡ l → b ≡ c → (let x : Lexeme = record { is = terminal_of k; name = name_by k b } in x) ≡ record { is = terminal_of l; name = name_by l c }
+same_lexeme k l b c e f =
+    ap (λ (m : Kind). let x : Lexeme = record { is = terminal_of m; name = name_by m b } in x) e ∙ ap (λ (v : List ℕ). let x : Lexeme = record { is = terminal_of l; name = name_by l v } in x) f
+
+-- the grammar sees in tokens what they stand for
+stand_seen : (text : List ℕ) (ws : List Written) (ts : List Token) → Stands text ws ts → lexemes text ts ≡ map seen ws
+stand_seen text [] [] h = refl
+stand_seen text [] (t ∷ ts) h = absurd h
+stand_seen text (w ∷ ws) [] h = absurd h
+stand_seen text (w ∷ ws) (t ∷ ts) h =
+    ap (λ (x : Lexeme). x ∷ lexemes text ts) (same_lexeme t.kind (kind_of w) (bytes_of text t) (spelling w) h.0 h.1) ∙ ap (λ (xs : List Lexeme). seen w ∷ xs) (stand_seen text ws ts h.2)
+
+-- it sees the same in tokens that stand behind other bytes
+moved_seen : (before text : List ℕ) (ts : List Token) → lexemes (before ++ text) (map (moved (length before)) ts) ≡ lexemes text ts
+moved_seen before text [] = refl
+moved_seen before text (t ∷ ts) =
+    ap (λ (b : List ℕ). (let x : Lexeme = record { is = terminal_of t.kind; name = name_by t.kind b } in x) ∷ lexemes (before ++ text) (map (moved (length before)) ts)) (bytes_moved before text t)
+    ∙ ap (λ (xs : List Lexeme). lexeme text t ∷ xs) (moved_seen before text ts)
+
+-- ---- the word `none` and a derivation
+
+none_text : IsNameText (codes "none")
+none_text = record {
+  form = record { begins = refl; longest = refl; short = lit≤ tt };
+  free = λ w q. reserved (length (codes "none")) None (codes "none") refl refl w (sym (take-length (codes "none")) ∙ q);
+}
+
+abbrev none_parts : NameTable → List Event → List Part
+none_parts n es = parts.lexeme (name (codes "none")) ∷ parts.blank 10 ∷ text_parts n es
+
+module _ (n : NameTable) (table : IsNameTable n) (root : Node) (h : AreNamed n 0 (node_events root)) (l : All IsLimited (node_events root)) where
+  none_bytes : all_bytes (none_parts n (node_events root)) ≡ printed n (node_events root)
+  none_bytes = ap (λ (u : List ℕ). codes "none\n" ++ u) (text_bytes n (node_events root))
+
+  none_spells : Spells (lookup n) (words (none_parts n (node_events root))) (node_events root)
+  none_spells = behind_none n root (node_events root) (words_read n table root h)
+
+  none_is_text : length (all_bytes (none_parts n (node_events root))) ≤ most_bytes → IsText n (all_bytes (none_parts n (node_events root))) (node_events root)
+  none_is_text short =
+      let ps : List Part = none_parts n (node_events root) in
+      record {
+        tokens = tokens_from 0 ps;
+        end = length (all_bytes ps);
+        rest = [];
+        cut = parts_are_tokens ps (none_text, refl, (refl, text_fits n table (node_events root) h l));
+        short = short;
+        spells = subst (λ (ws : List Lexeme). Spells (lookup n) ws (node_events root)) (sym (stand_seen (all_bytes ps) (parts.lexemes ps) (tokens_from 0 ps) (parts_stand_whole ps))) none_spells;
+      }
+
+  node_back : length (printed n (node_events root)) ≤ most_bytes → IsText n (printed n (node_events root)) (node_events root)
+  node_back short =
+      subst (λ (text : List ℕ). IsText n text (node_events root)) none_bytes (none_is_text (subst (λ (text : List ℕ). length text ≤ most_bytes) (sym none_bytes) short))
+
+pub read_back : (n : NameTable) (S : State) (cs : List Cond) (es : List Event) → IsNameTable n → IsTableOf n S → IsDerivation cs S es → length cs ≤ 1000000000
+    → length (printed n es) ≤ most_bytes → IsText n (printed n es) es
+read_back n S cs es names table d few =
+    subst (λ (fs : List Event). length (printed n fs) ≤ most_bytes → IsText n (printed n fs) fs) (sym d.events)
+    (node_back n names d.root (named n S (length cs) d.root table d.fits) (limited S (length cs) few d.root d.fits))
+
+-- ---- behind white space and comments
+
+module _ (n : NameTable) (es : List Event) (blank text : List ℕ) (front : IsBlank blank) (r : IsText n text es) where
+  before : List ℕ
+  before = blank ++ 10 ∷ []
