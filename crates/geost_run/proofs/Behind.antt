@@ -110,7 +110,7 @@ module _ (left new : Option (List ℕ)) (bytes first second : List ℕ) (read : 
           go (Refuse place word) x = (place, word, in_second first (second ++ more) cut_input a.problem h.accepted x, refl)
           go Proved x = (a.problem, a.conditions.items, x.0, (first, second ++ more, cut_input, h.accepted, x.1), h.are, x.2, x.3, refl)
           go (Failing n) x = (a.problem, a.conditions.items, x.0, n, (first, second ++ more, cut_input, h.accepted, x.1), h.are, x.2, refl)
-          go Nothing x = absurd x
+          go (Nothing names log) x = absurd x
           go (decisions.Budget n) x = absurd x
           go (Layout p layout) x = absurd x
           go (Shown p) x = absurd x

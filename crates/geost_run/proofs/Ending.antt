@@ -81,7 +81,7 @@ ends_unread words left r w0 w1 f0 f1 _ none h = absurd h
 
 is_answered : (d : Decision) → IsAnswered (decision_status d)
 is_answered (Refuse place word) = tt
-is_answered Nothing = tt
+is_answered (Nothing names log) = tt
 is_answered (decisions.Budget n) = tt
 is_answered (Layout p layout) = tt
 is_answered (Shown p) = tt

@@ -1,7 +1,11 @@
--- The same words and the same input have one text, where the status is the same.
-use Rattle.std.proofs.Common.{◌≡◌, inl, inr, ℕ, List, sym, ◌∙◌, ap, subst, arith}
+-- The same words and the same input have one text, where the status is the same; but behind `none` each valid derivation may stand.
+use Rattle.std.proofs.Common.{◌≡◌, ◌≤◌, ◌^◌, inl, inr, ℕ, Bool, true, List, length, map, refl, sym, ◌∙◌, ap, subst, arith}
+use Rattle.std.specs.Prelude.{◌⊎◌}
+use Rattle.std.specs.List.{All}
+use Rattle.std.proofs.lemmas.List.{length-map}
 use Rattle.std.proofs.lemmas.Bool.{cases_lt}
 use Rattle.geo_base.specs.Tuple.{Tuple}
+use Rattle.geo_conditions.specs.declared.cond.Cond.{Cond}
 use Rattle.geo_conditions.specs.Walk.{values}
 use Rattle.geo_conditions.proofs.Fronts.{precedes_once}
 use Rattle.geo_meaning.specs.Judged.{IsFirstBroken}
@@ -9,13 +13,19 @@ use Rattle.layout_text.specs.Block.{block_of}
 use Rattle.layout_text.specs.FirstFault as layouts
 use Rattle.problem_data.specs.Problem.{ProblemData}
 use Rattle.problem_text.specs.Canonical.{problem_text}
+use Rattle.whole_derivation.specs.Whole.{NodeFits}
+use Rattle.linear_conditions.specs.CondTree.{cond_view}
 use Rattle.rule_ground.specs.Order.{variables_for}
+use Rattle.rule_ground.specs.Start.{first_state}
 use Rattle.layout_search.specs.FirstLayout.{IsFirstLayout}
+use Rattle.layout_search.proofs.AlikeRows.{rows-alike}
 use Rattle.geost_run.specs.declared.command.Command.{Command}
 use Rattle.geost_run.specs.declared.command.Command.TheVariants.{First, Show, Judge, Check}
 use Rattle.geost_run.specs.declared.command.Status.{Status}
 use Rattle.geost_run.specs.declared.command.Status.TheVariants.{Answered, No, Refused, Budget}
-use Rattle.geost_run.specs.Answer.{broken_rule, rule_name, FirstAnswer, ShowAnswer, JudgeAnswer, AnswerTo, Answer}
+use Rattle.geost_run.specs.Accepted.{AreConditions}
+use Rattle.geost_run.specs.Words.{HasForm}
+use Rattle.geost_run.specs.Answer.{broken_rule, rule_name, ShowsNone, BothShowNone, AreAlike, FirstAnswer, ShowAnswer, JudgeAnswer, AnswerTo, Answer}
 use Rattle.geost_run.proofs.Refusals.{same_problem}
 use Rattle.geost_run.proofs.Only.{given_once, answers_to}
 use Rattle.geost_run.proofs.OneCheck.{check_text}
@@ -31,14 +41,38 @@ one_layout p t u f g = elim (f.first u g.layout) [
   ]
 ]
 
-first_text : (n : ℕ) (input t u : List ℕ) (s : Status) → FirstAnswer n input t s → FirstAnswer n input u s → t ≡ u
+-- conditions that stand for the same trees make the same derivations valid
+shows-alike : (p : ProblemData) (cs ds : List Cond) (u : List ℕ) → AreConditions p cs → AreConditions p ds → ShowsNone p ds u → ShowsNone p cs u
+shows-alike p cs ds u are is h =
+    let same : map cond_view ds ≡ map cond_view cs = is ∙ sym are in
+    let long : length ds ≡ length cs = sym (length-map ds cond_view) ∙ ap length same ∙ length-map cs cond_view in
+    record {
+      events = h.events;
+      derives = record {
+        root = h.derives.root;
+        events = h.derives.events;
+        valid = subst (All (λ (met : Bool). met ≡ true)) (rows-alike ds cs same (first_state p) h.derives.root) h.derives.valid;
+        fits = subst (λ (m : ℕ). NodeFits (first_state p) m h.derives.root) long h.derives.fits;
+      };
+      few = subst (λ (m : ℕ). m ≤ 10 ^ 9) long h.few;
+      says = h.says;
+    }
+
+-- two texts of one status, but for derivations
+abbrev AreFirstTexts : List ℕ → Status → List ℕ → List ℕ → Type 0
+AreFirstTexts input s t u = (t ≡ u) ⊎ ((s ≡ No) × BothShowNone input t u)
+
+first_text : (n : ℕ) (input t u : List ℕ) (s : Status) → FirstAnswer n input t s → FirstAnswer n input u s → AreFirstTexts input s t u
 first_text n input t u Answered (p, x, cs, a, are, l, f, e) (q, y, ds, b, is, m, g, h) =
     let same : q ≡ p = same_problem input q p b a in
     let other : u ≡ block_of p y = subst (λ (z : ProblemData). u ≡ block_of z y) same h in
-    e ∙ sym (other ∙ ap (λ (z : Tuple). block_of p z) (one_layout p x y f (subst (λ (z : ProblemData). IsFirstLayout z y) same g)))
-first_text n input t u No (p, cs, a, are, l, none, e) (q, ds, b, is, m, neither, g) = e ∙ sym g
-first_text n input t u Budget (p, cs, a, are, l, e) (q, ds, b, is, m, g) = e ∙ sym g
-first_text n input t u Refused (k, v, f, e) (q, w, g, h) = e ∙ sym (h ∙ same_refusal k q v w (one_refusal input k q v w f g))
+    inl (e ∙ sym (other ∙ ap (λ (z : Tuple). block_of p z) (one_layout p x y f (subst (λ (z : ProblemData). IsFirstLayout z y) same g))))
+first_text n input t u No (p, cs, a, are, l, none, e) (q, ds, b, is, m, neither, g) =
+    let same : q ≡ p = same_problem input q p b a in
+    let alike : AreConditions p ds = subst (λ (z : ProblemData). AreConditions z ds) same is in
+    inr (refl, (p, cs, a, are, e, shows-alike p cs ds u are alike (subst (λ (z : ProblemData). ShowsNone z ds u) same g)))
+first_text n input t u Budget (p, cs, a, are, l, e) (q, ds, b, is, m, g) = inl (e ∙ sym g)
+first_text n input t u Refused (k, v, f, e) (q, w, g, h) = inl (e ∙ sym (h ∙ same_refusal k q v w (one_refusal input k q v w f g)))
 first_text n input t u _ a b = absurd a
 
 show_text : (input t u : List ℕ) (s : Status) → ShowAnswer input t s → ShowAnswer input u s → t ≡ u
@@ -66,13 +100,16 @@ judge_text input t u No (p, x, n, g, b, e) (q, y, m, k, c, h) =
 judge_text input t u Refused (k, v, f, e) (q, w, g, h) = e ∙ sym (h ∙ same_refusal k q v w (one_pair_refusal layouts.HasFaultFrom one_fault_from input k q v w f g))
 judge_text input t u _ a b = absurd a
 
-text_of : (c : Command) (input t u : List ℕ) (s : Status) → AnswerTo c input t s → AnswerTo c input u s → t ≡ u
-text_of (First n) input t u s a b = first_text n input t u s a b
-text_of Show input t u s a b = show_text input t u s a b
-text_of Judge input t u s a b = judge_text input t u s a b
-text_of Check input t u s a b = check_text input t u s a b
+text_of : (words : List (List ℕ)) (c : Command) (input t u : List ℕ) (s : Status) → HasForm words c → AnswerTo c input t s → AnswerTo c input u s → AreAlike words input s t u
+text_of words (First n) input t u s form a b = elim (first_text n input t u s a b) [
+  | inl e ↦ inl e
+  | inr (no, both) ↦ inr (n, form, no, both)
+]
+text_of words Show input t u s form a b = inl (show_text input t u s a b)
+text_of words Judge input t u s form a b = inl (judge_text input t u s a b)
+text_of words Check input t u s form a b = inl (check_text input t u s a b)
 
-pub one_text : (words : List (List ℕ)) (input t u : List ℕ) (s : Status) → Answer words input t s → Answer words input u s → t ≡ u
-one_text words input t u s (inl (c, f, a)) b = text_of c input t u s a (answers_to words c input u s f b)
+pub one_text : (words : List (List ℕ)) (input t u : List ℕ) (s : Status) → Answer words input t s → Answer words input u s → AreAlike words input s t u
+one_text words input t u s (inl (c, f, a)) b = text_of words c input t u s f a (answers_to words c input u s f b)
 one_text words input t u s (inr h) (inl (c, f, a)) = absurd (h.none c f)
-one_text words input t u s (inr h) (inr k) = h.says ∙ sym k.says
+one_text words input t u s (inr h) (inr k) = inl (h.says ∙ sym k.says)

@@ -17,7 +17,7 @@ use Rattle.geost_run.proofs.Only.{answers_to, refused_too, given_or_refused}
 
 promised : (n : ℕ) (input text : List ℕ) (s : Status) → FirstAnswer n input text s → Promises n input text s
 promised n input text Answered (p, t, cs, a, are, l, f, e) = (p, t, a, f.layout, f.first, e)
-promised n input text No (p, cs, a, are, l, none, e) = (p, a, none, e)
+promised n input text No (p, cs, a, are, l, none, e) = (p, cs, a, are, none, e)
 promised n input text Budget (p, cs, a, are, l, e) = (p, cs, l.walked, a, are, l.front, l.ends.1, sym l.full, l.ends.2, e)
 promised n input text Refused r = r
 promised n input text _ a = a

@@ -1,16 +1,20 @@
 -- What the program answers: the text that it writes and the status that it ends with.
-use Rattle.std.specs.Prelude.{◌≡◌, ◌⊎◌, ◌++◌, ◌+◌, ◌-◌, ℕ, List, [], ◌∷◌, codes, decimal}
+use Rattle.std.specs.Prelude.{◌≡◌, ◌⊎◌, ◌≤◌, ◌++◌, ◌+◌, ◌-◌, ◌^◌, ℕ, List, [], ◌∷◌, length, codes, decimal}
 use Rattle.geo_base.specs.Tuple.{Tuple}
 use Rattle.geo_conditions.specs.declared.cond.Cond.{Cond}
 use Rattle.geo_conditions.specs.Walk.{values, IsListing, More, End, OutOfBudget}
+use Rattle.derivation.specs.declared.event.Event.{Event}
 use Rattle.derivation.specs.Nodes.{Node, node_events}
 use Rattle.derivation.specs.Valid.{Valid, FailsFirst}
 use Rattle.derivation_reading.specs.FirstFault as derivations
+use Rattle.derivation_text.specs.Lines.{derivation_text}
 use Rattle.geo_tokens.specs.declared.fault.FaultWord.{FaultWord}
 use Rattle.geo_tokens.specs.Fault.{fault_bytes}
+use Rattle.geo_tokens.specs.Names.{NameTable}
 use Rattle.layout_text.specs.Block.{block_of}
 use Rattle.layout_text.specs.FirstFault as layouts
 use Rattle.geo_meaning.specs.Judged.{IsFirstBroken, rule_at}
+use Rattle.whole_derivation.specs.Whole.{IsDerivation}
 use Rattle.problem_data.specs.Problem.{ProblemData}
 use Rattle.problem_data.specs.Layouts.{IsLayout}
 use Rattle.problem_text.specs.Canonical.{problem_text}
@@ -38,12 +42,24 @@ RefusedAnswer input text = (place : ℕ) × (word : FaultWord) × IsRefused inpu
 abbrev pub out_of_budget : ℕ → List ℕ
 out_of_budget n = codes "budget " ++ (decimal n ++ codes "\n")
 
+-- none, and the lines of a derivation
+abbrev pub no_layout : NameTable → List Event → List ℕ
+no_layout names events = codes "none\n" ++ derivation_text names events
+
+-- the text is `none` and the lines of a derivation over the problem's names. It is valid on the problem's first state under these conditions,
+-- and there are no more of them than a derivation can name
+pub record ShowsNone (p : ProblemData) (cs : List Cond) (text : List ℕ) : Type 0 where
+  pub events : List Event
+  pub derives : IsDerivation cs (first_state p) events
+  pub few : length cs ≤ 10 ^ 9
+  pub says : text ≡ no_layout (name_table p) events
+
 -- `first N`. The listing of one layout among the first N members of the walk. So the printed layout satisfies every rule by its
--- cells and its formula and precedes every other layout; `none` means that there is no layout; any other text is refused at
--- its first fault.
+-- cells and its formula and precedes every other layout; `none` means that there is no layout, and a valid derivation stands behind it; any
+-- other text is refused at its first fault.
 abbrev pub FirstAnswer : ℕ → List ℕ → List ℕ → Status → Type 0
 FirstAnswer n input text Answered = (p : ProblemData) × (t : Tuple) × (cs : List Cond) × IsAccepted input p × AreConditions p cs × IsListing (walk_of p cs) 1 n (values (variables_for p) t ∷ []) More × IsFirstLayout p t × (text ≡ block_of p t)
-FirstAnswer n input text No = (p : ProblemData) × (cs : List Cond) × IsAccepted input p × AreConditions p cs × IsListing (walk_of p cs) 1 n [] End × HasNoLayout p × (text ≡ codes "none\n")
+FirstAnswer n input text No = (p : ProblemData) × (cs : List Cond) × IsAccepted input p × AreConditions p cs × IsListing (walk_of p cs) 1 n [] End × HasNoLayout p × ShowsNone p cs text
 FirstAnswer n input text Budget = (p : ProblemData) × (cs : List Cond) × IsAccepted input p × AreConditions p cs × IsListing (walk_of p cs) 1 n [] OutOfBudget × (text ≡ out_of_budget n)
 FirstAnswer n input text Refused = RefusedAnswer input text
 FirstAnswer n input text _ = ⊥
@@ -129,3 +145,12 @@ Answer words input text status =
 abbrev pub Begins : List (List ℕ) → List ℕ → List ℕ → Type 0
 Begins words input front =
     ((command : Command) × HasForm words command × BeginsOf command input front) ⊎ FrontOf (BadWordsAnswerTo words) input front
+
+-- each of the texts is `none` and the lines of a derivation of the input's problem
+abbrev pub BothShowNone : List ℕ → List ℕ → List ℕ → Type 0
+BothShowNone input text other = (p : ProblemData) × (cs : List Cond) × IsAccepted input p × AreConditions p cs × ShowsNone p cs text × ShowsNone p cs other
+
+-- The texts that these words and this input have with a status are one, but for derivations: behind the `none` of `first` each valid one may
+-- stand.
+abbrev pub AreAlike : List (List ℕ) → List ℕ → Status → List ℕ → List ℕ → Type 0
+AreAlike words input status text other = (text ≡ other) ⊎ ((n : ℕ) × HasForm words (First n) × (status ≡ No) × BothShowNone input text other)

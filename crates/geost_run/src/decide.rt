@@ -10,9 +10,10 @@ use geo_tokens::fault::TextFault;
 use geo_tokens::first_end::first_text_end;
 use layout_search::{Outcome, search_first};
 use layout_text::read_layout;
+use problem_text::names::names;
 use std::alloc::{AllocError, Global};
 
-// The first layout of the problem, where the walk to it has at most `most` members.
+// The first layout of the problem, where the walk to it has at most `most` members; where there is none, a derivation of that.
 pub fn decide_first(alloc: Global, most: u64, text: &[u8]) -> Result<Decision, AllocError>
     ensures answer { IfOk result (λ decision.
         FirstAnswer most text.now (decision_text decision) (decision_status decision)) }
@@ -28,7 +29,10 @@ pub fn decide_first(alloc: Global, most: u64, text: &[u8]) -> Result<Decision, A
     };
     match search_first(alloc, &problem, conditions, most)? {
         Outcome::Found(layout) => Ok(Decision::Layout(problem, layout)),
-        Outcome::Nothing => Ok(Decision::Nothing),
+        Outcome::Nothing(log) => {
+            let names = names(alloc, &problem)?;
+            Ok(Decision::Nothing(names, log))
+        }
         Outcome::OutOfBudget => Ok(Decision::Budget(most)),
     }
 }

@@ -3,8 +3,10 @@ ghost use Rattle.std.specs.Prelude.{◌≡◌};
 ghost use Rattle.geost_run.specs.Decision.{decision_status};
 
 use crate::Status;
+use derivation::Log;
 use geo_conditions::Layout;
 use geo_tokens::fault::FaultWord;
+use geo_tokens::names::Names;
 use problem_data::problem::Problem;
 
 /// The answer to a command.
@@ -12,8 +14,8 @@ use problem_data::problem::Problem;
 pub enum Decision {
     /// The text is refused at a place.
     Refuse(u64, FaultWord),
-    /// There is no layout.
-    Nothing,
+    /// There is no layout, as a derivation over these names shows.
+    Nothing(Names, Log),
     /// The walk is longer than this number of members, and none of those is a layout.
     Budget(u64),
     /// A layout of the problem.
@@ -41,7 +43,7 @@ impl Decision {
             Decision::Layout(_, _) | Decision::Shown(_) | Decision::Good | Decision::Proved => {
                 Status::Answered
             }
-            Decision::Nothing | Decision::Broken(_, _) | Decision::Failing(_) => Status::No,
+            Decision::Nothing(_, _) | Decision::Broken(_, _) | Decision::Failing(_) => Status::No,
         }
     }
 }

@@ -2,13 +2,17 @@
 ghost use Rattle.std.specs.Prelude.{◌≡◌, ◌≤◌, codes, length};
 ghost use Rattle.geo_chan.specs.Written.{Prints};
 ghost use Rattle.problem_data.specs.Cells.{IsShaped};
-ghost use Rattle.geost_run.specs.Answer.{broken_rule, failing_node, out_of_budget, refusal, rule_name};
+ghost use Rattle.derivation_text.specs.Lines.{AreNamed};
+ghost use Rattle.geost_run.specs.Answer.{broken_rule, failing_node, no_layout, out_of_budget, refusal, rule_name};
 ghost use Rattle.geost_run.specs.Decision.{decision_text, IsDecided};
 ghost use Rattle.geost_run.specs.Ends.{WritesAnswer};
 
 use crate::Decision;
+use derivation::Log;
+use derivation_text::print_derivation;
 use geo_chan::{Piece, PutFault, Sink, write_all_bytes, write_pieces};
 use geo_tokens::fault::{FaultWord, fault_text};
+use geo_tokens::names::Names;
 use layout_text::print_layout;
 use problem_data::problem::Problem;
 use problem_text::print::print_problem;
@@ -26,7 +30,7 @@ pub fn write_decision<W: Sink>(
 {
     match decision {
         Decision::Refuse(place, word) => write_refusal(sink, *place, *word),
-        Decision::Nothing => write_all_bytes(sink, b"none\n"),
+        Decision::Nothing(names, log) => write_nothing(sink, names, log),
         Decision::Budget(most) => write_budget(sink, *most),
         Decision::Layout(problem, layout) => print_layout(problem, layout, sink),
         Decision::Shown(problem) => print_problem(alloc, problem, sink),
@@ -35,6 +39,15 @@ pub fn write_decision<W: Sink>(
         Decision::Proved => write_all_bytes(sink, b"yes\n"),
         Decision::Failing(node) => write_failing(sink, *node),
     }
+}
+
+fn write_nothing<W: Sink>(sink: &mut W, names: &Names, log: &Log) -> Result<(), PutFault>
+    requires { AreNamed names.now 0 log.now.events }
+    ensures { Prints W.written W.faults W.quiet sink.old sink.new result
+        (no_layout names.now log.now.events) }
+{
+    write_all_bytes(sink, b"none\n")?;
+    print_derivation(names, log, sink)
 }
 
 fn write_broken<W: Sink>(sink: &mut W, problem: &Problem, number: u16) -> Result<(), PutFault>

@@ -33,9 +33,6 @@ fn answers(
     Ok(ended == status && sink.bytes() == text && left.unwrap_or(rest) == rest)
 }
 
-const NARROW: &[u8] =
-    b"geost 1 dims 1 shape s box 0 size 2 ; object a as s at 0..1 ; object b as s at 0..1 ; rule r : apart ; end";
-
 const TWO_SHAPES: &[u8] =
     b"geost 1 dims 2 shape flat box 0 0 size 2 1 ; shape tall box 0 0 size 1 2 ; object a as flat, tall at 0..5 0..5 ; rule w : within 0..0 0..9 ; end";
 
@@ -70,7 +67,6 @@ fn words_have_their_answers(rt: HostRuntime) -> Result<(), Fail> {
             FIRST_OF_TWO_BOXES,
         ),
         (&["first", "3"], TWO_BOXES, Status::Budget, b"budget 3\n"),
-        (&["first", "1"], NARROW, Status::No, b"none\n"),
         (&["first", "1"], b"", Status::Refused, b"refused 0 syntax\n"),
         (
             &["first", "3"],

@@ -27,17 +27,17 @@ fn checks(
 }
 
 // Two boxes of size 2 on the cells 0 to 2.
-const NARROW: &[u8] =
+pub const NARROW: &[u8] =
     b"geost 1 dims 1 shape s box 0 size 2 ; object a as s at 0..1 ; object b as s at 0..1 ; rule r : apart ; end";
 
-const FALSE: &[u8] = b"geost 1 dims 1 rule f : false ; end";
+pub const FALSE: &[u8] = b"geost 1 dims 1 rule f : false ; end";
 
 // a before b before c, and c ends before a has begun.
-const CHAIN: &[u8] =
+pub const CHAIN: &[u8] =
     b"geost 1 dims 1 shape u box 0 size 1 ; object a as u at 4..9 ; object b as u at 0..9 ; object c as u at 0..5 ; rule p : a.x1 < b.x1 ; rule q : b.x1 < c.x1 ; end";
 
 // One cell between two boxes that leave none.
-const HALVES: &[u8] =
+pub const HALVES: &[u8] =
     b"geost 1 dims 1 shape u box 0 size 1 ; shape w box 0 size 500000 ; object a as u at 0..999999 ; object b as w at 0..0 ; object c as w at 500000..500000 ; rule r : apart ; end";
 
 // A problem and a derivation behind it, with the status and the text.

@@ -7,3 +7,5 @@ mod answers;
 mod checking;
 #[cfg(test)]
 mod ends;
+#[cfg(test)]
+mod nothing;
