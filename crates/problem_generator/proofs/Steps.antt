@@ -1,6 +1,7 @@
 -- One more object: its draws, and its lines behind those of the objects before it.
-use Rattle.std.proofs.Common.{◌≡◌, ℕ, zero, suc, ◌+◌, ◌-◌, ◌*◌, ◌<◌, List, [], ◌∷◌, ◌++◌, sym, ap, ◌∙◌, arith, zero-add, append-nil, append_assoc, flat_map}
+use Rattle.std.proofs.Common.{◌≡◌, ℕ, zero, suc, ◌+◌, ◌-◌, ◌*◌, ◌<◌, List, [], ◌∷◌, ◌++◌, sym, ap, ◌∙◌, arith, zero-add, add-zero, append-nil, append_assoc, flat_map}
 use Rattle.std.specs.Fn.{iterate}
+use Rattle.std.specs.List.{range_with_len}
 use Rattle.std.proofs.lemmas.List.{flat_map_more}
 use Rattle.problem_generator.specs.Draws.{next_state, state_behind, drawn_from, draw}
 use Rattle.problem_generator.specs.Made.{width, depth, height, shape_lines, numbers_to}
@@ -32,17 +33,25 @@ pub no_lines : (f : ℕ → List ℕ) (text : List ℕ) → text ≡ text ++ fla
 unfolding numbers_to
 no_lines f text = sym (append-nil text)
 
-numbers_to-next : (i : ℕ) → 0 < i → numbers_to (i - 1) ++ i ∷ [] ≡ numbers_to (i + 1 - 1)
+range_with_len-next : (a n j : ℕ) → a + n ≡ j → range_with_len a n ++ j ∷ [] ≡ range_with_len a (suc n)
+range_with_len-next a zero j e = ap (λ k. k ∷ []) (sym e ∙ add-zero a)
+range_with_len-next a (suc n) j e = let on : (a + 1) + n ≡ j = omega arith in ap (λ ks. a ∷ ks) (range_with_len-next (a + 1) n j on)
+
+pub numbers_to-next : (n : ℕ) → numbers_to n ++ suc n ∷ [] ≡ numbers_to (suc n)
 unfolding numbers_to
-numbers_to-next zero positive = absurd (omega arith)
-numbers_to-next (suc n) positive =
+numbers_to-next n = range_with_len-next 1 n (suc n) (omega arith)
+
+-- the same, counted from the number of the object
+numbers_next : (i : ℕ) → 0 < i → numbers_to (i - 1) ++ i ∷ [] ≡ numbers_to (i + 1 - 1)
+numbers_next zero positive = absurd (omega arith)
+numbers_next (suc n) positive =
     let before : suc n - 1 ≡ n = omega arith in
     let now : suc n + 1 - 1 ≡ suc n = omega arith in
-    ap (λ k. numbers_to k ++ suc n ∷ []) before ∙ ap numbers_to (sym now)
+    ap (λ k. numbers_to k ++ suc n ∷ []) before ∙ numbers_to-next n ∙ ap numbers_to (sym now)
 
 -- the lines of one more object
 pub lines_next : (f : ℕ → List ℕ) (text : List ℕ) (i : ℕ) → 0 < i → (text ++ flat_map f (numbers_to (i - 1))) ++ f i ≡ text ++ flat_map f (numbers_to (i + 1 - 1))
-lines_next f text i positive = flat_map_more f text (numbers_to (i - 1)) i ∙ ap (λ ns. text ++ flat_map f ns) (numbers_to-next i positive)
+lines_next f text i positive = flat_map_more f text (numbers_to (i - 1)) i ∙ ap (λ ns. text ++ flat_map f ns) (numbers_next i positive)
 
 pub same_shapes : (i w w' d d' h h' : ℕ) → w ≡ w' → d ≡ d' → h ≡ h' → shape_lines i w d h ≡ shape_lines i w' d' h'
 same_shapes i w w' d d' h h' p q r =

@@ -1,6 +1,7 @@
 -- The text of the problem that is made from a seed: forty objects in a rack of 20 by 20 by 10 cells. Each has two shapes, as its
 -- size was drawn and turned by a quarter.
-use Rattle.std.specs.Prelude.{ℕ, zero, suc, ◌+◌, ◌-◌, ◌*◌, List, [], ◌∷◌, ◌++◌, codes, decimal, flat_map}
+use Rattle.std.specs.Prelude.{ℕ, ◌+◌, ◌-◌, ◌*◌, List, ◌++◌, codes, decimal, flat_map}
+use Rattle.std.specs.List.{range_with_len}
 use Rattle.problem_generator.specs.Draws.{draw}
 
 -- ---- the sizes of object i, counted from 1: the draws 3 i - 2, 3 i - 1 and 3 i
@@ -36,8 +37,7 @@ object_line i = codes "object o" ++ (decimal i ++ (codes " as s" ++ (decimal i +
 
 -- the numbers from 1 to n
 unfoldable pub numbers_to : ℕ → List ℕ
-numbers_to zero = []
-numbers_to (suc n) = numbers_to n ++ suc n ∷ []
+numbers_to n = range_with_len 1 n
 
 -- the shapes of the first n objects
 abbrev pub all_shapes : ℕ → ℕ → List ℕ
