@@ -2,6 +2,7 @@
 use Rattle.std.proofs.Common.{◌≡◌, ℕ, zero, suc, ◌-◌, ◌*◌, ◌<◌, ◌≤◌, ◌<ℤ◌, List, [], ◌∷◌, length, take, map, Some, inl, inr, refl, sym, ap, ◌∙◌, subst, arith, lit≤, lit<}
 use Rattle.std.specs.Prelude.{pos, slice_get, slice_index, slice_index_or, codes}
 use Rattle.std.specs.List.{Contains}
+use Rattle.std.proofs.lemmas.Option.{slice_get_within, get_or_from_slice_get}
 use Rattle.std.proofs.lemmas.List.{take-map, length-take-le, get_or-take, length-map}
 use Rattle.std.proofs.lemmas.Int.{ints}
 use Rattle.geo_tokens.specs.Names.{AllDifferent}
@@ -20,16 +21,6 @@ use Rattle.generated_problems.proofs.Names.{shape_list, shape_at, length-shape_l
 
 -- ---- lists
 
-inside : {A : Type 0} (xs : List A) (i : ℕ) (x : A) → slice_get xs i ≡ Some x → i < length xs
-inside [] i x e = absurd cc
-inside (y ∷ ys) zero x e = omega arith
-inside (y ∷ ys) (suc i) x e = let less : i < length ys = inside ys i x e in omega arith
-
-item_is : {A : Type 0} (xs : List A) (i : ℕ) (x d : A) → slice_get xs i ≡ Some x → slice_index_or xs i d ≡ x
-item_is [] i x d e = absurd cc
-item_is (y ∷ ys) zero x d e = cc
-item_is (y ∷ ys) (suc i) x d e = item_is ys i x d e
-
 all_at : {A : Type 0} (P : A → Type 0) (xs : List A) (i : ℕ) (x : A) → AllOf P xs → slice_get xs i ≡ Some x → P x
 all_at P [] i x h e = absurd cc
 all_at P (y ∷ ys) zero x h e = let is : y ≡ x = cc in subst P is h.0
@@ -43,7 +34,7 @@ each_right R xs h f w = all_at (λ x. NoFault (R x)) xs w.index w.item h w.there
 
 few_right : (most : ℕ) (ns : List PlacedName) → length ns ≤ most → NoFault (PastLimit most ns)
 few_right most ns few f w =
-    let there : w.index < length ns = inside ns w.index w.item w.there in
+    let there : w.index < length ns = slice_get_within ns w.index w.item w.there in
     let size : length (take w.index ns) ≡ w.index = length-take-le w.index ns (omega arith) in
     let past : most ≤ length (take w.index ns) = w.wrong.0 in
     absurd (omega arith)
@@ -52,7 +43,7 @@ once_right : (ns : List PlacedName) → AllDifferent (map text_of ns) → NoFaul
 once_right ns differ f w =
     let i = w.index in
     let name = w.item.name in
-    let there : i < length ns = inside ns i w.item w.there in
+    let there : i < length ns = slice_get_within ns i w.item w.there in
     let size : length (map text_of (take i ns)) ≡ i = length-map (take i ns) text_of ∙ length-take-le i ns (omega arith) in
     let total : length (map text_of ns) ≡ length ns = length-map ns text_of in
     let k = w.wrong.0.0 in
@@ -61,7 +52,7 @@ once_right ns differ f w =
     let within : i < length (map text_of ns) = omega arith in
     let first : slice_index_or (map text_of ns) k name ≡ name =
     sym (get_or-take i (map text_of ns) k name before) ∙ ap (λ (us : List (List ℕ)). slice_index_or us k name) (take-map text_of i ns) ∙ w.wrong.0.2 in
-    let second : slice_index_or (map text_of ns) i name ≡ name = item_is (map text_of ns) i name name (map_at text_of ns i w.item w.there) in
+    let second : slice_index_or (map text_of ns) i name ≡ name = get_or_from_slice_get (map text_of ns) i name name (map_at text_of ns i w.item w.there) in
     differ k i name before within (first ∙ sym second)
 
 pub names_right : (most : ℕ) (ns : List PlacedName) → length ns ≤ most → AllDifferent (map text_of ns) → NoFault (NamesFault most ns)
@@ -87,7 +78,7 @@ sizes_right l1 l2 l3 a b c f (inr w) = each_right SizeFault (map int_of (pos l1 
 -- the only item of a list has nothing before it
 alone : {A : Type 0} (y : A) (i : ℕ) (x : A) → slice_get (y ∷ []) i ≡ Some x → (take i (y ∷ []) ≡ []) × (y ≡ x)
 alone y zero x e = (refl, cc)
-alone y (suc i) x e = let less : i < 0 = inside [] i x e in absurd (omega arith)
+alone y (suc i) x e = let less : i < 0 = slice_get_within [] i x e in absurd (omega arith)
 
 pub shape_right : (i : ℕ) (letter : List ℕ) (l1 l2 l3 : ℕ) → IsLength l1 → IsLength l2 → IsLength l3 → NoFault (ShapeFault 3 (shape_tree_of (shape i letter l1 l2 l3)))
 shape_right i letter l1 l2 l3 a b c f w = box_right w.wrong
@@ -121,7 +112,7 @@ pub no_names_right : (most : ℕ) → NoFault (NamesFault most [])
 no_names_right most = names_right most [] (omega arith) none_differ
 
 pub nothing_among : {A : Type 0} (R : List A → A → Fault → Type 0) → NoFault (Among R [])
-nothing_among R f w = let less : w.index < 0 = inside [] w.index w.item w.there in absurd (omega arith)
+nothing_among R f w = let less : w.index < 0 = slice_get_within [] w.index w.item w.there in absurd (omega arith)
 
 no_attributes_right : NoFault (AttributesFault [])
 no_attributes_right f (inl w) = no_names_right 32 f w
