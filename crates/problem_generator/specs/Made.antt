@@ -1,7 +1,7 @@
--- The text of the problem that is made from a seed: forty objects in a rack of 20 by 20 by 10 cells. Each has two shapes, as its
--- size was drawn and turned by a quarter.
-use Rattle.std.specs.Prelude.{ℕ, ◌+◌, ◌-◌, ◌*◌, List, ◌++◌, codes, decimal, flat_map}
-use Rattle.std.specs.List.{range_with_len}
+-- The text of the problem that is made from a seed: forty objects in a rack of 20 by 20 by 10
+-- cells. Each has two shapes, as its size was drawn and turned by a quarter.
+use Rattle.std.specs.Prelude.{ℕ, ◌+◌, ◌-◌, ◌*◌, List, [], ◌∷◌, ◌++◌, codes, decimal, flat_map}
+use Rattle.std.specs.List.{concat, range_with_len}
 use Rattle.problem_generator.specs.Draws.{draw}
 
 -- ---- the sizes of object i, counted from 1: the draws 3 i - 2, 3 i - 1 and 3 i
@@ -19,8 +19,9 @@ height seed i = 1 + draw seed (3 * i) 2
 
 -- a shape of three lengths
 abbrev pub shape_line : ℕ → List ℕ → ℕ → ℕ → ℕ → List ℕ
-shape_line i letter l1 l2 l3 =
-    codes "shape s" ++ (decimal i ++ (letter ++ (codes " box 0 0 0 size " ++ (decimal l1 ++ (codes " " ++ (decimal l2 ++ (codes " " ++ (decimal l3 ++ codes " ;\n"))))))))
+shape_line i letter l1 l2 l3 = concat (
+    codes "shape s" ∷ decimal i ∷ letter ∷ codes " box 0 0 0 size "
+    ∷ decimal l1 ∷ codes " " ∷ decimal l2 ∷ codes " " ∷ decimal l3 ∷ codes " ;\n" ∷ [])
 
 -- its two shapes
 abbrev pub shape_lines : ℕ → ℕ → ℕ → ℕ → List ℕ
@@ -31,7 +32,9 @@ abbrev pub drawn_shapes : ℕ → ℕ → List ℕ
 drawn_shapes seed i = shape_lines i (width seed i) (depth seed i) (height seed i)
 
 abbrev pub object_line : ℕ → List ℕ
-object_line i = codes "object o" ++ (decimal i ++ (codes " as s" ++ (decimal i ++ (codes "a, s" ++ (decimal i ++ codes "b at 0..19 0..19 0..9 ;\n")))))
+object_line i = concat (
+    codes "object o" ∷ decimal i ∷ codes " as s" ∷ decimal i ∷ codes "a, s" ∷ decimal i
+    ∷ codes "b at 0..19 0..19 0..9 ;\n" ∷ [])
 
 -- ---- the text
 
@@ -47,4 +50,6 @@ abbrev pub all_objects : ℕ → List ℕ
 all_objects n = flat_map object_line (numbers_to n)
 
 abbrev pub made_text : ℕ → List ℕ
-made_text seed = codes "geost 1 dims 3\n" ++ (all_shapes seed 40 ++ (all_objects 40 ++ codes "rule rack : within 0..19 0..19 0..9 ;\nrule free : apart ;\nend\n"))
+made_text seed = concat (
+    codes "geost 1 dims 3\n" ∷ all_shapes seed 40 ∷ all_objects 40
+    ∷ codes "rule rack : within 0..19 0..19 0..9 ;\nrule free : apart ;\nend\n" ∷ [])

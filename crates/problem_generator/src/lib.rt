@@ -1,4 +1,5 @@
-//! Problems that are made from a seed: forty objects of two shapes each in a rack, by pseudorandom sizes.
+//! Problems that are made from a seed: forty objects of two shapes each in a rack, by pseudorandom
+//! sizes.
 #![tactic(auto)]
 
 mod draws;

@@ -81,8 +81,9 @@ fn write_all_objects(text: &mut String) -> Result<(), AllocError>
     Ok(())
 }
 
-/// The canonical text of the problem that is made from a seed, which is below 2^31: forty objects that lie apart in a rack of 20 by 20
-/// by 10 cells. Each is 1 to 3 wide, 1 to 3 deep and 1 or 2 high, and may be turned by a quarter.
+/// The canonical text of the problem that is made from a seed, which is below 2^31: forty objects
+/// that lie apart in a rack of 20 by 20 by 10 cells. Each is 1 to 3 wide, 1 to 3 deep and 1 or 2
+/// high, and may be turned by a quarter.
 pub fn make_problem(alloc: Global, seed: u32) -> Result<Vec<u8>, AllocError>
     requires { seed < 2 ^ 31 }
     ensures { IfOk result (λ text. text.items ≡ made_text seed) }
