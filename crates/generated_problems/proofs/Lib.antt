@@ -1,0 +1,9 @@
+pub mod Names
+pub mod Parts
+pub mod Lines
+pub mod Canonical
+pub mod NoFaults
+pub mod Right
+pub mod Written
+pub mod Short
+pub mod ReadBack
