@@ -21,7 +21,7 @@ use Rattle.problem_data.specs.Least.{fault}
 use Rattle.problem_data.specs.Faults.{first_place, int_place}
 use Rattle.layout_text.specs.Tree.{LineTree, TokenTree, LayoutTree}
 use Rattle.layout_text.specs.Grammar.{LineWords, TupleWords, TokenWords, TokenLine, LayoutWords}
-use Rattle.layout_text.specs.Faults.{OutsideFault, LineFault, TokenFault, behind_lines, IsFault}
+use Rattle.layout_text.specs.Faults.{OutsideFault, LineFault, TokenLineFault, behind_lines, IsFault}
 use Rattle.layout_text.specs.FirstFault.{most_bytes, HasFirstFault, long, no_token, no_lines, in_lines}
 
 -- ---- tokens
@@ -203,7 +203,7 @@ module _ (n : ℕ) where
   behind_in None h = omega arith
   behind_in (Some t) h = h
 
-  token_line_in : (p : ProblemData) (ls : List LineTree) (o : Option TokenTree) (f : Fault) → InToken o → TokenFault p ls o f → f.place ≤ n
+  token_line_in : (p : ProblemData) (ls : List LineTree) (o : Option TokenTree) (f : Fault) → InToken o → TokenLineFault p ls o f → f.place ≤ n
   token_line_in p ls None f g h = absurd h
   token_line_in p ls (Some t) f g h = same_place f t.place words.Token h.1 g
 

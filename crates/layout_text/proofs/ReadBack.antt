@@ -42,8 +42,9 @@ use Rattle.layout_text.specs.Block.{shape_name, token_of, block_of}
 use Rattle.layout_text.specs.Tree.{LineTree, GroupTree, TokenTree, LayoutTree}
 use Rattle.layout_text.specs.Grammar.{TupleWords, LayoutWords}
 use Rattle.layout_text.specs.Reading.{tuple_at, layout_at}
-use Rattle.layout_text.specs.Faults.{name_of_shape, shape_names, spot_of, tuple_of, spot_in, OutsideFault, LineFault, TokenFault, IsFault}
+use Rattle.layout_text.specs.Faults.{name_of_shape, shape_names, spot_of, tuple_of, spot_in, OutsideFault, LineFault, TokenLineFault, IsFault}
 use Rattle.layout_text.specs.FirstFault.{most_bytes, Accepts, IsOnlyLayout, IsAnswered}
+use Rattle.layout_text.specs.Token.{SaysGroups, tuple_in}
 use Rattle.layout_text.proofs.Right.{tuple_good, layout_good}
 use Rattle.layout_text.proofs.Levels.{layout_reading}
 use Rattle.layout_text.proofs.Tuples.{no_line, no_object, spots_length, spot_at}
@@ -264,6 +265,10 @@ module _ (p : ProblemData) (well : IsWellFormed p) (said : IsSaid p) where
     token_spelled : (gs : List GroupTree) × TupleWords (Some gs) (tokens_from 0 (token_parts t)) × (map spot_in gs ≡ t)
     token_spelled = (tuple_again t writes_spots).reads (all_bytes (token_parts t)) (tokens_from 0 (token_parts t)) (parts_stand_whole (token_parts t))
 
+    -- the token says groups, and they give the tuple
+    pub token_says : (gs : List GroupTree) × SaysGroups (token_of t) gs × (tuple_in gs ≡ t)
+    token_says = (token_spelled.0, record { list = tokens_from 0 (token_parts t); tokens = token_cut; spells = token_spelled.1 }, token_spelled.2)
+
     -- ---- the block
 
     record Spelled : Type 0 where
@@ -311,7 +316,7 @@ module _ (p : ProblemData) (well : IsWellFormed p) (said : IsSaid p) where
           inside (x ∷ xs) zero q = omega arith
           inside (x ∷ xs) (suc j) q = let lt : j < length xs = inside xs j q in omega arith
 
-      token_right : (o : Option TokenTree) (f : Fault) → GivesTuple t o → TokenFault p tree.lines o f → ⊥
+      token_right : (o : Option TokenTree) (f : Fault) → GivesTuple t o → TokenLineFault p tree.lines o f → ⊥
       token_right None f g w = w
       token_right (Some x) f g w = let same : x ≡ g.line = (let q : Some x ≡ Some g.line = g.there in cc) in w.0 (ap (λ (y : TokenTree). map spot_in y.groups) same ∙ g.same ∙ sym same_tuple)
 

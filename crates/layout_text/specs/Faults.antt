@@ -83,10 +83,10 @@ abbrev pub MissingFault : ProblemData → ℕ → LayoutTree → Fault → Type 
 MissingFault p end t f = (length t.lines < length p.objects) × (f ≡ fault (behind_lines end t.token) words.Order)
 
 -- `token` at the word of a token line whose groups do not give the lines' tuple
-abbrev pub TokenFault : ProblemData → List LineTree → Option TokenTree → Fault → Type 0
-TokenFault p ls None f = ⊥
-TokenFault p ls (Some t) f = (map spot_in t.groups ≡ tuple_of p ls → ⊥) × (f ≡ fault t.place words.Token)
+abbrev pub TokenLineFault : ProblemData → List LineTree → Option TokenTree → Fault → Type 0
+TokenLineFault p ls None f = ⊥
+TokenLineFault p ls (Some t) f = (map spot_in t.groups ≡ tuple_of p ls → ⊥) × (f ≡ fault t.place words.Token)
 
 -- of a text that ends at `end`
 abbrev pub IsFault : ProblemData → ℕ → LayoutTree → Fault → Type 0
-IsFault p end t f = LinesFault p t.lines f ⊎ MissingFault p end t f ⊎ TokenFault p t.lines t.token f
+IsFault p end t f = LinesFault p t.lines f ⊎ MissingFault p end t f ⊎ TokenLineFault p t.lines t.token f

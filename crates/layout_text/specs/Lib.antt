@@ -5,3 +5,4 @@ pub mod Grammar
 pub mod Reading
 pub mod Faults
 pub mod FirstFault
+pub mod Token

@@ -3,7 +3,7 @@
 ghost use Rattle.std.specs.Prelude.{◌≡◌, map};
 ghost use Rattle.problem_data.specs.Least.{IsLeast};
 ghost use Rattle.layout_text.specs.View.{line_view, token_view, token_views, layout_view};
-ghost use Rattle.layout_text.specs.Faults.{LinesFault, behind_lines, MissingFault, TokenFault, IsFault};
+ghost use Rattle.layout_text.specs.Faults.{LinesFault, behind_lines, MissingFault, TokenLineFault, IsFault};
 
 mod line;
 mod tuple;
@@ -44,7 +44,7 @@ fn missing_fault(problem: &Problem, end: u64, said: &LayoutText) -> Option<Fault
 }
 
 fn token_line_fault(problem: &Problem, lines: &[LineText], line: &TokenText) -> Option<Fault>
-    ensures { IsLeast (TokenFault problem.now (map line_view lines.now)
+    ensures { IsLeast (TokenLineFault problem.now (map line_view lines.now)
         (Some (token_view line.now))) result }
 {
     let same = same_tuple(problem, lines, line.groups.as_slice());
@@ -52,7 +52,7 @@ fn token_line_fault(problem: &Problem, lines: &[LineText], line: &TokenText) -> 
 }
 
 fn token_fault(problem: &Problem, said: &LayoutText) -> Option<Fault>
-    ensures { IsLeast (TokenFault problem.now (layout_view said.now).lines
+    ensures { IsLeast (TokenLineFault problem.now (layout_view said.now).lines
         (token_views said.now.token)) result }
 {
     match &said.token {

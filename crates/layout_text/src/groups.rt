@@ -81,7 +81,7 @@ fn no_groups(alloc: Global, tokens: &[Token]) -> Result<(Vec<GroupText>, &[Token
 
 /// The groups of a tuple.
 #[tactic(auto, unfolding(crate::specs::Reading::tuple_at))]
-fn tuple(alloc: Global, tokens: &[Token]) -> Result<(Vec<GroupText>, &[Token]), Stop<'_>>
+pub fn groups(alloc: Global, tokens: &[Token]) -> Result<(Vec<GroupText>, &[Token]), Stop<'_>>
     ensures { Gives group_views result (tuple_at tokens.now) }
 {
     if next_is(tokens, Kind::Symbol(Sym::Minus)) {
@@ -97,7 +97,7 @@ fn token_line(alloc: Global, tokens: &[Token]) -> Result<(TokenText, &[Token]), 
     ensures { Gives token_view result (token_line_at tokens.now) }
 {
     let (word, rest) = token(tokens, Kind::Word(Keyword::Token))?;
-    let (groups, rest) = tuple(alloc, rest)?;
+    let (groups, rest) = groups(alloc, rest)?;
     Ok((
         TokenText {
             place: word.start,

@@ -1,4 +1,4 @@
-//! The texts of layouts: the layout block and the token are written, and a layout text is read.
+//! The texts of layouts: the layout block and the token are written, and a layout text and a token are read.
 //!
 //! A text is read in four steps: tokens, what they say (`syntax`), its first fault (`faults`), and the tuple that it gives
 //! (`build`).
@@ -12,9 +12,12 @@ mod laws;
 mod lines;
 mod names;
 mod read;
+mod spots;
 mod syntax;
+mod token;
 mod tree;
 
 pub use block::{print_layout, print_token};
 pub use laws::texts_are_read_back;
 pub use read::read_layout;
+pub use token::{TokenFault, read_token};

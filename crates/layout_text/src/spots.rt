@@ -1,0 +1,86 @@
+//! The tuple that the groups of a token give.
+
+ghost use Rattle.std.specs.Prelude.{◌≡◌, ◌↔◌, IsTrue, IfOk, length, map};
+ghost use Rattle.problem_data.specs.Cells.{IsInRanges, IsSpotOf, IsTuple};
+ghost use Rattle.problem_data.specs.Meaning.{number_of};
+ghost use Rattle.problem_data.specs.ProblemView.{range_data};
+ghost use Rattle.problem_data.specs.WellFormed.{IsObject};
+ghost use Rattle.layout_text.specs.Faults.{IsInRange, spot_in};
+ghost use Rattle.layout_text.specs.Token.{tuple_in};
+ghost use Rattle.layout_text.specs.View.{group_view};
+
+use crate::tree::GroupText;
+use geo_conditions::Layout;
+use problem_data::problem::{ObjectDef, Problem, RangeDef};
+use problem_data::tree::Int;
+use problem_syntax::numbers::values;
+use std::alloc::{AllocError, Global};
+
+// Whether the number lies in the range.
+fn is_in_range(range: &RangeDef, number: Int) -> bool
+    ensures { IsTrue result ↔ IsInRange (range_data range.now) number.value }
+{
+    range.low <= number.value && number.value <= range.high
+}
+
+// Whether each number lies in its range.
+fn are_in_ranges(ranges: &[RangeDef], origin: &[Int]) -> bool
+    requires { length ranges.now ≡ length origin.now }
+    ensures { IsTrue result
+        ↔ IsInRanges (map range_data ranges.now) (map number_of origin.now) }
+{
+    for (i, number) in origin.iter().enumerate() {
+        if !is_in_range(&ranges[i], *number) {
+            return false;
+        }
+    }
+    true
+}
+
+// Whether the group has a place of the object's list, and an origin in the object's ranges.
+fn is_spot(problem: &Problem, object: &ObjectDef, group: &GroupText) -> bool
+    requires { IsObject problem.now object.now }
+    ensures { IsTrue result ↔ IsSpotOf problem.now object.now (spot_in (group_view group.now)) }
+{
+    let origin = group.origin.as_slice();
+    let place = group.shape as usize;
+    1 <= place
+        && place <= object.shapes().len()
+        && origin.len() == problem.dims()
+        && are_in_ranges(object.ranges(), origin)
+}
+
+/// Whether the groups give a tuple of the problem.
+pub fn give_tuple(problem: &Problem, groups: &[GroupText]) -> bool
+    ensures { IsTrue result ↔ IsTuple problem.now (tuple_in (map group_view groups.now)) }
+{
+    problem.is_said();
+    let objects = problem.objects();
+    if groups.len() != objects.len() {
+        return false;
+    }
+    for (i, group) in groups.iter().enumerate() {
+        if !is_spot(problem, &objects[i], group) {
+            return false;
+        }
+    }
+    true
+}
+
+/// The tuple that the groups give.
+pub fn tuple_in(
+    alloc: Global,
+    problem: &Problem,
+    groups: &[GroupText],
+) -> Result<Layout, AllocError>
+    requires { IsTuple problem.now (tuple_in (map group_view groups.now)) }
+    ensures { IfOk result (λ t. t ≡ tuple_in (map group_view groups.now)) }
+{
+    problem.is_said();
+    let mut layout = Layout::new(alloc);
+    for group in groups {
+        let origin = values(alloc, group.origin.as_slice())?;
+        layout.push(group.shape as u8, origin.as_slice())?;
+    }
+    Ok(layout)
+}
