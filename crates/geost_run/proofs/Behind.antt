@@ -116,6 +116,8 @@ module _ (left new : Option (List ℕ)) (bytes first second : List ℕ) (read : 
           go (Shown p) x = absurd x
           go Good x = absurd x
           go (decisions.Broken p i) x = absurd x
+          go (decisions.Drawn text) x = absurd x
+          go decisions.Large x = absurd x
 
     -- the decision on the text behind an accepted problem
     pub decides_behind : (a : Accepted) (d : Decision) → HasRead first a → (more : List ℕ) × Follows is_whole new more × DecidesOn a.problem a.conditions.items (second ++ more) (length first) d → Decides CheckAnswer left d

@@ -89,6 +89,8 @@ is_answered decisions.Good = tt
 is_answered (decisions.Broken p i) = tt
 is_answered decisions.Proved = tt
 is_answered (decisions.Failing n) = tt
+is_answered (decisions.Drawn text) = tt
+is_answered decisions.Large = tt
 
 gave : (answer : List ℕ → List ℕ → Status → Type 0) (left w0 w1 : Option (List ℕ)) (d : Decision) → Decides answer left d → Appends w0 w1 (decision_text d) → Gave answer left w0 w1 (decision_status d)
 gave answer left w0 w1 d (input, told, a) bytes = record { input = input; text = decision_text d; told = told; answers = a; bytes = bytes }

@@ -9,6 +9,8 @@ use Rattle.geo_conditions.specs.declared.cond.Cond.{Cond}
 use Rattle.geo_conditions.specs.Walk.{values}
 use Rattle.geo_conditions.proofs.Fronts.{precedes_once}
 use Rattle.geo_meaning.specs.Judged.{IsFirstBroken}
+use Rattle.layout_drawing.specs.Drawing.{IsDrawing}
+use Rattle.layout_drawing.proofs.OneDrawing.{one_drawing}
 use Rattle.layout_text.specs.Block.{block_of}
 use Rattle.layout_text.specs.FirstFault as layouts
 use Rattle.problem_data.specs.Problem.{ProblemData}
@@ -20,14 +22,14 @@ use Rattle.rule_ground.specs.Start.{first_state}
 use Rattle.layout_search.specs.FirstLayout.{IsFirstLayout}
 use Rattle.layout_search.proofs.AlikeRows.{rows-alike}
 use Rattle.geost_run.specs.declared.command.Command.{Command}
-use Rattle.geost_run.specs.declared.command.Command.TheVariants.{First, Show, Judge, Check}
+use Rattle.geost_run.specs.declared.command.Command.TheVariants.{First, Show, Judge, Check, Draw}
 use Rattle.geost_run.specs.declared.command.Status.{Status}
 use Rattle.geost_run.specs.declared.command.Status.TheVariants.{Answered, No, Refused, Budget}
 use Rattle.geost_run.specs.Accepted.{AreConditions}
 use Rattle.geost_run.specs.Words.{HasForm}
-use Rattle.geost_run.specs.Answer.{broken_rule, rule_name, ShowsNone, BothShowNone, AreAlike, FirstAnswer, ShowAnswer, JudgeAnswer, AnswerTo, Answer}
+use Rattle.geost_run.specs.Answer.{broken_rule, rule_name, ShowsNone, BothShowNone, AreAlike, FirstAnswer, ShowAnswer, JudgeAnswer, DrawAnswer, AnswerTo, Answer}
 use Rattle.geost_run.proofs.Refusals.{same_problem}
-use Rattle.geost_run.proofs.Only.{given_once, answers_to}
+use Rattle.geost_run.proofs.Only.{given_once, given_formed, answers_to}
 use Rattle.geost_run.proofs.OneCheck.{check_text}
 use Rattle.geost_run.proofs.OneRefusal.{one_refusal, one_fault_from, one_pair_refusal, same_refusal}
 
@@ -100,6 +102,14 @@ judge_text input t u No (p, x, n, g, b, e) (q, y, m, k, c, h) =
 judge_text input t u Refused (k, v, f, e) (q, w, g, h) = e ∙ sym (h ∙ same_refusal k q v w (one_pair_refusal layouts.HasFaultFrom one_fault_from input k q v w f g))
 judge_text input t u _ a b = absurd a
 
+draw_text : (input t u : List ℕ) (s : Status) → DrawAnswer input t s → DrawAnswer input u s → t ≡ u
+draw_text input t u Answered (p, x, g, d) (q, y, k, e) =
+    let same = given_once input p q x y g k in
+    one_drawing p (given_formed input p x g) x t u d (subst (λ (z : Tuple). IsDrawing p z u) same.1 (subst (λ (z : ProblemData). IsDrawing z y u) same.0 e))
+draw_text input t u No (p, x, g, l, e) (q, y, k, m, h) = e ∙ sym h
+draw_text input t u Refused (k, v, f, e) (q, w, g, h) = e ∙ sym (h ∙ same_refusal k q v w (one_pair_refusal layouts.HasFaultFrom one_fault_from input k q v w f g))
+draw_text input t u _ a b = absurd a
+
 text_of : (words : List (List ℕ)) (c : Command) (input t u : List ℕ) (s : Status) → HasForm words c → AnswerTo c input t s → AnswerTo c input u s → AreAlike words input s t u
 text_of words (First n) input t u s form a b = elim (first_text n input t u s a b) [
   | inl e ↦ inl e
@@ -108,6 +118,7 @@ text_of words (First n) input t u s form a b = elim (first_text n input t u s a 
 text_of words Show input t u s form a b = inl (show_text input t u s a b)
 text_of words Judge input t u s form a b = inl (judge_text input t u s a b)
 text_of words Check input t u s form a b = inl (check_text input t u s a b)
+text_of words Draw input t u s form a b = inl (draw_text input t u s a b)
 
 pub one_text : (words : List (List ℕ)) (input t u : List ℕ) (s : Status) → Answer words input t s → Answer words input u s → AreAlike words input s t u
 one_text words input t u s (inl (c, f, a)) b = text_of words c input t u s f a (answers_to words c input u s f b)

@@ -6,11 +6,14 @@ use Rattle.geo_base.specs.Tuple.{Tuple}
 use Rattle.geo_conditions.specs.declared.cond.Cond.{Cond}
 use Rattle.geo_conditions.specs.Walk.{IsListing, More, End, OutOfBudget}
 use Rattle.geo_tokens.specs.declared.fault.FaultWord.{FaultWord}
+use Rattle.layout_drawing.specs.Drawing.{IsDrawing, IsLarge}
+use Rattle.layout_drawing.proofs.OneDrawing.{not_large}
 use Rattle.layout_text.specs.FirstFault as layouts
 use Rattle.layout_text.proofs.OneLayout.{layout_once, layout_or_fault}
 use Rattle.geo_meaning.specs.Judged.{IsFirstBroken}
 use Rattle.problem_data.specs.Problem.{ProblemData}
 use Rattle.problem_data.specs.Layouts.{IsLayout}
+use Rattle.problem_data.specs.WellFormed.{IsWellFormed}
 use Rattle.problem_data.proofs.Accepted.{accepted_well_formed}
 use Rattle.rule_ground.specs.Order.{order_of}
 use Rattle.rule_ground.specs.Start.{first_state}
@@ -19,13 +22,13 @@ use Rattle.layout_search.specs.FirstLayout.{walk_of, HasNoLayout}
 use Rattle.layout_search.proofs.Alike as alike
 use Rattle.layout_search.proofs.States.{state-is}
 use Rattle.geost_run.specs.declared.command.Command.{Command}
-use Rattle.geost_run.specs.declared.command.Command.TheVariants.{First, Show, Judge, Check}
+use Rattle.geost_run.specs.declared.command.Command.TheVariants.{First, Show, Judge, Check, Draw}
 use Rattle.geost_run.specs.declared.command.Status.{Status}
 use Rattle.geost_run.specs.declared.command.Status.TheVariants.{Answered, No, Refused, Budget, BadWords, BadToken, ReadFault, WriteFault, Memory}
 use Rattle.geost_run.specs.Accepted.{IsAccepted, AreConditions}
 use Rattle.geost_run.proofs.Refusals.{same_problem, not_refused, not_refused_pair}
 use Rattle.geost_run.specs.Words.{HasForm}
-use Rattle.geost_run.specs.Answer.{RefusedAnswer, FirstAnswer, ShowAnswer, JudgeAnswer, Gives, AnswerTo, Answer}
+use Rattle.geost_run.specs.Answer.{RefusedAnswer, FirstAnswer, ShowAnswer, JudgeAnswer, DrawAnswer, Gives, AnswerTo, Answer}
 use Rattle.geost_run.specs.Texts.{IsRefusedPair}
 use Rattle.geost_run.proofs.TwoTexts.{one-cut}
 use Rattle.geost_run.proofs.OneCheck.{check_status}
@@ -110,6 +113,10 @@ good_or_broken input p q t u n g l k b =
     let e = given_once input p q t u g k in
     broken_of_all p t n l (subst (λ (x : Tuple). IsFirstBroken p x n) e.1 (subst (λ (x : ProblemData). IsFirstBroken x u n) e.0 b))
 
+-- what is given is well formed
+pub given_formed : (input : List ℕ) (p : ProblemData) (t : Tuple) → Gives input p t → IsWellFormed p
+given_formed input p t (a, b, cut, acc, lay) = accepted_well_formed a p acc.spells
+
 -- what is refused gives nothing
 pub given_or_refused : (input : List ℕ) (p : ProblemData) (t : Tuple) (place : ℕ) (word : FaultWord) → Gives input p t → IsRefusedPair layouts.HasFaultFrom input place word → ⊥
 given_or_refused input p t place word (a, b, cut, acc, lay) = not_refused_pair layouts.HasFaultFrom input a b p place word cut acc (λ f. layout_or_fault p b t f.within word lay f.first)
@@ -131,6 +138,32 @@ judge_status input t u ReadFault r a b = absurd a
 judge_status input t u WriteFault r a b = absurd a
 judge_status input t u Memory r a b = absurd a
 judge_status input t u s _ a b = absurd b
+
+-- ---- draw
+
+-- a drawing that is too large is none
+drawn_or_large : (input text : List ℕ) (p q : ProblemData) (t u : Tuple) → Gives input p t → IsDrawing p t text → Gives input q u → IsLarge q u → ⊥
+drawn_or_large input text p q t u g d k l =
+    let e = given_once input p q t u g k in
+    not_large p (given_formed input p t g) t text d (subst (λ (x : Tuple). IsLarge p x) e.1 (subst (λ (x : ProblemData). IsLarge x u) e.0 l))
+
+draw_status : (input t u : List ℕ) (s r : Status) → DrawAnswer input t s → DrawAnswer input u r → s ≡ r
+draw_status input t u Answered Answered a b = refl
+draw_status input t u No No a b = refl
+draw_status input t u Refused Refused a b = refl
+draw_status input t u Answered No (p, x, g, d) (q, y, k, l, h) = absurd (drawn_or_large input t p q x y g d k l)
+draw_status input t u No Answered (q, y, k, l, h) (p, x, g, d) = absurd (drawn_or_large input u p q x y g d k l)
+draw_status input t u Answered Refused (p, x, g, d) (place, word, f, h) = absurd (given_or_refused input p x place word g f)
+draw_status input t u Refused Answered (place, word, f, h) (p, x, g, d) = absurd (given_or_refused input p x place word g f)
+draw_status input t u No Refused (q, y, k, l, h) (place, word, f, e) = absurd (given_or_refused input q y place word k f)
+draw_status input t u Refused No (place, word, f, e) (q, y, k, l, h) = absurd (given_or_refused input q y place word k f)
+draw_status input t u Budget r a b = absurd a
+draw_status input t u BadWords r a b = absurd a
+draw_status input t u BadToken r a b = absurd a
+draw_status input t u ReadFault r a b = absurd a
+draw_status input t u WriteFault r a b = absurd a
+draw_status input t u Memory r a b = absurd a
+draw_status input t u s _ a b = absurd b
 
 -- ---- the words
 
@@ -157,6 +190,9 @@ first_letter [] = 0
 first_letter ([] ∷ words) = 0
 first_letter ((c ∷ cs) ∷ words) = c
 
+draw_or : (name : List ℕ) → (100 ≡ first_letter (name ∷ []) → ⊥) → codes "draw" ∷ [] ≡ name ∷ [] → ⊥
+draw_or name other e = other (ap first_letter e)
+
 judge_or_check : codes "judge" ∷ [] ≡ codes "check" ∷ [] → ⊥
 judge_or_check e = (let other : 106 ≡ 99 = ap first_letter e in absurd (omega (arith, other)))
 
@@ -178,6 +214,15 @@ one_command words Show Check f g = absurd (show_or_check (sym f ∙ g))
 one_command words Check Show f g = absurd (show_or_check (sym g ∙ f))
 one_command words Judge Check f g = absurd (judge_or_check (sym f ∙ g))
 one_command words Check Judge f g = absurd (judge_or_check (sym g ∙ f))
+one_command words Draw Draw f g = refl
+one_command words (First n) Draw f g = absurd (not_alone words n (codes "draw") f g)
+one_command words Draw (First m) f g = absurd (not_alone words m (codes "draw") g f)
+one_command words Draw Show f g = absurd (draw_or (codes "show") (λ e. omega (arith, e)) (sym f ∙ g))
+one_command words Show Draw f g = absurd (draw_or (codes "show") (λ e. omega (arith, e)) (sym g ∙ f))
+one_command words Draw Judge f g = absurd (draw_or (codes "judge") (λ e. omega (arith, e)) (sym f ∙ g))
+one_command words Judge Draw f g = absurd (draw_or (codes "judge") (λ e. omega (arith, e)) (sym g ∙ f))
+one_command words Draw Check f g = absurd (draw_or (codes "check") (λ e. omega (arith, e)) (sym f ∙ g))
+one_command words Check Draw f g = absurd (draw_or (codes "check") (λ e. omega (arith, e)) (sym g ∙ f))
 
 -- an answer to words that have the form of a command is one to the command
 pub answers_to : (words : List (List ℕ)) (c : Command) (input text : List ℕ) (s : Status) → HasForm words c → Answer words input text s → AnswerTo c input text s
@@ -189,6 +234,7 @@ status_of (First n) input t u s r a b = first_status n input t u s r a b
 status_of Show input t u s r a b = show_status input t u s r a b
 status_of Judge input t u s r a b = judge_status input t u s r a b
 status_of Check input t u s r a b = check_status input t u s r a b
+status_of Draw input t u s r a b = draw_status input t u s r a b
 
 pub one_status : (words : List (List ℕ)) (input t u : List ℕ) (s r : Status) → Answer words input t s → Answer words input u r → s ≡ r
 one_status words input t u s r (inl (c, f, a)) b = status_of c input t u s r a (answers_to words c input u r f b)

@@ -3,7 +3,7 @@ use Rattle.std.proofs.Common.{◌≡◌, inl, inr, ℕ, List, refl, sym, subst}
 use Rattle.std.specs.Prelude.{Option, Some}
 use Rattle.geo_chan.specs.Causes.{Rose}
 use Rattle.geost_run.specs.declared.command.Command.{Command}
-use Rattle.geost_run.specs.declared.command.Command.TheVariants.{First, Show, Judge, Check}
+use Rattle.geost_run.specs.declared.command.Command.TheVariants.{First, Show, Judge, Check, Draw}
 use Rattle.geost_run.specs.declared.command.Status.{Status}
 use Rattle.geost_run.specs.declared.command.Status.TheVariants.{Answered, No, Refused, Budget, BadWords, BadToken, ReadFault, WriteFault, Memory}
 use Rattle.geost_run.specs.Words.{HasForm}
@@ -31,18 +31,21 @@ not-refused-by (First n) input text (p, a) r = refused_too input text p a r
 not-refused-by Show input text (p, a) r = refused_too input text p a r
 not-refused-by Judge input text (p, t, g) (place, word, r, e) = given_or_refused input p t place word g r
 not-refused-by Check input text (p, root, g) (place, word, r, e) = derived_or_refused input p root place word g r
+not-refused-by Draw input text (p, t, g) (place, word, r, e) = given_or_refused input p t place word g r
 
 no-bad-words : (c : Command) (input text : List ℕ) → AnswerTo c input text BadWords → ⊥
 no-bad-words (First m) input text a = a
 no-bad-words Show input text a = a
 no-bad-words Judge input text a = a
 no-bad-words Check input text a = a
+no-bad-words Draw input text a = a
 
 no-bad-token : (c : Command) (input text : List ℕ) → AnswerTo c input text BadToken → ⊥
 no-bad-token (First m) input text a = a
 no-bad-token Show input text a = a
 no-bad-token Judge input text a = a
 no-bad-token Check input text a = a
+no-bad-token Draw input text a = a
 
 -- where the words have a form, the texts no fault and no count rose, the answer was written, or memory ran out
 pub complete : (words : List (List ℕ)) (c : Command) (input : List ℕ) (left : Option (List ℕ)) (r0 r1 : ℕ) (w0 w1 : Option (List ℕ)) (f0 f1 : ℕ) (s : Status) → HasForm words c → left ≡ Some input → IsFaultless c input

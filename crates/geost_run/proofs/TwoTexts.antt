@@ -17,7 +17,7 @@ use Rattle.layout_text.specs.FirstFault as layouts
 use Rattle.geost_run.specs.Accepted.{IsRefused, unread, misnamed, unexpanded, ungrounded}
 use Rattle.geost_run.specs.Texts.{AreTextsOf, IsEndless, IsRefusedPair, endless, in_first, in_second}
 use Rattle.geost_run.specs.Reading.{AreFirstTexts}
-use Rattle.geost_run.specs.Answer.{JudgeAnswer, Gives}
+use Rattle.geost_run.specs.Answer.{JudgeAnswer, DrawAnswer, Gives}
 use Rattle.geost_run.specs.declared.command.Status.{Status}
 use Rattle.geost_run.specs.declared.command.Status.TheVariants.{Answered, No, Refused}
 use Rattle.geost_run.proofs.FrontEnds.{end-on, end-back}
@@ -160,6 +160,12 @@ lifts_judge input bytes out Answered h (p, t, g, l, e) = (p, t, lift-gives input
 lifts_judge input bytes out No h (p, t, n, g, b, e) = (p, t, n, lift-gives input bytes h p t g, b, e)
 lifts_judge input bytes out Refused h (place, word, r, e) = (place, word, lift-refused input bytes h place word r, e)
 lifts_judge input bytes out _ h a = a
+
+pub lifts_draw : (input bytes out : List ℕ) (status : Status) → AreFirstTexts input bytes → DrawAnswer bytes out status → DrawAnswer input out status
+lifts_draw input bytes out Answered h (p, t, g, d) = (p, t, lift-gives input bytes h p t g, d)
+lifts_draw input bytes out No h (p, t, g, l, e) = (p, t, lift-gives input bytes h p t g, l, e)
+lifts_draw input bytes out Refused h (place, word, r, e) = (place, word, lift-refused input bytes h place word r, e)
+lifts_draw input bytes out _ h a = a
 
 -- ---- where the program cuts
 

@@ -11,6 +11,7 @@ use Rattle.derivation_text.specs.Lines.{derivation_text}
 use Rattle.geo_tokens.specs.declared.fault.FaultWord.{FaultWord}
 use Rattle.geo_tokens.specs.Fault.{fault_bytes}
 use Rattle.geo_tokens.specs.Names.{NameTable}
+use Rattle.layout_drawing.specs.Drawing.{IsDrawing, IsLarge}
 use Rattle.layout_text.specs.Block.{block_of}
 use Rattle.layout_text.specs.FirstFault as layouts
 use Rattle.geo_meaning.specs.Judged.{IsFirstBroken, rule_at}
@@ -20,7 +21,7 @@ use Rattle.problem_data.specs.Layouts.{IsLayout}
 use Rattle.problem_text.specs.Canonical.{problem_text}
 use Rattle.problem_text.specs.NameTable.{name_table}
 use Rattle.geost_run.specs.declared.command.Command.{Command}
-use Rattle.geost_run.specs.declared.command.Command.TheVariants.{First, Show, Judge, Check}
+use Rattle.geost_run.specs.declared.command.Command.TheVariants.{First, Show, Judge, Check, Draw}
 use Rattle.geost_run.specs.declared.command.Status.{Status}
 use Rattle.geost_run.specs.declared.command.Status.TheVariants.{Answered, No, Refused, Budget, BadWords}
 use Rattle.rule_ground.specs.Order.{variables_for}
@@ -112,12 +113,20 @@ CheckAnswer input text No = (p : ProblemData) × (cs : List Cond) × (root : Nod
 CheckAnswer input text Refused = (place : ℕ) × (word : FaultWord) × IsRefusedPair HasDerivationFault input place word × (text ≡ refusal place word)
 CheckAnswer input text _ = ⊥
 
+-- `draw`. The drawing of the tuple, or `large` where it would have too many cells; other texts are refused at their first fault.
+abbrev pub DrawAnswer : List ℕ → List ℕ → Status → Type 0
+DrawAnswer input text Answered = (p : ProblemData) × (t : Tuple) × Gives input p t × IsDrawing p t text
+DrawAnswer input text No = (p : ProblemData) × (t : Tuple) × Gives input p t × IsLarge p t × (text ≡ codes "large\n")
+DrawAnswer input text Refused = (place : ℕ) × (word : FaultWord) × IsRefusedPair layouts.HasFaultFrom input place word × (text ≡ refusal place word)
+DrawAnswer input text _ = ⊥
+
 -- The answer to each command: one line a command.
 abbrev pub AnswerTo : Command → List ℕ → List ℕ → Status → Type 0
 AnswerTo (First n) input text status = FirstAnswer n input text status
 AnswerTo Show input text status = ShowAnswer input text status
 AnswerTo Judge input text status = JudgeAnswer input text status
 AnswerTo Check input text status = CheckAnswer input text status
+AnswerTo Draw input text status = DrawAnswer input text status
 
 -- a front part of a text that is an answer
 abbrev pub FrontOf : (List ℕ → List ℕ → Status → Type 0) → List ℕ → List ℕ → Type 0

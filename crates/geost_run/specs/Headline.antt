@@ -14,7 +14,7 @@ use Rattle.geost_run.specs.Accepted.{IsAccepted, IsRefused, AreConditions}
 use Rattle.geost_run.specs.Texts.{AreTextsOf}
 use Rattle.geost_run.specs.Answer.{refusal, out_of_budget, ShowsNone, Gives, Derives}
 use Rattle.geost_run.specs.declared.command.Command.{Command}
-use Rattle.geost_run.specs.declared.command.Command.TheVariants.{First, Show, Judge, Check}
+use Rattle.geost_run.specs.declared.command.Command.TheVariants.{First, Show, Judge, Check, Draw}
 use Rattle.geost_run.specs.declared.command.Status.{Status}
 use Rattle.geost_run.specs.declared.command.Status.TheVariants.{Answered, No, Refused, Budget, Memory}
 
@@ -42,6 +42,7 @@ IsFaultless (First n) input = (p : ProblemData) × IsAccepted input p
 IsFaultless Show input = (p : ProblemData) × IsAccepted input p
 IsFaultless Judge input = (p : ProblemData) × (t : Tuple) × Gives input p t
 IsFaultless Check input = (p : ProblemData) × (root : Node) × Derives input p root
+IsFaultless Draw input = (p : ProblemData) × (t : Tuple) × Gives input p t
 
 -- a status with which the whole of a command's answer was written, or want of memory
 abbrev pub IsComplete : Status → Type 0

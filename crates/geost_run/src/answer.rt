@@ -6,7 +6,7 @@ ghost use Rattle.geost_run.specs.Ends.{Ends, Finishes};
 ghost use Rattle.geost_run.specs.Reading.{ReadCause, TakesAtMost, most_taken};
 
 use crate::check::decide_check;
-use crate::decide::{decide_first, decide_judge, decide_show};
+use crate::decide::{decide_draw, decide_first, decide_judge, decide_show};
 use crate::{
     Command, Decision, ReadFault, Status, read_first_text, read_two_texts, write_decision,
 };
@@ -57,6 +57,10 @@ fn decide_input<S: Source>(
             Ok(decide_judge(alloc, &text)?)
         }
         Command::Check => decide_check(alloc, source),
+        Command::Draw => {
+            let text = read_two_texts(alloc, source)?;
+            Ok(decide_draw(alloc, &text)?)
+        }
     }
 }
 

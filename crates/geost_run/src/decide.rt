@@ -1,15 +1,15 @@
 // What each command that reads its texts whole answers to them.
 ghost use Rattle.std.specs.Prelude.{◌≡◌, ◌≤◌, IfOk, length};
-ghost use Rattle.geost_run.specs.Answer.{FirstAnswer, ShowAnswer, JudgeAnswer};
+ghost use Rattle.geost_run.specs.Answer.{DrawAnswer, FirstAnswer, ShowAnswer, JudgeAnswer};
 ghost use Rattle.geost_run.specs.Decision.{decision_text, decision_status, IsDecided, RefusesAs};
 
 use crate::Decision;
 use crate::accepted::{Accepted, read_accepted};
+use crate::given::{Given, read_given};
 use geo_meaning::judging::{Judged, judge_rules};
 use geo_tokens::fault::TextFault;
-use geo_tokens::first_end::first_text_end;
+use layout_drawing::drawing;
 use layout_search::{Outcome, search_first};
-use layout_text::read_layout;
 use problem_text::names::names;
 use std::alloc::{AllocError, Global};
 
@@ -56,23 +56,30 @@ pub fn decide_judge(alloc: Global, text: &[u8]) -> Result<Decision, AllocError>
         JudgeAnswer text.now (decision_text decision) (decision_status decision)) }
     ensures decided { IfOk result IsDecided }
 {
-    let end = first_text_end(text).unwrap_or(text.len());
-    let (first, second) = text.split_at(end);
-    let Accepted {
-        problem,
-        rules,
-        conditions: _,
-    } = match read_accepted(alloc, first) {
-        Ok(accepted) => accepted,
+    let Given { accepted, layout } = match read_given(alloc, text) {
+        Ok(given) => given,
         Err(fault) => return refuse(fault),
     };
-    let layout = match read_layout(alloc, &problem, second, end as u64) {
-        Ok(layout) => layout,
-        Err(fault) => return refuse(fault),
-    };
-    match judge_rules(&problem, rules.as_slice(), &layout) {
+    match judge_rules(&accepted.problem, accepted.rules.as_slice(), &layout) {
         Judged::Good => Ok(Decision::Good),
-        Judged::Broken(number) => Ok(Decision::Broken(problem, number)),
+        Judged::Broken(number) => Ok(Decision::Broken(accepted.problem, number)),
+    }
+}
+
+// The drawing of the layout that the second text gives.
+pub fn decide_draw(alloc: Global, text: &[u8]) -> Result<Decision, AllocError>
+    requires { length text.now ≤ 2097153 }
+    ensures answer { IfOk result (λ decision.
+        DrawAnswer text.now (decision_text decision) (decision_status decision)) }
+    ensures decided { IfOk result IsDecided }
+{
+    let Given { accepted, layout } = match read_given(alloc, text) {
+        Ok(given) => given,
+        Err(fault) => return refuse(fault),
+    };
+    match drawing(alloc, &accepted.problem, &layout)? {
+        Some(rows) => Ok(Decision::Drawn(rows)),
+        None => Ok(Decision::Large),
     }
 }
 

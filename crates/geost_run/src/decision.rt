@@ -30,6 +30,10 @@ pub enum Decision {
     Proved,
     /// The node of this number, from 1 in text order, is the first that fails.
     Failing(u64),
+    /// The drawing of a layout.
+    Drawn(Vec<u8>),
+    /// The drawing of a layout would have too many cells.
+    Large,
 }
 
 impl Decision {
@@ -40,10 +44,15 @@ impl Decision {
         match self {
             Decision::Refuse(_, _) => Status::Refused,
             Decision::Budget(_) => Status::Budget,
-            Decision::Layout(_, _) | Decision::Shown(_) | Decision::Good | Decision::Proved => {
-                Status::Answered
-            }
-            Decision::Nothing(_, _) | Decision::Broken(_, _) | Decision::Failing(_) => Status::No,
+            Decision::Layout(_, _)
+            | Decision::Shown(_)
+            | Decision::Good
+            | Decision::Proved
+            | Decision::Drawn(_) => Status::Answered,
+            Decision::Nothing(_, _)
+            | Decision::Broken(_, _)
+            | Decision::Failing(_)
+            | Decision::Large => Status::No,
         }
     }
 }

@@ -38,6 +38,8 @@ pub fn write_decision<W: Sink>(
         Decision::Broken(problem, number) => write_broken(sink, problem, *number),
         Decision::Proved => write_all_bytes(sink, b"yes\n"),
         Decision::Failing(node) => write_failing(sink, *node),
+        Decision::Drawn(text) => write_all_bytes(sink, text.as_slice()),
+        Decision::Large => write_all_bytes(sink, b"large\n"),
     }
 }
 

@@ -1,10 +1,10 @@
 use Rattle.std.proofs.Common.{sym, subst}
 use Rattle.geost_run.specs.declared.command.Command.{Command}
-use Rattle.geost_run.specs.Answer.{AnswerTo, FirstAnswer, ShowAnswer, JudgeAnswer}
+use Rattle.geost_run.specs.Answer.{AnswerTo, FirstAnswer, ShowAnswer, JudgeAnswer, DrawAnswer}
 use Rattle.geost_run.specs.Decision.{Decides}
 use Rattle.geost_run.specs.Reading.{IsFirstText, AreFirstTexts}
 use Rattle.geost_run.proofs.Lifting.{lifts_first, lifts_show, decided}
-use Rattle.geost_run.proofs.TwoTexts.{lifts_judge}
+use Rattle.geost_run.proofs.TwoTexts.{lifts_judge, lifts_draw}
 use Rattle.geost_run.proofs.answer.decide_input.Goals as goal
 
 pub returns-in_ok-decide_first-in-First-clause-answer :
@@ -30,3 +30,11 @@ returns-in_ok-decide_judge-in-Judge-clause-answer g c =
     subst (λ (x : Command). Decides (AnswerTo x) (g.S.Source.left c.args.source.now) d) (sym c.in-Judge.is)
     (decided AreFirstTexts JudgeAnswer (g.S.Source.left c.args.source.now) c.in_ok-text-in-Judge.text.items c.deref-in-Judge.result.now d lifts_judge c.in_ok-text-in-Judge.ensures.texts c.deref-in-Judge.ensures.value
     c.in_ok-decide_judge-in-Judge.ensures.answer)
+
+pub returns-in_ok-decide_draw-in-Draw-clause-answer :
+    goal.returns-in_ok-decide_draw-in-Draw-clause-answer
+returns-in_ok-decide_draw-in-Draw-clause-answer g c =
+    let d = c.in_ok-decide_draw-in-Draw.field-0 in
+    subst (λ (x : Command). Decides (AnswerTo x) (g.S.Source.left c.args.source.now) d) (sym c.in-Draw.is)
+    (decided AreFirstTexts DrawAnswer (g.S.Source.left c.args.source.now) c.in_ok-text-in-Draw.text.items c.deref-in-Draw.result.now d lifts_draw c.in_ok-text-in-Draw.ensures.texts c.deref-in-Draw.ensures.value
+    c.in_ok-decide_draw-in-Draw.ensures.answer)
