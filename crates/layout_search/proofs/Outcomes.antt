@@ -13,7 +13,10 @@ use Rattle.problem_data.specs.WellFormed.{IsWellFormed}
 use Rattle.rule_ground.specs.Order.{order_of, variables_for}
 use Rattle.rule_ground.specs.Start.{first_state}
 use Rattle.rule_ground.proofs.Starts.{names-each, tuples-are}
-use Rattle.trail_search.specs.Next.{Quest, Answers, AsBefore, Steps, HasFound}
+use Rattle.derivation.specs.declared.event.Event.{Event}
+use Rattle.derivation.specs.Events.{Kept}
+use Rattle.whole_derivation.specs.Whole.{IsDerivation}
+use Rattle.trail_search.specs.Next.{HasDerived, Quest, Answers, AsBefore, Steps, HasFound}
 use Rattle.trail_search.specs.declared.step.Step.{Step}
 use Rattle.trail_search.specs.declared.step.Step.TheVariants.{Found, Ended, Budget}
 use Rattle.layout_search.specs.FirstLayout.{AreConditionsOf, walk_of, IsFirstLayout, HasNoLayout, Lists, Finds}
@@ -83,8 +86,8 @@ module _ (p : ProblemData) (cs : List Cond) (well : IsWellFormed p) (state : IsS
     pub found-finds : (t : Tuple) → Answers a Found b → IsTuple p t → HasFound b t → IsFirstLayout p t
     found-finds t h it ht = let f = first-found h in subst (IsFirstLayout p) (found-once t f.0 it f.1 ht f.2) f.3
 
-    pub ended-lists : Answers a Ended b → Lists p cs n outcomes.Nothing
-    ended-lists (w, (front, count), whole, none, few, over) =
+    pub ended-lists : (log : Kept) → Answers a Ended b → Lists p cs n (outcomes.Nothing log)
+    ended-lists log (w, (front, count), whole, none, few, over) =
         ended-listed p.dims cs (first_state p) (order_of p) well.some state are.fit (names-each p well) w n (none-before w none)
         (of-walk (λ (V : Tree). IsFront V w) front) (subst (λ (V : Tree). IsWhole V w) fresh.walk whole) (omega (arith, count, few, fresh.budget))
 
@@ -92,6 +95,9 @@ module _ (p : ProblemData) (cs : List Cond) (well : IsWellFormed p) (state : IsS
     ended-finds (w, (front, count), whole, none, few, over) t l =
         ended-none p.dims cs (first_state p) (order_of p) well.some state are.fit (names-each p well) w n (none-before w none)
         (of-walk (λ (V : Tree). IsFront V w) front) (subst (λ (V : Tree). IsWhole V w) fresh.walk whole) t (good t l)
+
+    pub ended-derives : (es : List Event) → es ≡ b.events → HasDerived b → IsDerivation cs (first_state p) es
+    ended-derives es e h = subst (IsDerivation cs (first_state p)) (sym e) (of-walk (λ (V : Tree). IsDerivation V.conditions V.first b.events) h)
 
     pub budget-lists : Answers a Budget b → Lists p cs n outcomes.OutOfBudget
     budget-lists (w, (front, count), spent, more, none, over) =

@@ -1,5 +1,5 @@
 -- The first layout of a problem, and the listing of its walk.
-use Rattle.std.specs.Prelude.{◌≡◌, ◌⊎◌, ◌↔◌, ℕ, List, [], ◌∷◌, None, All}
+use Rattle.std.specs.Prelude.{◌≡◌, ◌⊎◌, ◌↔◌, ◌≤◌, ◌^◌, ℕ, List, [], ◌∷◌, length, None, All}
 use Rattle.geo_base.specs.Tuple.{Tuple}
 use Rattle.geo_conditions.specs.declared.cond.Cond.{Cond}
 use Rattle.geo_conditions.specs.Conditions.{AllFit, AllHold}
@@ -10,6 +10,7 @@ use Rattle.problem_data.specs.Cells.{IsTuple}
 use Rattle.problem_data.specs.Layouts.{DemandHolds, IsLayout}
 use Rattle.rule_ground.specs.Order.{variables_for, ComesBefore}
 use Rattle.rule_ground.specs.Start.{first_state}
+use Rattle.whole_derivation.specs.Whole.{IsDerivation}
 use Rattle.layout_search.specs.declared.first.Outcome.{Outcome}
 use Rattle.layout_search.specs.declared.first.Outcome.TheVariants.{Found, Nothing, OutOfBudget}
 
@@ -34,11 +35,18 @@ HasNoLayout p = (t : Tuple) → IsLayout p t → ⊥
 -- the listing of one layout among the first n members of the walk: its full member, and the word that ends it
 abbrev pub Lists : ProblemData → List Cond → ℕ → Outcome → Type 0
 Lists p cs n (Found t) = IsListing (walk_of p cs) 1 n (values (variables_for p) t ∷ []) More
-Lists p cs n Nothing = IsListing (walk_of p cs) 1 n [] End
+Lists p cs n (Nothing log) = IsListing (walk_of p cs) 1 n [] End
 Lists p cs n OutOfBudget = IsListing (walk_of p cs) 1 n [] walk.OutOfBudget
 
 -- the layout that is found is the first one; where nothing is found, there is none
 abbrev pub Finds : ProblemData → Outcome → Type 0
 Finds p (Found t) = IsFirstLayout p t
-Finds p Nothing = HasNoLayout p
+Finds p (Nothing log) = HasNoLayout p
 Finds p OutOfBudget = Unit {0}
+
+-- where nothing is found, the events that were kept are a derivation, which is valid on the first state; and there are at most as many
+-- conditions as the numbers of a derivation can name
+abbrev pub Derives : ProblemData → List Cond → Outcome → Type 0
+Derives p cs (Found t) = Unit {0}
+Derives p cs (Nothing log) = IsDerivation cs (first_state p) log.events × (length cs ≤ 10 ^ 9)
+Derives p cs OutOfBudget = Unit {0}

@@ -1,14 +1,14 @@
 //! The first layout, and when there is none within the budget.
 
-ghost use Rattle.std.specs.Prelude.{◌≡◌, ◌<◌, ◌≤◌, ◌++◌, [], ◌∷◌, IfOk, IsSome, OnOk, length, map};
+ghost use Rattle.std.specs.Prelude.{◌≡◌, ◌^◌, ◌<◌, ◌≤◌, ◌++◌, [], ◌∷◌, IfOk, IsSome, OnOk, length, map};
 ghost use Rattle.geo_base.specs.Tuple.{Tuple, spot};
 ghost use Rattle.problem_data.specs.Cells.{IsTuple};
 ghost use Rattle.rule_ground.specs.Start.{first_state};
 ghost use Rattle.trail_search.specs.Next.{HasFound};
-ghost use Rattle.layout_search.specs.FirstLayout.{AreConditionsOf, Finds, Lists};
+ghost use Rattle.layout_search.specs.FirstLayout.{AreConditionsOf, Derives, Finds, Lists};
 ghost use Rattle.layout_search.specs.Found.{HasFoundIn};
 
-use derivation::NoRecord;
+use derivation::Log;
 use fixpoint::Fixpoint;
 use geo_base::MAX_DIMS;
 use geo_conditions::{Cond, Layout, MAX_OBJECTS, ObjId};
@@ -28,14 +28,15 @@ const MAX_CONDITIONS: usize = 1_000_000_000;
 pub enum Outcome {
     /// This is the first layout.
     Found(Layout),
-    /// There is no layout.
-    Nothing,
+    /// There is no layout. The events are one derivation, which is valid on the first state.
+    Nothing(Log),
     /// The walk goes on past the budget, and no layout was met before.
     OutOfBudget,
 }
 
 /// The first layout of the problem in its search order, where these are its conditions: the first full member of the walk
 /// among its first `budget` members. A member is a prefix of values with which the conditions still leave a supported state.
+/// Where there is none, the search's record shows it.
 pub fn search_first(
     alloc: Global,
     problem: &Problem,
@@ -45,6 +46,7 @@ pub fn search_first(
     requires conditions { AreConditionsOf problem.now conditions.items }
     ensures walk { IfOk result (Lists problem.now conditions.items budget) }
     ensures layout { IfOk result (Finds problem.now) }
+    ensures derivation { IfOk result (Derives problem.now conditions.items) }
 {
     problem.is_said();
     match problem.dims() {
@@ -83,6 +85,7 @@ fn propagator_of<const K: usize>(
         ⟦<Fixpoint<K> as Propagate<K>>⟧.conditions p ≡ conditions.items) }
     ensures objects { IfOk result (λ p.
         ⟦<Fixpoint<K> as Propagate<K>>⟧.objects p ≡ objects) }
+    ensures few { IfOk result (λ p. length conditions.items ≤ 10 ^ 9) }
 {
     if conditions.len() > MAX_CONDITIONS {
         return Err(AllocError);
@@ -103,19 +106,20 @@ fn search_in<const K: usize>(
     requires conditions { AreConditionsOf problem.now conditions.items }
     ensures walk { IfOk result (Lists problem.now conditions.items budget) }
     ensures layout { IfOk result (Finds problem.now) }
+    ensures derivation { IfOk result (Derives problem.now conditions.items) }
 {
     problem.is_said();
     let first = start_state::<K>(alloc, problem)?;
     let _objects = first.objects();
     let order = search_order(alloc, problem)?;
     let propagator = propagator_of(alloc, conditions, problem.objects().len())?;
-    let record = NoRecord::new();
+    let record = Log::new(alloc);
     let mut search = Search::start(alloc, first, order, None, budget, propagator, record)?;
     match search.next() {
         Step::Found => Ok(Outcome::Found(found_layout(alloc, problem, &search)?)),
-        Step::Ended => Ok(Outcome::Nothing),
+        Step::Ended => Ok(Outcome::Nothing(search.into_recorder())),
         Step::Budget => Ok(Outcome::OutOfBudget),
-        Step::Memory => unreachable!(),
+        Step::Memory => Err(AllocError),
     }
 }
 
@@ -123,7 +127,7 @@ fn search_in<const K: usize>(
 fn found_layout<const K: usize>(
     alloc: Global,
     problem: &Problem,
-    search: &Search<K, Fixpoint<K>, NoRecord>,
+    search: &Search<K, Fixpoint<K>, Log>,
 ) -> Result<Layout, AllocError>
     requires k { K ≤ MAX_DIMS }
     requires dims { problem.now.dims ≡ K }
@@ -141,7 +145,7 @@ fn found_layout<const K: usize>(
 
 // Appends where the search has put the object.
 fn push_spot<const K: usize>(
-    search: &Search<K, Fixpoint<K>, NoRecord>,
+    search: &Search<K, Fixpoint<K>, Log>,
     o: ObjId,
     layout: &mut Layout,
 ) -> Result<(), AllocError>

@@ -82,14 +82,14 @@ first_place G N o zero v e there least q m = absurd (false≢true there)
 first_place G N o (suc k) v e there least q m =
     let ps = (reach G o).places in
     let same : m.places ≡ alone (suc k) ps = ext_get_or false m.places (alone (suc k) ps) (m.size ∙ sym (length-set (map (λ _. false) ps) k (get_or ps k false) ∙ length_none ps)) (λ i l.
-      let l' : i < length ps = omega (arith, l, m.size) in
-      elim (cases_eq i k) [
-        | inl here ↦ m.kept i (inl (omega (arith, here))) ∙ ap (λ (j : ℕ). get_or ps j false) here ∙ sym ((alone_at k ps i l').0 here)
-        | inr other ↦ elim (cases_lt i k) [
-          | inl b ↦ m.kept i (inl (omega (arith, b))) ∙ before_least G o (suc k) i least (omega (arith, b)) ∙ sym ((alone_at k ps i l').1 other)
-          | inr b ↦ m.gone i (omega (arith, b, other)) (omega (arith, l', e)) ∙ sym ((alone_at k ps i l').1 other)
-        ]
-      ]) in
+    let l' : i < length ps = omega (arith, l, m.size) in
+    elim (cases_eq i k) [
+      | inl here ↦ m.kept i (inl (omega (arith, here))) ∙ ap (λ (j : ℕ). get_or ps j false) here ∙ sym ((alone_at k ps i l').0 here)
+      | inr other ↦ elim (cases_lt i k) [
+        | inl b ↦ m.kept i (inl (omega (arith, b))) ∙ before_least G o (suc k) i least (omega (arith, b)) ∙ sym ((alone_at k ps i l').1 other)
+        | inr b ↦ m.gone i (omega (arith, b, other)) (omega (arith, l', e)) ∙ sym ((alone_at k ps i l').1 other)
+      ]
+    ]) in
     m.state ∙ ap (λ (qs : List Bool). set G o (with_places (reach G o) qs)) same ∙ ap (λ (z : ℤ). with_first (PlaceOf o) z G) (sym q)
 
 -- without the places up to the least one the others are left
@@ -99,13 +99,13 @@ later_place G N o (suc k) c there least q m =
     let ps = (reach G o).places in
     let at : suc k - 1 ≡ k = omega arith in
     let same : m.places ≡ set ps k false = ext_get_or false m.places (set ps k false) (m.size ∙ sym (length-set ps k false)) (λ i l.
-      elim (cases_eq i k) [
-        | inl here ↦ m.gone i (omega arith) (omega (arith, q, here)) ∙ sym (ap (λ (j : ℕ). get_or (set ps k false) j false) here ∙ set_gone_at ps k)
-        | inr other ↦ elim (cases_lt i k) [
-          | inl b ↦ m.gone i (omega arith) (omega (arith, q, b)) ∙ sym (get_or-set_other ps k i false false other ∙ before_least G o (suc k) i least (omega (arith, b)))
-          | inr b ↦ m.kept i (inr (omega (arith, q, b, other))) ∙ sym (get_or-set_other ps k i false false other)
-        ]
-      ]) in
+    elim (cases_eq i k) [
+      | inl here ↦ m.gone i (omega arith) (omega (arith, q, here)) ∙ sym (ap (λ (j : ℕ). get_or (set ps k false) j false) here ∙ set_gone_at ps k)
+      | inr other ↦ elim (cases_lt i k) [
+        | inl b ↦ m.gone i (omega arith) (omega (arith, q, b)) ∙ sym (get_or-set_other ps k i false false other ∙ before_least G o (suc k) i least (omega (arith, b)))
+        | inr b ↦ m.kept i (inr (omega (arith, q, b, other))) ∙ sym (get_or-set_other ps k i false false other)
+      ]
+    ]) in
     m.state ∙ ap (λ (qs : List Bool). set G o (with_places (reach G o) qs)) (same ∙ ap (λ (j : ℕ). set ps j false) (sym at))
 
 -- the bound behind the first value of a place

@@ -136,7 +136,7 @@ module _ (p q : Position) (x : Variable) (u : ℤ) (o : Opens p q x u) where
       → ((HasAfter p.trail.state x u → ⊥) → IsClosedRecord cs p es) → IsClosedRecord cs q es
   opened_closes cs es f later none =
       let below : (gs : List Event) → IsClosedRecord cs p gs → ClosesCase cs q.first (level q) (depth p) gs = λ gs h.
-          subst (λ (S : State). ClosesCase cs S (level q) (depth p) gs) (sym o.first) (closes_as cs p.first (level p) (level q) (depth p) gs opened_below h) in
+      subst (λ (S : State). ClosesCase cs S (level q) (depth p) gs) (sym o.first) (closes_as cs p.first (level p) (level q) (depth p) gs opened_below h) in
       subst (λ (n : ℕ). ClosesCase cs q.first (level q) n es) (sym opened_depth)
       (subst (λ (k : Level). IsFirstValue k.restores k.variable k.value × (HasLater k → (fs : List Event) → IsDerivation cs (later_case k) fs → ClosesCase cs q.first (level q) (depth p) (es ++ fs)) × ((HasLater k → ⊥) → ClosesCase cs q.first (level q) (depth p) es))
       opened_last
@@ -145,10 +145,10 @@ module _ (p q : Position) (x : Variable) (u : ℤ) (o : Opens p q x u) where
   pub opened_record : (cs : List Cond) (old new : List Event) → IsFirstValue p.trail.state x u → HalfFits p.trail.state (object_of x) (half_of x u) → IsFixedTo p.trail.state x u q.trail.state → RecordsCases p.trail.state x u old new → IsRecord cs p old → IsRecord cs q new
   opened_record cs old new f fits fixed cases r = λ fs d. opened_closes cs (new ++ fs) f
       (λ later gs e.
-        let both = split_derives cs p.trail.state (object_of x) (half_of x u) fs gs fits (subst (λ (S : State). IsDerivation cs S fs) (fixed.0 later) d) e in
-        subst (IsClosedRecord cs p)
-        (sym (ap (λ (es : List Event). (es ++ fs) ++ gs) (cases.0 later) ∙ ap (λ (es : List Event). es ++ gs) (append_assoc old (split_of x u ∷ []) fs) ∙ append_assoc old (split_of x u ∷ fs) gs))
-        (r (split_of x u ∷ (fs ++ gs)) both))
+      let both = split_derives cs p.trail.state (object_of x) (half_of x u) fs gs fits (subst (λ (S : State). IsDerivation cs S fs) (fixed.0 later) d) e in
+      subst (IsClosedRecord cs p)
+      (sym (ap (λ (es : List Event). (es ++ fs) ++ gs) (cases.0 later) ∙ ap (λ (es : List Event). es ++ gs) (append_assoc old (split_of x u ∷ []) fs) ∙ append_assoc old (split_of x u ∷ fs) gs))
+      (r (split_of x u ∷ (fs ++ gs)) both))
       (λ none. subst (λ (es : List Event). IsClosedRecord cs p (es ++ fs)) (sym (cases.1 none)) (r fs (subst (λ (S : State). IsDerivation cs S fs) (fixed.1 none) d)))
 
 -- ---- a level is closed

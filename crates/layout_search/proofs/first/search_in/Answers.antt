@@ -1,15 +1,17 @@
-use Rattle.std.proofs.Common.{◌≡◌, ◌≤◌, ℕ, None, sym, ap, length, map, ◌∙◌, subst, refl, arith, All}
+use Rattle.std.proofs.Common.{◌≡◌, ◌≤◌, ◌==◌, ◌||◌, ℕ, Bool, true, false, List, None, sym, ap, length, map, ◌∙◌, subst, refl, arith, All}
 use Rattle.std.proofs.lemmas.Int.{ints}
 use Rattle.std.proofs.lemmas.List.{length-map}
 use Rattle.geo_conditions.specs.Walk.{Tree, Order, NamesEach, variables_in}
 use Rattle.geo_conditions.specs.Conditions.{FitsIn, AllFit}
 use Rattle.geo_conditions.specs.Reach.{State, Reach}
 use Rattle.geo_conditions.specs.declared.cond.Cond.{Cond}
+use Rattle.derivation.specs.declared.event.Event.{Event}
+use Rattle.trail_search.specs.Next.{is_found}
 use Rattle.indexical.specs.declared.any.AnyIndexical.{AnyIndexical}
 use Rattle.rule_ground.specs.Start.{whole_reach, first_state}
 use Rattle.layout_search.specs.FirstLayout.{walk_of}
 use Rattle.layout_search.proofs.States.{state-is}
-use Rattle.layout_search.proofs.Outcomes.{fresh-search, first-answer, found-in, found-lists, found-finds, ended-lists, ended-finds, budget-lists}
+use Rattle.layout_search.proofs.Outcomes.{fresh-search, first-answer, found-in, found-lists, found-finds, ended-lists, ended-finds, ended-derives, budget-lists}
 use Rattle.layout_search.proofs.first.search_in.Goals as goal
 
 pub start-requires : goal.start-requires
@@ -85,7 +87,7 @@ returns-in-Ended-clause-walk g c =
     let f = fresh-search p cs (map (λ (x : AnyIndexical g.row.K). x.cond) c.in_ok-propagator.propagator.list.items) c.in_ok-first.first c.in_ok-order.order c.args.budget a c.in_ok-propagator.ensures.conditions c.in_ok-first.ensures.value c.in_ok-order.ensures.value
     c.in_ok-search.ensures.walk c.in_ok-search.ensures.budget c.in_ok-search.ensures.walked in
     let h = first-answer a b _ c.in_ok-search.ensures.over c.in-Ended.ensures.steps in
-    ended-lists p cs well (state-is p well) c.requires.conditions c.args.budget a b f h.0 h.1
+    ended-lists p cs well (state-is p well) c.requires.conditions c.args.budget a b f h.0 _ h.1
 
 pub returns-in-Ended-clause-layout : goal.returns-in-Ended-clause-layout
 returns-in-Ended-clause-layout g c =
@@ -110,3 +112,21 @@ returns-in-Budget-clause-walk g c =
     c.in_ok-search.ensures.walk c.in_ok-search.ensures.budget c.in_ok-search.ensures.walked in
     let h = first-answer a b _ c.in_ok-search.ensures.over c.in-Budget.ensures.steps in
     budget-lists p cs well (state-is p well) c.requires.conditions c.args.budget a b f h.0 h.1
+
+pub returns-in-Ended-clause-derivation : goal.returns-in-Ended-clause-derivation
+returns-in-Ended-clause-derivation g c =
+    let p = c.args.problem.now in
+    let cs = c.args.conditions.items in
+    let a = c.in_ok-search.search in
+    let b = c.next.new.self in
+    let well = c.is_said.ensures.formed in
+    let f = fresh-search p cs (map (λ (x : AnyIndexical g.row.K). x.cond) c.in_ok-propagator.propagator.list.items) c.in_ok-first.first c.in_ok-order.order c.args.budget a c.in_ok-propagator.ensures.conditions c.in_ok-first.ensures.value c.in_ok-order.ensures.value
+    c.in_ok-search.ensures.walk c.in_ok-search.ensures.budget c.in_ok-search.ensures.walked in
+    let h = first-answer a b _ c.in_ok-search.ensures.over c.in-Ended.ensures.steps in
+    let none : b.some_found ≡ false = c.next.ensures.some_found ∙ ap (λ (x : Bool). x || is_found c.next.result) c.in_ok-search.ensures.some_found ∙ ap is_found c.in-Ended.is in
+    let empty : a.began_empty ≡ true = c.in_ok-search.ensures.began_empty refl ∙ ap (λ (es : List Event). length es == 0) c.new-record.ensures.events in
+    (
+      ended-derives p cs well (state-is p well) c.requires.conditions c.args.budget a b f h.0 c.into_recorder.result.events c.into_recorder.ensures.events
+          (c.next.ensures.derived refl c.in-Ended.is none empty (ap (λ (W : Tree). W.after) c.in_ok-search.ensures.walk)),
+      c.in_ok-propagator.ensures.few,
+    )
