@@ -15,11 +15,13 @@ moved k t = record { kind = t.kind; start = k + t.start; end = k + t.end }
 
 -- A line feed ends white space and comments, whatever stands behind it.
 abbrev pub BlanksEnd : Type 0
-BlanksEnd = (blank more : List ℕ) → IsBlank blank → Cut (length blank) (codes "\n" ++ more) 0 (blank ++ (codes "\n" ++ more)) []
+BlanksEnd = (blank more : List ℕ) → IsBlank blank
+    → Cut (length blank) (codes "\n" ++ more) 0 (blank ++ (codes "\n" ++ more)) []
 
 -- A first word `end` stays the first one where a line feed and more is put behind the text.
 abbrev pub FirstEndsStay : Type 0
-FirstEndsStay = (text more : List ℕ) (end : ℕ) → IsFirstEnd text end → IsFirstEnd (text ++ (codes "\n" ++ more)) end
+FirstEndsStay = (text more : List ℕ) (end : ℕ) → IsFirstEnd text end
+    → IsFirstEnd (text ++ (codes "\n" ++ more)) end
 
 -- The tokens of a text stand as far behind as the text does, and each is still the same bytes.
 abbrev pub TokensMove : Type 0

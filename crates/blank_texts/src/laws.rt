@@ -1,4 +1,5 @@
-//! The laws of texts that are put together. Each function has a law as its contract, and does nothing.
+//! The laws of texts that are put together. Each function has a law as its contract, and does
+//! nothing.
 
 ghost use Rattle.blank_texts.specs.Blank.{BlanksEnd, FirstEndsStay, TokensMove};
 

@@ -1,5 +1,5 @@
 -- The numbers of a derivation that fits a state are ones that a text can have.
-use Rattle.std.proofs.Common.{◌≤◌, ◌≤ℤ◌, ℕ, ◌+◌, pos, negsuc, List, [], ◌∷◌, ◌++◌, inl, inr, arith}
+use Rattle.std.proofs.Common.{◌≤◌, ℕ, pos, List, [], ◌∷◌, ◌++◌, inl, inr, arith}
 use Rattle.std.specs.List.{All}
 use Rattle.std.proofs.lemmas.Int.{ints}
 use Rattle.std.proofs.lemmas.List.Elements.{All-nil, All-cons, All-append}

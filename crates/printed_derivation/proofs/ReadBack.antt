@@ -3,6 +3,7 @@ use Rattle.std.proofs.Common.{◌≡◌, ℕ, ◌+◌, ◌≤◌, List, [], ◌�
 use Rattle.std.specs.Prelude.{codes}
 use Rattle.std.specs.List.{All}
 use Rattle.std.proofs.lemmas.List.{length-append}
+use Rattle.std.proofs.Math.Nat.{le_trans}
 use Rattle.std.proofs.Math.Seq.{take-length}
 use Rattle.geo_tokens.specs.declared.token.Token.{Token}
 use Rattle.geo_tokens.specs.declared.token.Kind.{Kind}
@@ -22,7 +23,7 @@ use Rattle.geo_conditions.specs.declared.cond.Cond.{Cond}
 use Rattle.geo_conditions.specs.Reach.{State}
 use Rattle.derivation.specs.declared.event.Event.{Event}
 use Rattle.derivation.specs.Nodes.{Node, node_events}
-use Rattle.derivation_text.specs.Lines.{derivation_text, AreNamed}
+use Rattle.derivation_text.specs.Lines.{AreNamed}
 use Rattle.derivation_reading.specs.Terminals.{Lexeme, terminal_of, name_by, lexeme, lexemes}
 use Rattle.derivation_reading.specs.Grammar.{lookup}
 use Rattle.derivation_reading.specs.Machine.{Spells}
@@ -102,5 +103,40 @@ read_back n S cs es names table d few =
 -- ---- behind white space and comments
 
 module _ (n : NameTable) (es : List Event) (blank text : List ℕ) (front : IsBlank blank) (r : IsText n text es) where
-  before : List ℕ
+  -- the text and all that stands in front of it
+  abbrev before : List ℕ
   before = blank ++ 10 ∷ []
+
+  same_text : before ++ text ≡ blank ++ (10 ∷ text)
+  same_text = append_assoc blank (10 ∷ []) text
+
+  size : length before ≡ length blank + 1
+  size = length-append blank (10 ∷ [])
+
+  gaps : Cut (length before) text 0 (blank ++ (10 ∷ text)) []
+  gaps = subst (λ (m : ℕ). Cut m text 0 (blank ++ (10 ∷ text)) []) (sym size) (gap_more (length blank) 1 (10 ∷ text) (white refl refl) 0 (blank ++ (10 ∷ text)) [] (blank_stays text (length blank) 0 blank front))
+
+  tokens_behind : Cut (length before + r.end) r.rest 0 (blank ++ (10 ∷ text)) (map (moved (length before)) r.tokens)
+  tokens_behind =
+      gaps_then (length before) (length before + r.end) text r.rest (map (moved (length before)) r.tokens)
+      (tokens_moved before text r.rest r.end r.tokens r.cut) 0 (blank ++ (10 ∷ text)) gaps
+
+  pub behind_blank : length (blank ++ (10 ∷ text)) ≤ most_bytes → IsText n (blank ++ (10 ∷ text)) es
+  behind_blank short = record {
+    tokens = map (moved (length before)) r.tokens;
+    end = length before + r.end;
+    rest = r.rest;
+    cut = tokens_behind;
+    short = (let all : length before + r.end + length r.rest ≡ 0 + length (blank ++ (10 ∷ text)) = cut_length (length before + r.end) r.rest 0 (blank ++ (10 ∷ text)) (map (moved (length before)) r.tokens) tokens_behind in
+        let some : length before + r.end ≤ length (blank ++ (10 ∷ text)) = omega arith in
+        le_trans some short);
+    spells = subst (λ (ws : List Lexeme). Spells (lookup n) ws es)
+        (sym (ap (λ (u : List ℕ). lexemes u (map (moved (length before)) r.tokens)) (sym same_text) ∙ moved_seen before text r.tokens)) r.spells;
+  }
+
+pub read_back_behind : (n : NameTable) (S : State) (cs : List Cond) (es : List Event) (blank : List ℕ) → IsNameTable n → IsTableOf n S → IsDerivation cs S es
+    → length cs ≤ 1000000000 → IsBlank blank → length (printed_behind blank n es) ≤ most_bytes → IsText n (printed_behind blank n es) es
+read_back_behind n S cs es blank names table d few front short =
+    let all : length (printed_behind blank n es) ≡ length blank + length (10 ∷ printed n es) = length-append blank (10 ∷ printed n es) in
+    let some : length (printed n es) ≤ length (printed_behind blank n es) = omega arith in
+    behind_blank n es blank (printed n es) front (read_back n S cs es names table d few (le_trans some short)) short

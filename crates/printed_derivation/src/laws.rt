@@ -1,13 +1,14 @@
 //! The laws of printed derivations. Each function has a law as its contract, and does nothing.
 
-ghost use Rattle.printed_derivation.specs.Laws.{AreAllNamed, AreAllLimited, IsReadBack, IsReadBackBehind};
+ghost use Rattle.printed_derivation.specs.Laws.{AreAllNamed, AreAllLimited};
+ghost use Rattle.printed_derivation.specs.Laws.{IsReadBack, IsReadBackBehind};
 
 /// What a derivation names has a name, in a table of the state that it fits.
 pub fn are_all_named()
     ensures { AreAllNamed }
 {}
 
-/// The numbers of a derivation are ones that a text can have, where there are not too many conditions.
+/// The numbers of a derivation are ones that a text can have, where conditions are not too many.
 pub fn are_all_limited()
     ensures { AreAllLimited }
 {}

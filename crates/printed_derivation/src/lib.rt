@@ -1,4 +1,5 @@
-//! Printed derivations: what is printed where a problem has no layout is read back as the derivation that was found.
+//! Printed derivations: what is printed where a problem has no layout is read back as the
+//! derivation that was found.
 #![tactic(auto)]
 
 mod laws;
