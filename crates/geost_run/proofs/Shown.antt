@@ -49,7 +49,7 @@ no-object p o s h e =
     no-place s (subst (λ (r : Reach). place_in r.places s ≡ true) (get_or_past (first_state p) o nowhere past) e)
 
 -- the names of a problem are a table of its first state
-table-of : (p : ProblemData) → IsWellFormed p → IsTableOf (name_table p) (first_state p)
+pub table-of : (p : ProblemData) → IsWellFormed p → IsTableOf (name_table p) (first_state p)
 table-of p w = record {
   objects = length-map p.objects named_object ∙ sym (length-map p.objects whole_reach);
   dims = λ o h. dimensions-of p w o (subst (λ (m : ℕ). o < m) (length-map p.objects whole_reach) h);

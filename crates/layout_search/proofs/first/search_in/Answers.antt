@@ -53,8 +53,8 @@ found_layout-requires g c =
     let h = first-answer a b _ c.in_ok-search.ensures.over c.in-Found.ensures.steps in
     (omega arith, (omega arith, (c.requires.k.1, (c.requires.dims, (ap (λ (W : Tree). W.first) (h.0 ∙ f.walk), found-in p cs well (state-is p well) c.requires.conditions c.args.budget a b f h.0 h.1)))))
 
-pub returns-in-Found-clause-walk : goal.returns-in-Found-clause-walk
-returns-in-Found-clause-walk g c =
+pub returns-in_ok-found_layout-in-Found-clause-walk : goal.returns-in_ok-found_layout-in-Found-clause-walk
+returns-in_ok-found_layout-in-Found-clause-walk g c =
     let p = c.args.problem.now in
     let cs = c.args.conditions.items in
     let a = c.in_ok-search.search in
@@ -65,8 +65,8 @@ returns-in-Found-clause-walk g c =
     let h = first-answer a b _ c.in_ok-search.ensures.over c.in-Found.ensures.steps in
     found-lists p cs well (state-is p well) c.requires.conditions c.args.budget a b f h.0 c.in_ok-found_layout-in-Found.field-0 h.1 c.in_ok-found_layout-in-Found.ensures.1 c.in_ok-found_layout-in-Found.ensures.0
 
-pub returns-in-Found-clause-layout : goal.returns-in-Found-clause-layout
-returns-in-Found-clause-layout g c =
+pub returns-in_ok-found_layout-in-Found-clause-layout : goal.returns-in_ok-found_layout-in-Found-clause-layout
+returns-in_ok-found_layout-in-Found-clause-layout g c =
     let p = c.args.problem.now in
     let cs = c.args.conditions.items in
     let a = c.in_ok-search.search in
@@ -87,7 +87,7 @@ returns-in-Ended-clause-walk g c =
     let f = fresh-search p cs (map (λ (x : AnyIndexical g.row.K). x.cond) c.in_ok-propagator.propagator.list.items) c.in_ok-first.first c.in_ok-order.order c.args.budget a c.in_ok-propagator.ensures.conditions c.in_ok-first.ensures.value c.in_ok-order.ensures.value
     c.in_ok-search.ensures.walk c.in_ok-search.ensures.budget c.in_ok-search.ensures.walked in
     let h = first-answer a b _ c.in_ok-search.ensures.over c.in-Ended.ensures.steps in
-    ended-lists p cs well (state-is p well) c.requires.conditions c.args.budget a b f h.0 _ h.1
+    ended-lists p cs well (state-is p well) c.requires.conditions c.args.budget a b f h.0 c.into_recorder.result h.1
 
 pub returns-in-Ended-clause-layout : goal.returns-in-Ended-clause-layout
 returns-in-Ended-clause-layout g c =
