@@ -15,7 +15,7 @@ from pathlib import Path
 import oracle
 from geost_orders import stated_orders
 from geost_text import TextFault, print_layout, print_problem, read_layout, read_problem
-from harness import TOP, Case, Cases, Failed, Setting, Skipped, run_tool, want
+from harness import TOP, Case, Cases, Failed, Setting, Skipped, first_of, run_tool, want
 
 DOCUMENTS = ["TUTORIAL.md", "COOKBOOK.md", "SPEED.md"]
 FENCE = re.compile(r"^```(.*)\n((?:.*\n)*?)```$", re.MULTILINE)
@@ -89,7 +89,7 @@ def check_first(snippet: Snippet) -> None:
         return
     found = oracle.first_layout(read_problem(snippet.problem.encode()), MOST_PLACES)
     wanted = "none\n" if found is None else print_layout(found)
-    want(snippet.block.text.partition("token")[0], wanted, "the first layout by a listing")
+    want(first_of(snippet.block.text), wanted, "the first layout by a listing")
 
 
 def check_explained(setting: Setting, snippet: Snippet, words: list[str], folder: Path) -> None:

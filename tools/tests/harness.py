@@ -48,6 +48,11 @@ def want(given: object, wanted: object, what: str) -> None:
         raise Failed(f"{what}: {given!r} in place of {wanted!r}")
 
 
+def first_of(text: str) -> str:
+    """What an answer of `first` says: the lines of a layout without its token, or `none` without its derivation."""
+    return "none\n" if text.startswith("none\n") else text.partition("token")[0]
+
+
 def want_in(part: str, text: str) -> None:
     if part not in text:
         raise Failed(f"{part!r} does not stand in\n{text}")

@@ -28,4 +28,5 @@ abbrev pub FrontsAreAccepted : Type 0
 FrontsAreAccepted = (text : List ℕ) (p : ProblemData) → Accepts text p → HasFront text p
 
 abbrev pub FrontsStay : Type 0
-FrontsStay = (text more : List ℕ) (p : ProblemData) → Accepts text p → HasFrontThere text more p
+FrontsStay = (text more : List ℕ) (p : ProblemData) → Accepts text p
+    → HasFrontThere text more p

@@ -11,13 +11,14 @@ use Rattle.geost_run.specs.Answer.{FirstAnswer, Answer, AnswerTo, Begins, FrontO
 use Rattle.geost_run.specs.Reading.{Tells}
 use Rattle.geost_run.specs.Ends.{Ends}
 use Rattle.geost_run.specs.Headline.{Promises, BeginsWithNone, IsFaultless, IsComplete}
+use Rattle.geost_run.proofs.Confirmed.{confirmed}
 use Rattle.geost_run.proofs.Ending.{ends_as}
 use Rattle.geost_run.proofs.OneCheck.{derived_or_refused}
 use Rattle.geost_run.proofs.Only.{answers_to, refused_too, given_or_refused}
 
 promised : (n : ℕ) (input text : List ℕ) (s : Status) → FirstAnswer n input text s → Promises n input text s
 promised n input text Answered (p, t, cs, a, are, l, f, e) = (p, t, a, f.layout, f.first, e)
-promised n input text No (p, cs, a, are, l, none, e) = (p, cs, a, are, none, e)
+promised n input text No (p, cs, a, are, l, none, e) = (p, cs, a, are, none, e, confirmed input p cs text a are none e)
 promised n input text Budget (p, cs, a, are, l, e) = (p, cs, l.walked, a, are, l.front, l.ends.1, sym l.full, l.ends.2, e)
 promised n input text Refused r = r
 promised n input text _ a = a

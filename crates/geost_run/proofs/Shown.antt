@@ -11,6 +11,7 @@ use Rattle.derivation.specs.Nodes.{node_events}
 use Rattle.whole_derivation.specs.Whole.{IsDerivation}
 use Rattle.derivation_text.specs.Lines.{shapes_of, AreNamed}
 use Rattle.printed_derivation.specs.Tables.{IsTableOf}
+use Rattle.printed_derivation.specs.Laws.{printed}
 use Rattle.printed_derivation.proofs.Named.{named}
 use Rattle.problem_data.specs.Problem.{RangeData, ObjectData, ProblemData}
 use Rattle.problem_data.specs.Tuple.{object_of}
@@ -18,7 +19,7 @@ use Rattle.problem_data.specs.WellFormed.{IsObject, IsWellFormed}
 use Rattle.problem_text.specs.NameTable.{named_object, name_table}
 use Rattle.rule_ground.specs.Start.{whole_reach, first_state}
 use Rattle.rule_ground.proofs.Starts.{place-there, reach-at}
-use Rattle.geost_run.specs.Answer.{no_layout, ShowsNone}
+use Rattle.geost_run.specs.Answer.{ShowsNone}
 
 abbrev no_object : ObjectData
 no_object = record { name = []; shapes = []; ranges = []; attributes = [] }
@@ -48,7 +49,7 @@ no-object p o s h e =
     no-place s (subst (λ (r : Reach). place_in r.places s ≡ true) (get_or_past (first_state p) o nowhere past) e)
 
 -- the names of a problem are a table of its first state
-table-of : (p : ProblemData) → IsWellFormed p → IsTableOf (name_table p) (first_state p)
+pub table-of : (p : ProblemData) → IsWellFormed p → IsTableOf (name_table p) (first_state p)
 table-of p w = record {
   objects = length-map p.objects named_object ∙ sym (length-map p.objects whole_reach);
   dims = λ o h. dimensions-of p w o (subst (λ (m : ℕ). o < m) (length-map p.objects whole_reach) h);
@@ -62,5 +63,5 @@ events-named p cs names es w same d =
     (subst (AreNamed (name_table p) 0) (sym d.events) (named (name_table p) (first_state p) (length cs) (table-of p w) d.root d.fits))
 
 -- their lines show that there is no layout
-pub shown : (p : ProblemData) (cs : List Cond) (names : NameTable) (es : List Event) → names ≡ name_table p → IsDerivation cs (first_state p) es → length cs ≤ 10 ^ 9 → ShowsNone p cs (no_layout names es)
-shown p cs names es same d few = record { events = es; derives = d; few = few; says = ap (λ (n : NameTable). no_layout n es) same }
+pub shown : (p : ProblemData) (cs : List Cond) (names : NameTable) (es : List Event) → names ≡ name_table p → IsDerivation cs (first_state p) es → length cs ≤ 10 ^ 9 → ShowsNone p cs (printed names es)
+shown p cs names es same d few = record { events = es; derives = d; few = few; says = ap (λ (n : NameTable). printed n es) same }

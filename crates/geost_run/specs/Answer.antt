@@ -7,15 +7,14 @@ use Rattle.derivation.specs.declared.event.Event.{Event}
 use Rattle.derivation.specs.Nodes.{Node, node_events}
 use Rattle.derivation.specs.Valid.{Valid, FailsFirst}
 use Rattle.derivation_reading.specs.FirstFault as derivations
-use Rattle.derivation_text.specs.Lines.{derivation_text}
 use Rattle.geo_tokens.specs.declared.fault.FaultWord.{FaultWord}
 use Rattle.geo_tokens.specs.Fault.{fault_bytes}
-use Rattle.geo_tokens.specs.Names.{NameTable}
 use Rattle.layout_drawing.specs.Drawing.{IsDrawing, IsLarge}
 use Rattle.layout_text.specs.Block.{block_of}
 use Rattle.layout_text.specs.FirstFault as layouts
 use Rattle.geo_meaning.specs.Judged.{IsFirstBroken, rule_at}
 use Rattle.whole_derivation.specs.Whole.{IsDerivation}
+use Rattle.printed_derivation.specs.Laws.{printed}
 use Rattle.problem_data.specs.Problem.{ProblemData}
 use Rattle.problem_data.specs.Layouts.{IsLayout}
 use Rattle.problem_text.specs.Canonical.{problem_text}
@@ -43,17 +42,13 @@ RefusedAnswer input text = (place : ℕ) × (word : FaultWord) × IsRefused inpu
 abbrev pub out_of_budget : ℕ → List ℕ
 out_of_budget n = codes "budget " ++ (decimal n ++ codes "\n")
 
--- none, and the lines of a derivation
-abbrev pub no_layout : NameTable → List Event → List ℕ
-no_layout names events = codes "none\n" ++ derivation_text names events
-
 -- the text is `none` and the lines of a derivation over the problem's names. It is valid on the problem's first state under these conditions,
 -- and there are no more of them than a derivation can name
 pub record ShowsNone (p : ProblemData) (cs : List Cond) (text : List ℕ) : Type 0 where
   pub events : List Event
   pub derives : IsDerivation cs (first_state p) events
   pub few : length cs ≤ 10 ^ 9
-  pub says : text ≡ no_layout (name_table p) events
+  pub says : text ≡ printed (name_table p) events
 
 -- `first N`. The listing of one layout among the first N members of the walk. So the printed layout satisfies every rule by its
 -- cells and its formula and precedes every other layout; `none` means that there is no layout, and a valid derivation stands behind it; any

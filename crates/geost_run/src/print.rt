@@ -3,7 +3,8 @@ ghost use Rattle.std.specs.Prelude.{◌≡◌, ◌≤◌, codes, length};
 ghost use Rattle.geo_chan.specs.Written.{Prints};
 ghost use Rattle.problem_data.specs.Cells.{IsShaped};
 ghost use Rattle.derivation_text.specs.Lines.{AreNamed};
-ghost use Rattle.geost_run.specs.Answer.{broken_rule, failing_node, no_layout, out_of_budget, refusal, rule_name};
+ghost use Rattle.printed_derivation.specs.Laws.{printed};
+ghost use Rattle.geost_run.specs.Answer.{broken_rule, failing_node, out_of_budget, refusal, rule_name};
 ghost use Rattle.geost_run.specs.Decision.{decision_text, IsDecided};
 ghost use Rattle.geost_run.specs.Ends.{WritesAnswer};
 
@@ -46,7 +47,7 @@ pub fn write_decision<W: Sink>(
 fn write_nothing<W: Sink>(sink: &mut W, names: &Names, log: &Log) -> Result<(), PutFault>
     requires { AreNamed names.now 0 log.now.events }
     ensures { Prints W.written W.faults W.quiet sink.old sink.new result
-        (no_layout names.now log.now.events) }
+        (printed names.now log.now.events) }
 {
     write_all_bytes(sink, b"none\n")?;
     print_derivation(names, log, sink)

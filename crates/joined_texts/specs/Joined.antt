@@ -26,9 +26,10 @@ pub record HasBoth (input : List ℕ) (p : ProblemData) (es : List Event) : Type
 abbrev pub joined : List ℕ → ProblemData → List Event → List ℕ
 joined text p es = text ++ (codes "\n" ++ printed (name_table p) es)
 
--- Where the names of the problem are a table of the state, a derivation is read behind the problem's
--- text, unless both are too long.
+-- Where the names of the problem are a table of the state, a derivation is read behind the text of
+-- the problem, unless both are too long.
 abbrev pub AreReadBehind : Type 0
 AreReadBehind = (text : List ℕ) (p : ProblemData) (S : State) (cs : List Cond) (es : List Event)
-    → Accepts text p → IsTableOf (name_table p) S → IsDerivation cs S es → length cs ≤ 1000000000
-    → length (joined text p es) ≤ most_bytes → HasBoth (joined text p es) p es
+    → Accepts text p → IsTableOf (name_table p) S → IsDerivation cs S es
+    → length cs ≤ 1000000000 → length (joined text p es) ≤ most_bytes
+    → HasBoth (joined text p es) p es

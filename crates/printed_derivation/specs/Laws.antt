@@ -22,8 +22,8 @@ abbrev pub printed_behind : List ℕ → NameTable → List Event → List ℕ
 printed_behind blank n es = blank ++ (codes "\n" ++ printed n es)
 
 abbrev pub AreAllNamed : Type 0
-AreAllNamed = (n : NameTable) (S : State) (m : ℕ) (root : Node) → IsTableOf n S → NodeFits S m root
-    → AreNamed n 0 (node_events root)
+AreAllNamed = (n : NameTable) (S : State) (m : ℕ) (root : Node) → IsTableOf n S
+    → NodeFits S m root → AreNamed n 0 (node_events root)
 
 abbrev pub AreAllLimited : Type 0
 AreAllLimited = (S : State) (m : ℕ) (root : Node) → m ≤ 1000000000 → NodeFits S m root
@@ -36,5 +36,6 @@ IsReadBack = (n : NameTable) (S : State) (cs : List Cond) (es : List Event) → 
 
 abbrev pub IsReadBackBehind : Type 0
 IsReadBackBehind = (n : NameTable) (S : State) (cs : List Cond) (es : List Event) (blank : List ℕ)
-    → IsNameTable n → IsTableOf n S → IsDerivation cs S es → length cs ≤ 1000000000 → IsBlank blank
-    → length (printed_behind blank n es) ≤ most_bytes → IsText n (printed_behind blank n es) es
+    → IsNameTable n → IsTableOf n S → IsDerivation cs S es → length cs ≤ 1000000000
+    → IsBlank blank → length (printed_behind blank n es) ≤ most_bytes
+    → IsText n (printed_behind blank n es) es
