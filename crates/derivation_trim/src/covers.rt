@@ -1,0 +1,245 @@
+//! Covers cut into fewer pieces.
+//!
+//! A box on which a condition is refuted that the cover names anyway needs no cut. Where the first
+//! part of a cut is a leaf, the cut moves as far as the leaf's condition stays refuted; parts that
+//! are empty then fall away.
+
+ghost use Rattle.std.specs.Prelude.{◌≤◌, length};
+
+use crate::reach::{far, near};
+use derivation::{Event, Log, Recorder, Side};
+use geo_base::{KBox, MAX_DIMS};
+use geo_conditions::{Cond, ObjId, State, fits, refuted_at};
+use std::alloc::{AllocError, Global};
+
+/// How many conditions of a cover are tried on its parts.
+const MOST_TRIED: usize = 12;
+
+/// The object whose boxes are covered, and its place.
+#[derive(Clone, Copy)]
+pub struct Swept<'a, const K: usize> {
+    pub conditions: &'a [Cond],
+    pub state: &'a State<K>,
+    pub object: ObjId,
+    pub place: u8,
+}
+
+impl<'a, const K: usize> Swept<'a, K> {
+    // Whether there is a condition of this number, and it is refuted with the object in the box.
+    fn is_refuted(&self, i: u32, b: &KBox<K>) -> bool
+        requires { K ≤ MAX_DIMS }
+    {
+        if i == 0 || (self.object.0 as usize) >= self.state.objects() {
+            return false;
+        }
+        match self.conditions.get((i - 1) as usize) {
+            Some(c) => {
+                fits(c, self.state) && refuted_at(c, self.state, self.object, self.place, b)
+            }
+            None => false,
+        }
+    }
+
+    // The number from `good` on and before `bad` that is farthest from `good` and where a condition
+    // stays refuted up to it, as bisection finds it; it is known to be so at `good`. Either may be
+    // the lesser.
+    fn farthest(&self, i: u32, b: &KBox<K>, side: Side, bad: i64) -> Side
+        requires { K ≤ MAX_DIMS }
+    {
+        let mut good = side;
+        let mut bad = bad;
+        for _ in 0..64 {
+            match between(good, bad) {
+                None => return good,
+                Some(middle) => {
+                    if self.is_refuted(i, &near(b, middle)) {
+                        good = middle;
+                    } else {
+                        bad = number_of(middle);
+                    }
+                }
+            }
+        }
+        good
+    }
+
+    // The farthest side at which the condition is still refuted on the first part.
+    fn widest(&self, i: u32, b: &KBox<K>, side: Side) -> Side
+        requires { K ≤ MAX_DIMS }
+    {
+        match side {
+            Side::Upto(d, _) if d < K => self.farthest(i, b, side, b.hi().get(d)),
+            Side::From(d, _) if d < K => self.farthest(i, b, side, b.lo().get(d)),
+            _ => side,
+        }
+    }
+}
+
+fn number_of(side: Side) -> i64 {
+    match side {
+        Side::Upto(_, v) => v,
+        Side::From(_, v) => v,
+    }
+}
+
+// The side in the middle between a side and the number `bad`, where another number is left between
+// them.
+fn between(good: Side, bad: i64) -> Option<Side> {
+    match good {
+        Side::Upto(d, v) => {
+            let gap = bad.saturating_sub(v);
+            (gap > 1).then_some(Side::Upto(d, v.saturating_add(gap / 2)))
+        }
+        Side::From(d, v) => {
+            let gap = v.saturating_sub(bad);
+            (gap > 1).then_some(Side::From(d, v.saturating_sub(gap / 2)))
+        }
+    }
+}
+
+/// How many of the events are the first cover.
+pub fn cover_len(events: &[Event]) -> usize
+    ensures { result ≤ length events.now }
+{
+    let mut wanted: usize = 1;
+    for (at, e) in events.iter().enumerate() {
+        match e {
+            Event::By(_) => wanted = wanted.saturating_sub(1),
+            Event::Cut(_, _) | Event::CutFrom(_, _) => wanted = wanted.saturating_add(1),
+            _ => return at,
+        }
+        if wanted == 0 {
+            return at + 1;
+        }
+    }
+    events.len()
+}
+
+/// The events from the index on.
+pub fn events_from(events: &[Event], at: usize) -> &[Event] {
+    &events[at.min(events.len())..]
+}
+
+/// What makes covers simpler, with room that it uses again.
+#[derive(Drop)]
+pub struct Coverer<const K: usize> {
+    /// The boxes that are still to be covered, the next one last.
+    boxes: Vec<KBox<K>>,
+    /// Conditions that the cover names.
+    tried: Vec<u32>,
+}
+
+impl<const K: usize> Coverer<K> {
+    pub fn new(alloc: Global) -> Coverer<K> {
+        Coverer {
+            boxes: Vec::new(alloc),
+            tried: Vec::new(alloc),
+        }
+    }
+
+    // Notes the first conditions that the cover names.
+    fn gather(&mut self, cover: &[Event]) -> Result<(), AllocError> {
+        self.tried.clear();
+        for e in cover {
+            if let Event::By(i) = e {
+                if self.tried.len() < MOST_TRIED && !self.tried.contains(i) {
+                    self.tried.push(*i)?;
+                }
+            }
+        }
+        Ok(())
+    }
+
+    // One of these conditions that covers the whole box alone.
+    fn whole(&self, swept: &Swept<K>, b: &KBox<K>) -> Option<u32>
+        requires { K ≤ MAX_DIMS }
+    {
+        let is_empty = b.is_empty();
+        for i in self.tried.as_slice() {
+            if is_empty || swept.is_refuted(*i, b) {
+                return Some(*i);
+            }
+        }
+        None
+    }
+
+    // A cut of a box. It says how many of the events it makes needless.
+    fn cut(
+        &mut self,
+        swept: &Swept<K>,
+        cover: &[Event],
+        side: Side,
+        b: &KBox<K>,
+        out: &mut Log,
+    ) -> Result<usize, AllocError>
+        requires { K ≤ MAX_DIMS }
+    {
+        if let Some(i) = self.whole(swept, b) {
+            out.add(Event::By(i))?;
+            return Ok(cover_len(cover));
+        }
+        let side = match cover.get(1) {
+            Some(Event::By(i)) => swept.widest(*i, b, side),
+            _ => side,
+        };
+        let (first, second) = (near(b, side), far(b, side));
+        if !first.is_empty() && !second.is_empty() {
+            out.add(side.cut())?;
+        }
+        self.boxes.push(second)?;
+        self.boxes.push(first)?;
+        Ok(1)
+    }
+
+    // The first event of what is left of a cover. It says how many events are done with.
+    fn piece(
+        &mut self,
+        swept: &Swept<K>,
+        cover: &[Event],
+        e: Event,
+        out: &mut Log,
+    ) -> Result<usize, AllocError>
+        requires { K ≤ MAX_DIMS }
+    {
+        let Some(b) = self.boxes.pop() else {
+            return Ok(1);
+        };
+        if b.is_empty() {
+            return Ok(cover_len(cover));
+        }
+        match e {
+            Event::Cut(d, v) => self.cut(swept, cover, Side::Upto(d, v), &b, out),
+            Event::CutFrom(d, v) => self.cut(swept, cover, Side::From(d, v), &b, out),
+            _ => {
+                out.add(e)?;
+                Ok(1)
+            }
+        }
+    }
+
+    /// Writes a simpler cover of the box in the place of this one.
+    pub fn simplify(
+        &mut self,
+        swept: &Swept<K>,
+        cover: &[Event],
+        b: &KBox<K>,
+        out: &mut Log,
+    ) -> Result<(), AllocError>
+        requires { K ≤ MAX_DIMS }
+    {
+        self.gather(cover)?;
+        if let Some(i) = self.whole(swept, b) {
+            return out.add(Event::By(i));
+        }
+        self.boxes.clear();
+        self.boxes.push(*b)?;
+        let mut next: usize = 0;
+        for (at, e) in cover.iter().enumerate() {
+            if next <= at {
+                let done = self.piece(swept, events_from(cover, at), *e, out)?;
+                next = at.saturating_add(done);
+            }
+        }
+        Ok(())
+    }
+}

@@ -1,0 +1,35 @@
+//! Whether events are a valid derivation.
+
+ghost use Rattle.std.specs.Prelude.{◌≤◌, ◌↔◌, IsTrue, IfOk};
+ghost use Rattle.geo_conditions.specs.Conditions.{AllFit};
+ghost use Rattle.derivation_trim.specs.Trees.{IsDerivation};
+
+use crate::tree::is_one_tree;
+use derivation::Log;
+use derivation_check::{Checked, all_fit, check};
+use geo_base::MAX_DIMS;
+use geo_conditions::{Cond, State};
+use std::alloc::{AllocError, Global};
+
+/// Whether the events are those of one tree that is valid on the first state, and name only what
+/// exists there.
+pub fn is_derivation<const K: usize>(
+    alloc: Global,
+    conditions: &[Cond],
+    first: &State<K>,
+    log: &Log,
+) -> Result<bool, AllocError>
+    requires k { K ≤ MAX_DIMS }
+    requires fits { AllFit conditions.now first.now }
+    ensures { IfOk result (λ yes. IsTrue yes
+        ↔ IsDerivation K conditions.now first.now log.now.events) }
+{
+    let events = log.events();
+    if !all_fit::<K>(events, first.objects()) || !is_one_tree(alloc, events)? {
+        return Ok(false);
+    }
+    match check(alloc, conditions, first, log)? {
+        Checked::Yes => Ok(true),
+        Checked::No(_) => Ok(false),
+    }
+}

@@ -1,0 +1,117 @@
+//! What is left to an object, and its parts. A place or a dimension that is not there changes
+//! nothing.
+
+ghost use Rattle.std.specs.Prelude.{◌≤◌};
+
+use derivation::{Half, Side};
+use geo_base::{Interval, KBox, MAX_DIMS};
+use geo_conditions::{MAX_SHAPES, ObjId, ShapeSet, State};
+
+/// The places and the region that are left to an object.
+#[derive(Clone, Copy)]
+pub struct Reach<const K: usize> {
+    pub places: ShapeSet,
+    pub region: KBox<K>,
+}
+
+/// What is left to the object, where there is such an object.
+pub fn reach_of<const K: usize>(s: &State<K>, o: ObjId) -> Option<Reach<K>>
+    requires { K ≤ MAX_DIMS }
+{
+    if (o.0 as usize) < s.objects() {
+        Some(Reach {
+            places: s.places(o),
+            region: s.region(o),
+        })
+    } else {
+        None
+    }
+}
+
+/// Leaves this to the object, where there is such an object.
+pub fn set_reach<const K: usize>(s: &mut State<K>, o: ObjId, reach: &Reach<K>)
+    requires { K ≤ MAX_DIMS }
+{
+    if (o.0 as usize) < s.objects() {
+        s.set_places(o, reach.places);
+        let lo = reach.region.lo();
+        let hi = reach.region.hi();
+        for d in 0..K {
+            set_ends(s, o, d, lo.get(d), hi.get(d));
+        }
+    }
+}
+
+fn set_ends<const K: usize>(s: &mut State<K>, o: ObjId, d: usize, lo: i64, hi: i64)
+    requires { K ≤ MAX_DIMS }
+{
+    if (o.0 as usize) < s.objects() && d < K {
+        s.set_interval(o, d, Interval { lo, hi });
+    }
+}
+
+fn upto<const K: usize>(b: &KBox<K>, d: usize, v: i64) -> KBox<K> {
+    let hi = b.hi();
+    if d < K {
+        KBox::new(b.lo(), hi.with(d, hi.get(d).min(v)))
+    } else {
+        *b
+    }
+}
+
+fn from<const K: usize>(b: &KBox<K>, d: usize, v: i64) -> KBox<K> {
+    let lo = b.lo();
+    if d < K {
+        KBox::new(lo.with(d, lo.get(d).max(v)), b.hi())
+    } else {
+        *b
+    }
+}
+
+/// The part of the box on the side.
+pub fn near<const K: usize>(b: &KBox<K>, side: Side) -> KBox<K> {
+    match side {
+        Side::Upto(d, v) => upto(b, d, v),
+        Side::From(d, v) => from(b, d, v),
+    }
+}
+
+/// The rest of it.
+pub fn far<const K: usize>(b: &KBox<K>, side: Side) -> KBox<K> {
+    match side {
+        Side::Upto(d, v) => from(b, d, v.saturating_add(1)),
+        Side::From(d, v) => upto(b, d, v.saturating_sub(1)),
+    }
+}
+
+impl<const K: usize> Reach<K> {
+    /// The first part of a split.
+    pub fn first(&self, half: Half) -> Reach<K> {
+        let mut part = *self;
+        match half {
+            Half::OfPlace(place) => {
+                let there = self.places.has(place);
+                part.places = ShapeSet::up_to(0);
+                part.set_place(place, there);
+            }
+            Half::OfSide(side) => part.region = near(&self.region, side),
+        }
+        part
+    }
+
+    /// The second part of it.
+    pub fn second(&self, half: Half) -> Reach<K> {
+        let mut part = *self;
+        match half {
+            Half::OfPlace(place) => part.set_place(place, false),
+            Half::OfSide(side) => part.region = far(&self.region, side),
+        }
+        part
+    }
+
+    fn set_place(&mut self, place: u8, there: bool) {
+        if 1 <= place && place as usize <= MAX_SHAPES {
+            self.places.set(place, there);
+        }
+    }
+}

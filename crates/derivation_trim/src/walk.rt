@@ -1,0 +1,196 @@
+//! A walk over a derivation, with the state at each node, which makes its covers simpler.
+
+ghost use Rattle.std.specs.Prelude.{◌≤◌};
+
+use crate::covers::{Coverer, Swept, cover_len, events_from};
+use crate::reach::{Reach, far, reach_of, set_reach};
+use derivation::{Event, Half, Log, Recorder, Side};
+use geo_base::{KBox, MAX_DIMS};
+use geo_conditions::{Cond, ObjId, State};
+use std::alloc::{AllocError, Global};
+
+/// An open node: what it replaced, and of a split whose first part is read how its second part is
+/// made.
+#[derive(Clone, Copy)]
+struct OpenNode<const K: usize> {
+    object: ObjId,
+    held: Reach<K>,
+    second: Option<Half>,
+}
+
+#[derive(Drop)]
+struct Walk<'a, const K: usize> {
+    conditions: &'a [Cond],
+    events: &'a [Event],
+    state: State<K>,
+    nodes: Vec<OpenNode<K>>,
+    coverer: Coverer<K>,
+    out: Log,
+}
+
+impl<'a, const K: usize> Walk<'a, K> {
+    // On to a part of what was left to the object.
+    fn enter(
+        &mut self,
+        object: ObjId,
+        held: Reach<K>,
+        part: &Reach<K>,
+        second: Option<Half>,
+    ) -> Result<(), AllocError>
+        requires { K ≤ MAX_DIMS }
+    {
+        self.nodes.push(OpenNode {
+            object,
+            held,
+            second,
+        })?;
+        set_reach(&mut self.state, object, part);
+        Ok(())
+    }
+
+    // A node has ended: back to the innermost split whose second part is to come, and on to that.
+    fn leave(&mut self) -> Result<(), AllocError>
+        requires { K ≤ MAX_DIMS }
+    {
+        while let Some(node) = self.nodes.pop() {
+            set_reach(&mut self.state, node.object, &node.held);
+            if let Some(half) = node.second {
+                let part = node.held.second(half);
+                return self.enter(node.object, node.held, &part, None);
+            }
+        }
+        Ok(())
+    }
+
+    fn split(&mut self, o: ObjId, half: Half) -> Result<(), AllocError>
+        requires { K ≤ MAX_DIMS }
+    {
+        match reach_of(&self.state, o) {
+            Some(held) => self.enter(o, held, &held.first(half), Some(half)),
+            None => Ok(()),
+        }
+    }
+
+    // The cover of a box that begins at an index. It gives the index behind it.
+    fn cover(
+        &mut self,
+        from: usize,
+        object: ObjId,
+        place: u8,
+        b: &KBox<K>,
+    ) -> Result<usize, AllocError>
+        requires { K ≤ MAX_DIMS }
+    {
+        let rest = events_from(self.events, from);
+        let n = cover_len(rest);
+        let swept = Swept {
+            conditions: self.conditions,
+            state: &self.state,
+            object,
+            place,
+        };
+        self.coverer.simplify(&swept, &rest[..n], b, &mut self.out)?;
+        Ok(from.saturating_add(n))
+    }
+
+    // The list of covers of a box that begins at an index. It gives the index behind it.
+    fn covers(&mut self, from: usize, o: ObjId, b: &KBox<K>) -> Result<usize, AllocError>
+        requires { K ≤ MAX_DIMS }
+    {
+        let events = self.events;
+        let mut next = from;
+        for at in from..events.len() {
+            if next <= at {
+                let e = events[at];
+                self.out.add(e)?;
+                match e {
+                    Event::Cover(place) => next = self.cover(at + 1, o, place, b)?,
+                    _ => return Ok(at + 1),
+                }
+            }
+        }
+        Ok(next)
+    }
+
+    fn drop_place(&mut self, at: usize, o: ObjId, place: u8) -> Result<usize, AllocError>
+        requires { K ≤ MAX_DIMS }
+    {
+        let Some(held) = reach_of(&self.state, o) else {
+            return Ok(at);
+        };
+        let next = self.cover(at, o, place, &held.region)?;
+        let part = held.second(Half::OfPlace(place));
+        self.enter(o, held, &part, None)?;
+        Ok(next)
+    }
+
+    fn bound(&mut self, at: usize, o: ObjId, side: Side) -> Result<usize, AllocError>
+        requires { K ≤ MAX_DIMS }
+    {
+        let Some(held) = reach_of(&self.state, o) else {
+            return Ok(at);
+        };
+        let next = self.covers(at, o, &far(&held.region, side))?;
+        let part = held.first(Half::OfSide(side));
+        self.enter(o, held, &part, None)?;
+        Ok(next)
+    }
+
+    fn gone(&mut self, at: usize, o: ObjId) -> Result<usize, AllocError>
+        requires { K ≤ MAX_DIMS }
+    {
+        let Some(held) = reach_of(&self.state, o) else {
+            return Ok(at);
+        };
+        let next = self.covers(at, o, &held.region)?;
+        self.leave()?;
+        Ok(next)
+    }
+
+    // A node, whose event stands before the index. It gives the index of the next event that is not
+    // done with.
+    fn node(&mut self, e: Event, at: usize) -> Result<usize, AllocError>
+        requires { K ≤ MAX_DIMS }
+    {
+        self.out.add(e)?;
+        match e {
+            Event::SplitShape(o, place) => self.split(o, Half::OfPlace(place))?,
+            Event::SplitUpto(o, d, v) => self.split(o, Half::OfSide(Side::Upto(d, v)))?,
+            Event::SplitFrom(o, d, v) => self.split(o, Half::OfSide(Side::From(d, v)))?,
+            Event::Drop(o, place) => return self.drop_place(at, o, place),
+            Event::Raise(o, d, v) => return self.bound(at, o, Side::From(d, v)),
+            Event::Lower(o, d, v) => return self.bound(at, o, Side::Upto(d, v)),
+            Event::Gone(o) => return self.gone(at, o),
+            Event::Dead(_) => self.leave()?,
+            _ => {}
+        }
+        Ok(at)
+    }
+}
+
+/// The same derivation on the first state, with simpler covers. Where the events are no derivation,
+/// what comes out is none either.
+pub fn with_simpler_covers<const K: usize>(
+    alloc: Global,
+    conditions: &[Cond],
+    first: &State<K>,
+    events: &[Event],
+) -> Result<Log, AllocError>
+    requires { K ≤ MAX_DIMS }
+{
+    let mut walk = Walk {
+        conditions,
+        events,
+        state: first.copy()?,
+        nodes: Vec::new(alloc),
+        coverer: Coverer::new(alloc),
+        out: Log::new(alloc),
+    };
+    let mut next: usize = 0;
+    for (at, e) in events.iter().enumerate() {
+        if next <= at {
+            next = walk.node(*e, at + 1)?;
+        }
+    }
+    Ok(walk.out)
+}

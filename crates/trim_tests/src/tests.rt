@@ -1,0 +1,3 @@
+mod chain;
+mod shortening;
+mod trees;
