@@ -15,20 +15,17 @@ use Rattle.layout_text.specs.Block.{block_of}
 use Rattle.layout_text.specs.FirstFault as layouts
 use Rattle.problem_data.specs.Problem.{ProblemData}
 use Rattle.problem_text.specs.Canonical.{problem_text}
-use Rattle.whole_derivation.specs.Whole.{NodeFits}
-use Rattle.linear_conditions.specs.CondTree.{cond_view}
 use Rattle.rule_ground.specs.Order.{variables_for}
-use Rattle.rule_ground.specs.Start.{first_state}
 use Rattle.layout_search.specs.FirstLayout.{IsFirstLayout}
-use Rattle.layout_search.proofs.AlikeRows.{rows-alike}
 use Rattle.geost_run.specs.declared.command.Command.{Command}
 use Rattle.geost_run.specs.declared.command.Command.TheVariants.{First, Show, Judge, Check, Draw}
 use Rattle.geost_run.specs.declared.command.Status.{Status}
 use Rattle.geost_run.specs.declared.command.Status.TheVariants.{Answered, No, Refused, Budget}
 use Rattle.geost_run.specs.Accepted.{AreConditions}
 use Rattle.geost_run.specs.Words.{HasForm}
-use Rattle.geost_run.specs.Answer.{broken_rule, rule_name, ShowsNone, BothShowNone, AreAlike, FirstAnswer, ShowAnswer, JudgeAnswer, DrawAnswer, AnswerTo, Answer}
+use Rattle.geost_run.specs.Answer.{broken_rule, rule_name, SaysNone, BothSayNone, AreAlike, FirstAnswer, ShowAnswer, JudgeAnswer, DrawAnswer, AnswerTo, Answer}
 use Rattle.geost_run.proofs.Refusals.{same_problem}
+use Rattle.geost_run.proofs.Shown.{shows-alike}
 use Rattle.geost_run.proofs.Only.{given_once, given_formed, answers_to}
 use Rattle.geost_run.proofs.OneCheck.{check_text}
 use Rattle.geost_run.proofs.OneRefusal.{one_refusal, one_fault_from, one_pair_refusal, same_refusal}
@@ -43,26 +40,13 @@ one_layout p t u f g = elim (f.first u g.layout) [
   ]
 ]
 
--- conditions that stand for the same trees make the same derivations valid
-shows-alike : (p : ProblemData) (cs ds : List Cond) (u : List ℕ) → AreConditions p cs → AreConditions p ds → ShowsNone p ds u → ShowsNone p cs u
-shows-alike p cs ds u are is h =
-    let same : map cond_view ds ≡ map cond_view cs = is ∙ sym are in
-    let long : length ds ≡ length cs = sym (length-map ds cond_view) ∙ ap length same ∙ length-map cs cond_view in
-    record {
-      events = h.events;
-      derives = record {
-        root = h.derives.root;
-        events = h.derives.events;
-        valid = subst (All (λ (met : Bool). met ≡ true)) (rows-alike ds cs same (first_state p) h.derives.root) h.derives.valid;
-        fits = subst (λ (m : ℕ). NodeFits (first_state p) m h.derives.root) long h.derives.fits;
-      };
-      few = subst (λ (m : ℕ). m ≤ 10 ^ 9) long h.few;
-      says = h.says;
-    }
+-- under conditions that stand for the same trees the same is said
+says-alike : (p : ProblemData) (cs ds : List Cond) (u : List ℕ) → AreConditions p cs → AreConditions p ds → SaysNone p ds u → SaysNone p cs u
+says-alike p cs ds u are is h = record { events = h.events; shows = shows-alike p cs ds h.events are is h.shows; says = h.says }
 
 -- two texts of one status, but for derivations
 abbrev AreFirstTexts : List ℕ → Status → List ℕ → List ℕ → Type 0
-AreFirstTexts input s t u = (t ≡ u) ⊎ ((s ≡ No) × BothShowNone input t u)
+AreFirstTexts input s t u = (t ≡ u) ⊎ ((s ≡ No) × BothSayNone input t u)
 
 first_text : (n : ℕ) (input t u : List ℕ) (s : Status) → FirstAnswer n input t s → FirstAnswer n input u s → AreFirstTexts input s t u
 first_text n input t u Answered (p, x, cs, a, are, l, f, e) (q, y, ds, b, is, m, g, h) =
@@ -72,7 +56,7 @@ first_text n input t u Answered (p, x, cs, a, are, l, f, e) (q, y, ds, b, is, m,
 first_text n input t u No (p, cs, a, are, l, none, e) (q, ds, b, is, m, neither, g) =
     let same : q ≡ p = same_problem input q p b a in
     let alike : AreConditions p ds = subst (λ (z : ProblemData). AreConditions z ds) same is in
-    inr (refl, (p, cs, a, are, e, shows-alike p cs ds u are alike (subst (λ (z : ProblemData). ShowsNone z ds u) same g)))
+    inr (refl, (p, cs, a, are, e, says-alike p cs ds u are alike (subst (λ (z : ProblemData). SaysNone z ds u) same g)))
 first_text n input t u Budget (p, cs, a, are, l, e) (q, ds, b, is, m, g) = inl (e ∙ sym g)
 first_text n input t u Refused (k, v, f, e) (q, w, g, h) = inl (e ∙ sym (h ∙ same_refusal k q v w (one_refusal input k q v w f g)))
 first_text n input t u _ a b = absurd a

@@ -1,5 +1,6 @@
 -- What a search records where it finds no layout: its events have names in the table of the problem, and their lines show that there is none.
-use Rattle.std.proofs.Common.{◌≡◌, ◌∙◌, ℕ, zero, suc, ◌<◌, ◌≤◌, ◌^◌, true, List, [], length, map, refl, sym, ap, subst, arith}
+use Rattle.std.proofs.Common.{◌≡◌, ◌∙◌, ℕ, zero, suc, ◌<◌, ◌≤◌, ◌^◌, Bool, true, List, [], length, map, refl, sym, ap, subst, arith}
+use Rattle.std.specs.List.{All}
 use Rattle.std.proofs.lemmas.Bool.{cases_lt, false≢true}
 use Rattle.std.proofs.lemmas.List.{length-map, get_or-map, get_or_past}
 use Rattle.std.proofs.Math.Logic.{⊎_elim}
@@ -7,18 +8,18 @@ use Rattle.geo_tokens.specs.Names.{NameTable}
 use Rattle.geo_conditions.specs.declared.cond.Cond.{Cond}
 use Rattle.geo_conditions.specs.Reach.{Reach, nowhere, place_in, has, dims}
 use Rattle.derivation.specs.declared.event.Event.{Event}
-use Rattle.derivation.specs.Nodes.{node_events}
 use Rattle.whole_derivation.specs.Whole.{IsDerivation}
-use Rattle.derivation_text.specs.Lines.{shapes_of, AreNamed}
+use Rattle.derivation_text.specs.Lines.{shapes_of}
 use Rattle.printed_derivation.specs.Tables.{IsTableOf}
-use Rattle.printed_derivation.specs.Laws.{printed}
-use Rattle.printed_derivation.proofs.Named.{named}
+use Rattle.printed_derivation.proofs.ReadBack.{is_printed}
 use Rattle.problem_data.specs.Problem.{RangeData, ObjectData, ProblemData}
 use Rattle.problem_data.specs.Tuple.{object_of}
 use Rattle.problem_data.specs.WellFormed.{IsObject, IsWellFormed}
 use Rattle.problem_text.specs.NameTable.{named_object, name_table}
 use Rattle.rule_ground.specs.Start.{whole_reach, first_state}
 use Rattle.rule_ground.proofs.Starts.{place-there, reach-at}
+use Rattle.layout_search.proofs.AlikeRows.{rows-alike}
+use Rattle.geost_run.specs.Accepted.{AreConditions}
 use Rattle.geost_run.specs.Answer.{ShowsNone}
 
 abbrev no_object : ObjectData
@@ -56,12 +57,15 @@ table-of p w = record {
   shapes = λ o s e. ⊎_elim (λ h. shapes-of p w o s h e) (λ h. absurd (no-object p o s h e)) (cases_lt o (length p.objects));
 }
 
--- the events of a derivation of the problem have names
-pub events-named : (p : ProblemData) (cs : List Cond) (names : NameTable) (es : List Event) → IsWellFormed p → names ≡ name_table p → IsDerivation cs (first_state p) es → AreNamed names 0 es
-events-named p cs names es w same d =
-    subst (λ (n : NameTable). AreNamed n 0 es) (sym same)
-    (subst (AreNamed (name_table p) 0) (sym d.events) (named (name_table p) (first_state p) (length cs) (table-of p w) d.root d.fits))
+-- what a search records of them shows that there is no layout
+pub shown : (p : ProblemData) (cs : List Cond) (es : List Event) → IsWellFormed p → IsDerivation cs (first_state p) es → length cs ≤ 10 ^ 9 → ShowsNone p cs es
+shown p cs es w d few = record { root = d.root; tree = d.events; valid = d.valid; printable = is_printed (name_table p) (first_state p) cs es (table-of p w) d few }
 
--- their lines show that there is no layout
-pub shown : (p : ProblemData) (cs : List Cond) (names : NameTable) (es : List Event) → names ≡ name_table p → IsDerivation cs (first_state p) es → length cs ≤ 10 ^ 9 → ShowsNone p cs (printed names es)
-shown p cs names es same d few = record { events = es; derives = d; few = few; says = ap (λ (n : NameTable). printed n es) same }
+-- conditions that stand for the same trees make the same derivations valid
+pub shows-alike : (p : ProblemData) (cs ds : List Cond) (es : List Event) → AreConditions p cs → AreConditions p ds → ShowsNone p ds es → ShowsNone p cs es
+shows-alike p cs ds es are is h = record {
+  root = h.root;
+  tree = h.tree;
+  valid = subst (All (λ (met : Bool). met ≡ true)) (rows-alike ds cs (is ∙ sym are) (first_state p) h.root) h.valid;
+  printable = h.printable;
+}

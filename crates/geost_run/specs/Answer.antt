@@ -13,8 +13,8 @@ use Rattle.layout_drawing.specs.Drawing.{IsDrawing, IsLarge}
 use Rattle.layout_text.specs.Block.{block_of}
 use Rattle.layout_text.specs.FirstFault as layouts
 use Rattle.geo_meaning.specs.Judged.{IsFirstBroken, rule_at}
-use Rattle.whole_derivation.specs.Whole.{IsDerivation}
 use Rattle.printed_derivation.specs.Laws.{printed}
+use Rattle.printed_derivation.specs.Printable.{IsPrintable}
 use Rattle.problem_data.specs.Problem.{ProblemData}
 use Rattle.problem_data.specs.Layouts.{IsLayout}
 use Rattle.problem_text.specs.Canonical.{problem_text}
@@ -42,12 +42,17 @@ RefusedAnswer input text = (place : ℕ) × (word : FaultWord) × IsRefused inpu
 abbrev pub out_of_budget : ℕ → List ℕ
 out_of_budget n = codes "budget " ++ (decimal n ++ codes "\n")
 
--- the text is `none` and the lines of a derivation over the problem's names. It is valid on the problem's first state under these conditions,
--- and there are no more of them than a derivation can name
-pub record ShowsNone (p : ProblemData) (cs : List Cond) (text : List ℕ) : Type 0 where
+-- the events are a derivation, which is valid on the problem's first state under these conditions, and they can be printed
+pub record ShowsNone (p : ProblemData) (cs : List Cond) (events : List Event) : Type 0 where
+  pub root : Node
+  pub tree : events ≡ node_events root
+  pub valid : Valid cs (first_state p) root
+  pub printable : IsPrintable (name_table p) events
+
+-- the text is `none` and the lines of such a derivation
+pub record SaysNone (p : ProblemData) (cs : List Cond) (text : List ℕ) : Type 0 where
   pub events : List Event
-  pub derives : IsDerivation cs (first_state p) events
-  pub few : length cs ≤ 10 ^ 9
+  pub shows : ShowsNone p cs events
   pub says : text ≡ printed (name_table p) events
 
 -- `first N`. The listing of one layout among the first N members of the walk. So the printed layout satisfies every rule by its
@@ -55,7 +60,7 @@ pub record ShowsNone (p : ProblemData) (cs : List Cond) (text : List ℕ) : Type
 -- other text is refused at its first fault.
 abbrev pub FirstAnswer : ℕ → List ℕ → List ℕ → Status → Type 0
 FirstAnswer n input text Answered = (p : ProblemData) × (t : Tuple) × (cs : List Cond) × IsAccepted input p × AreConditions p cs × IsListing (walk_of p cs) 1 n (values (variables_for p) t ∷ []) More × IsFirstLayout p t × (text ≡ block_of p t)
-FirstAnswer n input text No = (p : ProblemData) × (cs : List Cond) × IsAccepted input p × AreConditions p cs × IsListing (walk_of p cs) 1 n [] End × HasNoLayout p × ShowsNone p cs text
+FirstAnswer n input text No = (p : ProblemData) × (cs : List Cond) × IsAccepted input p × AreConditions p cs × IsListing (walk_of p cs) 1 n [] End × HasNoLayout p × SaysNone p cs text
 FirstAnswer n input text Budget = (p : ProblemData) × (cs : List Cond) × IsAccepted input p × AreConditions p cs × IsListing (walk_of p cs) 1 n [] OutOfBudget × (text ≡ out_of_budget n)
 FirstAnswer n input text Refused = RefusedAnswer input text
 FirstAnswer n input text _ = ⊥
@@ -151,10 +156,10 @@ Begins words input front =
     ((command : Command) × HasForm words command × BeginsOf command input front) ⊎ FrontOf (BadWordsAnswerTo words) input front
 
 -- each of the texts is `none` and the lines of a derivation of the input's problem
-abbrev pub BothShowNone : List ℕ → List ℕ → List ℕ → Type 0
-BothShowNone input text other = (p : ProblemData) × (cs : List Cond) × IsAccepted input p × AreConditions p cs × ShowsNone p cs text × ShowsNone p cs other
+abbrev pub BothSayNone : List ℕ → List ℕ → List ℕ → Type 0
+BothSayNone input text other = (p : ProblemData) × (cs : List Cond) × IsAccepted input p × AreConditions p cs × SaysNone p cs text × SaysNone p cs other
 
 -- The texts that these words and this input have with a status are one, but for derivations: behind the `none` of `first` each valid one may
 -- stand.
 abbrev pub AreAlike : List (List ℕ) → List ℕ → Status → List ℕ → List ℕ → Type 0
-AreAlike words input status text other = (text ≡ other) ⊎ ((n : ℕ) × HasForm words (First n) × (status ≡ No) × BothShowNone input text other)
+AreAlike words input status text other = (text ≡ other) ⊎ ((n : ℕ) × HasForm words (First n) × (status ≡ No) × BothSayNone input text other)

@@ -12,7 +12,7 @@ use Rattle.rule_ground.specs.Order.{ComesBefore}
 use Rattle.layout_search.specs.FirstLayout.{walk_of}
 use Rattle.geost_run.specs.Accepted.{IsAccepted, IsRefused, AreConditions}
 use Rattle.geost_run.specs.Texts.{AreTextsOf}
-use Rattle.geost_run.specs.Answer.{refusal, out_of_budget, ShowsNone, CheckAnswer, Gives, Derives}
+use Rattle.geost_run.specs.Answer.{refusal, out_of_budget, SaysNone, CheckAnswer, Gives, Derives}
 use Rattle.geost_run.specs.declared.command.Command.{Command}
 use Rattle.geost_run.specs.declared.command.Command.TheVariants.{First, Show, Judge, Check, Draw}
 use Rattle.geost_run.specs.declared.command.Status.{Status}
@@ -29,7 +29,7 @@ IsConfirmed input text = (first second : List ℕ) → AreTextsOf (input ++ (cod
 -- refused at its first fault.
 abbrev pub Promises : ℕ → List ℕ → List ℕ → Status → Type 0
 Promises n input text Answered = (p : ProblemData) × (t : Tuple) × IsAccepted input p × IsLayout p t × ((u : Tuple) → IsLayout p u → (u ≡ t) ⊎ ComesBefore p t u) × (text ≡ block_of p t)
-Promises n input text No = (p : ProblemData) × (cs : List Cond) × IsAccepted input p × AreConditions p cs × ((t : Tuple) → IsLayout p t → ⊥) × ShowsNone p cs text × IsConfirmed input text
+Promises n input text No = (p : ProblemData) × (cs : List Cond) × IsAccepted input p × AreConditions p cs × ((t : Tuple) → IsLayout p t → ⊥) × SaysNone p cs text × IsConfirmed input text
 Promises n input text Budget =
     (p : ProblemData) × (cs : List Cond) × (w : List (List ℤ)) × IsAccepted input p × AreConditions p cs × IsFront (walk_of p cs) w
     × (length w ≡ n) × (filter (is_full (walk_of p cs)) w ≡ []) × GoesOn (walk_of p cs) w × (text ≡ out_of_budget n)

@@ -6,6 +6,7 @@ ghost use Rattle.geost_run.specs.Decision.{decision_text, decision_status, IsDec
 use crate::Decision;
 use crate::accepted::{Accepted, read_accepted};
 use crate::given::{Given, read_given};
+use crate::shorter::shorter;
 use geo_meaning::judging::{Judged, judge_rules};
 use geo_tokens::fault::TextFault;
 use layout_drawing::drawing;
@@ -21,7 +22,7 @@ pub fn decide_first(alloc: Global, most: u64, text: &[u8]) -> Result<Decision, A
 {
     let Accepted {
         problem,
-        rules: _,
+        rules,
         conditions,
     } = match read_accepted(alloc, text) {
         Ok(accepted) => accepted,
@@ -31,6 +32,7 @@ pub fn decide_first(alloc: Global, most: u64, text: &[u8]) -> Result<Decision, A
         Outcome::Found(layout) => Ok(Decision::Layout(problem, layout)),
         Outcome::Nothing(log) => {
             let names = names(alloc, &problem)?;
+            let log = shorter(alloc, &problem, rules.as_slice(), &names, log)?;
             Ok(Decision::Nothing(names, log))
         }
         Outcome::OutOfBudget => Ok(Decision::Budget(most)),

@@ -33,6 +33,7 @@ use Rattle.derivation_round_trip.specs.Limits.{IsLimited}
 use Rattle.derivation_round_trip.proofs.LineParts.{text_parts, text_bytes, text_fits}
 use Rattle.derivation_round_trip.proofs.Words.{seen, words, words_read}
 use Rattle.whole_derivation.specs.Whole.{IsDerivation}
+use Rattle.printed_derivation.specs.Printable.{IsPrintable}
 use Rattle.printed_derivation.specs.Tables.{IsTableOf}
 use Rattle.printed_derivation.specs.Laws.{printed, printed_behind}
 use Rattle.printed_derivation.proofs.Named.{named}
@@ -134,9 +135,22 @@ module _ (n : NameTable) (es : List Event) (blank text : List ℕ) (front : IsBl
         (sym (ap (λ (u : List ℕ). lexemes u (map (moved (length before)) r.tokens)) (sym same_text) ∙ moved_seen before text r.tokens)) r.spells;
   }
 
-pub read_back_behind : (n : NameTable) (S : State) (cs : List Cond) (es : List Event) (blank : List ℕ) → IsNameTable n → IsTableOf n S → IsDerivation cs S es
-    → length cs ≤ 1000000000 → IsBlank blank → length (printed_behind blank n es) ≤ most_bytes → IsText n (printed_behind blank n es) es
-read_back_behind n S cs es blank names table d few front short =
+-- what can be printed of a tree's events
+pub read_printable_behind : (n : NameTable) (root : Node) (es : List Event) (blank : List ℕ) → IsNameTable n → es ≡ node_events root → IsPrintable n es
+    → IsBlank blank → length (printed_behind blank n es) ≤ most_bytes → IsText n (printed_behind blank n es) es
+read_printable_behind n root es blank names e p front short =
     let all : length (printed_behind blank n es) ≡ length blank + length (10 ∷ printed n es) = length-append blank (10 ∷ printed n es) in
     let some : length (printed n es) ≤ length (printed_behind blank n es) = omega arith in
-    behind_blank n es blank (printed n es) front (read_back n S cs es names table d few (le_trans some short)) short
+    let reads = subst (λ (fs : List Event). IsPrintable n fs → length (printed n fs) ≤ most_bytes → IsText n (printed n fs) fs) (sym e) (λ q. node_back n names root q.named q.limited) in
+    behind_blank n es blank (printed n es) front (reads p (le_trans some short)) short
+
+-- the events of a derivation can be printed
+pub is_printed : (n : NameTable) (S : State) (cs : List Cond) (es : List Event) → IsTableOf n S → IsDerivation cs S es → length cs ≤ 1000000000 → IsPrintable n es
+is_printed n S cs es table d few = subst (IsPrintable n) (sym d.events) (record {
+  named = named n S (length cs) d.root table d.fits;
+  limited = limited S (length cs) few d.root d.fits;
+})
+
+pub read_back_behind : (n : NameTable) (S : State) (cs : List Cond) (es : List Event) (blank : List ℕ) → IsNameTable n → IsTableOf n S → IsDerivation cs S es
+    → length cs ≤ 1000000000 → IsBlank blank → length (printed_behind blank n es) ≤ most_bytes → IsText n (printed_behind blank n es) es
+read_back_behind n S cs es blank names table d few front short = read_printable_behind n d.root es blank names d.events (is_printed n S cs es table d few) front short

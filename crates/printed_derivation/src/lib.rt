@@ -3,5 +3,7 @@
 #![tactic(auto)]
 
 mod laws;
+mod printable;
 
 pub use laws::{are_all_limited, are_all_named, is_read_back, is_read_back_behind};
+pub use printable::is_printable;

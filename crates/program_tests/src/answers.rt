@@ -51,6 +51,13 @@ const OVERLAPPING: &[u8] =
 const OUTSIDE: &[u8] =
     b"geost 1 dims 1 shape s box 0 size 2 ; object a as s at 0..3 ; object b as s at 0..3 ; rule r : apart ; end layout a as s at 0 b as s at 4";
 
+// A million cells and one from the first to the last.
+const FAR: &[u8] =
+    b"geost 1 dims 1 shape s box 0 size 1 ; object a as s at 0..9 ; object b as s at 0..1000000 ; end layout a as s at 0 b as s at 1000000";
+
+const LAYERS: &[u8] =
+    b"geost 1 dims 3 shape u box 0 0 0 size 1 1 1 ; shape v box 0 0 0 size 2 1 2 ; object a as u at -9..9 -9..9 -9..9 ; object b as v at -9..9 -9..9 -9..9 ; end layout a as u at 0 1 -1 b as v at 0 0 0";
+
 const KIND: &[u8] =
     b"geost 1 dims 1 shape s box 0 size 1 ; object a as s at 0..9 ; rule r : 3 < a ; end";
 
@@ -96,6 +103,16 @@ fn words_have_their_answers(rt: HostRuntime) -> Result<(), Fail> {
         (&["judge"], FITTING, Status::Answered, b"good\n"),
         (&["judge"], OVERLAPPING, Status::No, b"broken r\n"),
         (&["judge"], OUTSIDE, Status::Refused, b"refused 136 range\n"),
+        (&["draw"], FITTING, Status::Answered, b"box 0..3\naabb\n"),
+        (&["draw"], OVERLAPPING, Status::Answered, b"box 0..2\na#b\n"),
+        (
+            &["draw"],
+            LAYERS,
+            Status::Answered,
+            b"box 0..1 0..1 -1..1\nlayer -1\na.\n..\nlayer 0\n..\nbb\nlayer 1\n..\nbb\n",
+        ),
+        (&["draw"], FAR, Status::No, b"large\n"),
+        (&["draw"], OUTSIDE, Status::Refused, b"refused 136 range\n"),
     ];
     for (list, input, status, text) in rows {
         let is_right = answers(rt.alloc(), (list, input), (*status, text), None)?;
@@ -106,7 +123,7 @@ fn words_have_their_answers(rt: HostRuntime) -> Result<(), Fail> {
 
 #[test]
 fn wrong_rules_are_refused_by_every_command(rt: HostRuntime) -> Result<(), Fail> {
-    let commands: &[&[&str]] = &[&["first", "1"], &["show"], &["judge"]];
+    let commands: &[&[&str]] = &[&["first", "1"], &["show"], &["judge"], &["draw"]];
     let rows: &[(&[u8], &[u8])] = &[
         (KIND, b"refused 75 kind\n"),
         (PRODUCT, b"refused 67 product\n"),
