@@ -1,0 +1,9 @@
+pub mod Said
+pub mod Owners
+pub mod Ends
+pub mod Owned
+pub mod Framed
+pub mod Found
+pub mod Painted
+pub mod Pictured
+pub mod OneDrawing
