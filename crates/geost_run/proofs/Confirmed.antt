@@ -22,7 +22,6 @@ use Rattle.geost_run.specs.Headline.{IsConfirmed}
 use Rattle.geost_run.proofs.TwoTexts.{one-cut}
 use Rattle.geost_run.proofs.Shown.{table-of}
 
-
 -- what is printed is checked, however the input is cut
 checked : (input : List ℕ) (p : ProblemData) (cs : List Cond) (text : List ℕ) (h : ShowsNone p cs text) → IsAccepted input p → AreConditions p cs → HasNoLayout p → IsConfirmed input (printed (name_table p) h.events)
 checked input p cs text h a are none first second cut short =
@@ -33,7 +32,7 @@ checked input p cs text h a are none first second cut short =
     let same = one-cut (input ++ (codes "\n" ++ printed n h.events)) f.front behind first second mine cut in
     let few : length behind ≤ 2 ^ 40 = subst (λ (z : List ℕ). length z ≤ 2 ^ 40) (sym same.1) short in
     let reads : IsText n behind h.events =
-        read_back_behind n (first_state p) cs h.events f.blank (said_table p (record { text = input; accepts = a.spells })) (table-of p (accepted_well_formed input p a.spells)) h.derives h.few f.behind few in (
+    read_back_behind n (first_state p) cs h.events f.blank (said_table p (record { text = input; accepts = a.spells })) (table-of p (accepted_well_formed input p a.spells)) h.derives h.few f.behind few in (
       p,
       cs,
       h.derives.root,

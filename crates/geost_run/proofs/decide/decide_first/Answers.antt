@@ -1,10 +1,12 @@
 use Rattle.std.proofs.Common.{Err, refl, subst}
 use Rattle.geost_run.specs.Answer.{FirstAnswer}
 use Rattle.geo_tokens.specs.declared.fault.TextFault.{TextFault}
+use Rattle.problem_data.proofs.Accepted.{accepted_well_formed}
 use Rattle.geost_run.specs.Accepted.{AnswersAccepted}
 use Rattle.geost_run.specs.Decision.{decision_text, decision_status, IsDecided}
 use Rattle.geost_run.proofs.Refusals.{refused_as}
-use Rattle.layout_search.specs.FirstLayout.{Finds}
+use Rattle.geost_run.proofs.Shown.{events-named, shown}
+use Rattle.layout_search.specs.FirstLayout.{Derives, Finds, Lists}
 use Rattle.layout_search.specs.declared.first.Outcome.{Outcome}
 use Rattle.geost_run.proofs.Ending.{shaped_tuple}
 use Rattle.geost_run.proofs.decide.decide_first.Goals as goal
@@ -12,6 +14,22 @@ use Rattle.geost_run.proofs.decide.decide_first.Goals as goal
 pub returns-in-Found-clause-decided : goal.returns-in-Found-clause-decided
 returns-in-Found-clause-decided c =
     shaped_tuple c.in-Ok.accepted.problem c.in-Found.layout (subst (λ (o : Outcome). Finds c.in-Ok.accepted.problem o) c.in-Found.is c.in_ok-layout.ensures.layout).layout.tuple
+
+pub returns-in-Nothing-clause-answer : goal.returns-in-Nothing-clause-answer
+returns-in-Nothing-clause-answer c =
+    let p = c.in-Ok.accepted.problem in
+    let cs = c.in-Ok.accepted.conditions.items in
+    let walk = subst (λ (o : Outcome). Lists p cs c.args.most o) c.in-Nothing.is c.in_ok-layout.ensures.walk in
+    let none = subst (λ (o : Outcome). Finds p o) c.in-Nothing.is c.in_ok-layout.ensures.layout in
+    let found = subst (λ (o : Outcome). Derives p cs o) c.in-Nothing.is c.in_ok-layout.ensures.derivation in
+    (p, cs, c.in-Ok.ensures.accepted, c.in-Ok.ensures.are, walk, none, shown p cs c.in_ok-names.names c.in-Nothing.log.events c.in_ok-names.ensures found.0 found.1)
+
+pub returns-in-Nothing-clause-decided : goal.returns-in-Nothing-clause-decided
+returns-in-Nothing-clause-decided c =
+    let p = c.in-Ok.accepted.problem in
+    let cs = c.in-Ok.accepted.conditions.items in
+    let found = subst (λ (o : Outcome). Derives p cs o) c.in-Nothing.is c.in_ok-layout.ensures.derivation in
+    events-named p cs c.in_ok-names.names c.in-Nothing.log.events (accepted_well_formed c.args.text.now p c.in-Ok.ensures.accepted.spells) c.in_ok-names.ensures found.0
 
 pub returns-in-Err-clause-answer : goal.returns-in-Err-clause-answer
 returns-in-Err-clause-answer c =
