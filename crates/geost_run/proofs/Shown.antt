@@ -1,5 +1,6 @@
 -- What a search records where it finds no layout: its events have names in the table of the problem, and their lines show that there is none.
-use Rattle.std.proofs.Common.{◌≡◌, ◌∙◌, ℕ, zero, suc, ◌<◌, ◌≤◌, ◌^◌, Bool, true, List, [], length, map, refl, sym, ap, subst, arith}
+use Rattle.std.proofs.Common.{inl, inr, ◌≡◌, ◌∙◌, ℕ, zero, suc, ◌<◌, ◌≤◌, ◌^◌, Bool, true, List, [], length, map, refl, sym, ap, subst, arith}
+use Rattle.std.specs.Prelude.{◌⊎◌, Result, Ok, Err, IfOk}
 use Rattle.std.specs.List.{All}
 use Rattle.std.proofs.lemmas.Bool.{cases_lt, false≢true}
 use Rattle.std.proofs.lemmas.List.{length-map, get_or-map, get_or_past}
@@ -8,9 +9,11 @@ use Rattle.geo_tokens.specs.Names.{NameTable}
 use Rattle.geo_conditions.specs.declared.cond.Cond.{Cond}
 use Rattle.geo_conditions.specs.Reach.{Reach, nowhere, place_in, has, dims}
 use Rattle.derivation.specs.declared.event.Event.{Event}
+use Rattle.derivation.specs.Events.{Kept}
 use Rattle.whole_derivation.specs.Whole.{IsDerivation}
 use Rattle.derivation_text.specs.Lines.{shapes_of}
 use Rattle.printed_derivation.specs.Tables.{IsTableOf}
+use Rattle.printed_derivation.specs.Laws.{printed}
 use Rattle.printed_derivation.proofs.ReadBack.{is_printed}
 use Rattle.problem_data.specs.Problem.{RangeData, ObjectData, ProblemData}
 use Rattle.problem_data.specs.Tuple.{object_of}
@@ -20,7 +23,7 @@ use Rattle.rule_ground.specs.Start.{whole_reach, first_state}
 use Rattle.rule_ground.proofs.Starts.{place-there, reach-at}
 use Rattle.layout_search.proofs.AlikeRows.{rows-alike}
 use Rattle.geost_run.specs.Accepted.{AreConditions}
-use Rattle.geost_run.specs.Answer.{ShowsNone}
+use Rattle.geost_run.specs.Answer.{ShowsNone, SaysNone}
 
 abbrev no_object : ObjectData
 no_object = record { name = []; shapes = []; ranges = []; attributes = [] }
@@ -69,3 +72,14 @@ shows-alike p cs ds es are is h = record {
   valid = subst (All (λ (met : Bool). met ≡ true)) (rows-alike ds cs (is ∙ sym are) (first_state p) h.root) h.valid;
   printable = h.printable;
 }
+
+-- what is printed of them says so
+pub says : (p : ProblemData) (cs : List Cond) (names : NameTable) (es : List Event) → names ≡ name_table p → ShowsNone p cs es → SaysNone p cs (printed names es)
+says p cs names es same h = record { events = es; shows = h; says = ap (λ (n : NameTable). printed n es) same }
+
+-- a record that is the old one, or shows the same under conditions of the same problem, shows what the old one shows
+pub shorter-shows : {E : Type 0} (p : ProblemData) (ds : List Cond) (old : List Event) (r : Result Kept E) → AreConditions p ds → IfOk r (λ k. (k.events ≡ old) ⊎ ShowsNone p ds k.events)
+    → IfOk r (λ k. (cs : List Cond) → AreConditions p cs → ShowsNone p cs old → ShowsNone p cs k.events)
+shorter-shows p ds old (Ok k) is (inl e) cs are h = subst (ShowsNone p cs) (sym e) h
+shorter-shows p ds old (Ok k) is (inr s) cs are h = shows-alike p cs ds k.events are is s
+shorter-shows p ds old (Err k) is h = tt

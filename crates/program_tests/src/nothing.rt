@@ -23,11 +23,7 @@ const COMMENTED: &[u8] =
     b"geost 1 dims 1 shape s box 0 size 3 ; object a as s at 0..2 ; rule r : within 0..1 ; end # none, then";
 
 // The status and the text that the words have for an input.
-fn asked(
-    alloc: Global,
-    list: &[&str],
-    input: &[u8],
-) -> Result<(Status, Vec<u8>), AllocError> {
+fn asked(alloc: Global, list: &[&str], input: &[u8]) -> Result<(Status, Vec<u8>), AllocError> {
     let words = words(alloc, list)?;
     let mut source = CleanSource::new(Vec::from_slice(alloc, input)?);
     let mut sink = CleanSink::new(alloc);
@@ -85,7 +81,10 @@ fn a_sink_that_fails_has_a_front_part_of_it(rt: HostRuntime) -> Result<(), Fail>
         let mut sink = MemSink::new(alloc, 1, Vec::from_slice(alloc, &failing)?);
         let ended = run(alloc, &words, &mut source, &mut sink);
         let front = &SHOWN_FALSE[..taken];
-        assert!(rt; ended == Status::WriteFault && sink.bytes() == front, "{taken} bytes");
+        assert!(rt;
+            ended == Status::WriteFault && sink.bytes() == front,
+            "{taken} bytes"
+        );
     }
     Ok(())
 }

@@ -1,10 +1,14 @@
-use Rattle.std.proofs.Common.{Err, refl, subst}
+use Rattle.std.proofs.Common.{Err, refl, sym, subst}
 use Rattle.geost_run.specs.Answer.{FirstAnswer}
+use Rattle.geo_tokens.specs.Names.{NameTable}
+use Rattle.derivation_text.specs.Lines.{AreNamed}
 use Rattle.geo_tokens.specs.declared.fault.TextFault.{TextFault}
+use Rattle.problem_data.proofs.Accepted.{accepted_well_formed}
 use Rattle.geost_run.specs.Accepted.{AnswersAccepted}
 use Rattle.geost_run.specs.Decision.{decision_text, decision_status, IsDecided}
 use Rattle.geost_run.proofs.Refusals.{refused_as}
-use Rattle.layout_search.specs.FirstLayout.{Finds}
+use Rattle.geost_run.proofs.Shown.{shown, says}
+use Rattle.layout_search.specs.FirstLayout.{Derives, Finds, Lists}
 use Rattle.layout_search.specs.declared.first.Outcome.{Outcome}
 use Rattle.geost_run.proofs.Ending.{shaped_tuple}
 use Rattle.geost_run.proofs.decide.decide_first.Goals as goal
@@ -12,6 +16,24 @@ use Rattle.geost_run.proofs.decide.decide_first.Goals as goal
 pub returns-in-Found-clause-decided : goal.returns-in-Found-clause-decided
 returns-in-Found-clause-decided c =
     shaped_tuple c.in-Ok.accepted.problem c.in-Found.layout (subst (λ (o : Outcome). Finds c.in-Ok.accepted.problem o) c.in-Found.is c.in_ok-layout.ensures.layout).layout.tuple
+
+pub returns-in_ok-log-in-Nothing-clause-answer : goal.returns-in_ok-log-in-Nothing-clause-answer
+returns-in_ok-log-in-Nothing-clause-answer c =
+    let p = c.in-Ok.accepted.problem in
+    let cs = c.in-Ok.accepted.conditions.items in
+    let walk = subst (λ (o : Outcome). Lists p cs c.args.most o) c.in-Nothing.is c.in_ok-layout.ensures.walk in
+    let none = subst (λ (o : Outcome). Finds p o) c.in-Nothing.is c.in_ok-layout.ensures.layout in
+    let found = subst (λ (o : Outcome). Derives p cs o) c.in-Nothing.is c.in_ok-layout.ensures.derivation in
+    let shows = c.in_ok-log.ensures cs c.in-Ok.ensures.are (shown p cs c.in-Nothing.log.events (accepted_well_formed c.args.text.now p c.in-Ok.ensures.accepted.spells) found.0 found.1) in
+    (p, cs, c.in-Ok.ensures.accepted, c.in-Ok.ensures.are, walk, none, says p cs c.in_ok-names.names c.in_ok-log.log.events c.in_ok-names.ensures shows)
+
+pub returns-in_ok-log-in-Nothing-clause-decided : goal.returns-in_ok-log-in-Nothing-clause-decided
+returns-in_ok-log-in-Nothing-clause-decided c =
+    let p = c.in-Ok.accepted.problem in
+    let cs = c.in-Ok.accepted.conditions.items in
+    let found = subst (λ (o : Outcome). Derives p cs o) c.in-Nothing.is c.in_ok-layout.ensures.derivation in
+    let shows = c.in_ok-log.ensures cs c.in-Ok.ensures.are (shown p cs c.in-Nothing.log.events (accepted_well_formed c.args.text.now p c.in-Ok.ensures.accepted.spells) found.0 found.1) in
+    subst (λ (n : NameTable). AreNamed n 0 c.in_ok-log.log.events) (sym c.in_ok-names.ensures) shows.printable.named
 
 pub returns-in-Err-clause-answer : goal.returns-in-Err-clause-answer
 returns-in-Err-clause-answer c =
