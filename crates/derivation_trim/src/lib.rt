@@ -7,8 +7,8 @@
 
 mod covers;
 mod judged;
+mod leans;
 mod needed;
-mod objects;
 mod reach;
 mod shorten;
 mod tree;

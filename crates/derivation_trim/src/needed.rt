@@ -1,60 +1,61 @@
 //! What is needed of a derivation.
 //!
-//! The events are read from the last to the first. Each node then has the objects on whose places
-//! and regions it leans. A link whose object the rest does not lean on may be left out, with its
-//! covers; and where one part of a split does not lean on the object, that part alone may stand for
+//! The events are read from the last to the first. Each node then has what of the state it leans
+//! on. A link that moves what its rest does not lean on may be left out, with its covers; and where
+//! one part of a split does not lean on what the split moves for it, that part alone may stand for
 //! both.
 
 ghost use Rattle.std.specs.Prelude.{◌≡◌, IfOk};
 
-use crate::objects::{ObjectSet, named_by_each};
+use crate::leans::{Aspect, Leans};
 use derivation::{Event, Log, Recorder};
 use geo_conditions::{Cond, ObjId};
 use std::alloc::{AllocError, Global};
 
-/// A node: its events from `start` on and before `end`, and the objects that it leans on.
+/// A node: its events from `start` on and before `end`, and what it leans on.
 #[derive(Clone, Copy)]
 struct Span {
     start: usize,
     end: usize,
-    leans: ObjectSet,
+    leans: Leans,
 }
 
 /// What was read of a derivation, from its end.
 #[derive(Drop)]
-struct Backwards {
-    /// The objects that each condition names.
-    named: Vec<ObjectSet>,
+struct Backwards<'a> {
+    conditions: &'a [Cond],
     /// The nodes that are part of no other yet, the first in the text last.
     spans: Vec<Span>,
-    /// The objects named at the leaves of covers that belong to no node yet.
-    covers: ObjectSet,
+    /// What the leaves lean on of covers that belong to no node yet.
+    covers: Leans,
     /// Where the last list of covers ends.
     covers_end: usize,
     /// For each event where the derivation goes on if it is left out, or 0 where it stays.
     jumps: Vec<usize>,
 }
 
-impl Backwards {
-    fn start(alloc: Global, conditions: &[Cond], events: usize) -> Result<Backwards, AllocError> {
+// What it takes to refute the condition of this number.
+fn insert_number(leans: &mut Leans, conditions: &[Cond], i: u32) {
+    if i != 0 {
+        if let Some(c) = conditions.get((i - 1) as usize) {
+            leans.insert_refuted(c);
+        }
+    }
+}
+
+impl<'a> Backwards<'a> {
+    fn start(
+        alloc: Global,
+        conditions: &'a [Cond],
+        events: usize,
+    ) -> Result<Backwards<'a>, AllocError> {
         Ok(Backwards {
-            named: named_by_each(alloc, conditions)?,
+            conditions,
             spans: Vec::new(alloc),
-            covers: ObjectSet::new(),
+            covers: Leans::new(),
             covers_end: 0,
             jumps: vec![in alloc; 0; events]?,
         })
-    }
-
-    // The objects that the condition of this number names.
-    fn named(&self, i: u32) -> ObjectSet {
-        if i == 0 {
-            return ObjectSet::new();
-        }
-        match self.named.get((i - 1) as usize) {
-            Some(set) => *set,
-            None => ObjectSet::new(),
-        }
     }
 
     fn leave_out(&mut self, start: usize, end: usize) {
@@ -63,11 +64,12 @@ impl Backwards {
         }
     }
 
-    // The objects of the covers that were read, which now belong to a node of this object.
-    fn take_covers(&mut self, o: ObjId) -> ObjectSet {
+    // What the covers lean on that were read, which now belong to a node of this object. They lean
+    // on its region, and at their leaves it is put at a place.
+    fn take_covers(&mut self, o: ObjId) -> Leans {
         let mut leans = self.covers;
-        leans.insert(o);
-        self.covers = ObjectSet::new();
+        leans.lean_on_ends(o);
+        self.covers = Leans::new();
         leans
     }
 
@@ -77,41 +79,65 @@ impl Backwards {
         Ok(true)
     }
 
-    // A link of the object begins at `start`, and its rest is read.
-    fn link(&mut self, start: usize, o: ObjId) -> Result<bool, AllocError> {
-        let mut leans = self.take_covers(o);
+    // A link begins at `start` that moves an aspect of the object, and its rest is read.
+    fn link(
+        &mut self,
+        start: usize,
+        o: ObjId,
+        moved: Aspect,
+        own: &Leans,
+    ) -> Result<bool, AllocError> {
         let Some(rest) = self.spans.pop() else {
             return Ok(false);
         };
-        if rest.leans.has(o) {
-            leans.join(&rest.leans);
+        let mut leans = rest.leans;
+        if leans.has(o, moved) {
+            leans.join(own);
         } else {
-            leans = rest.leans;
             self.leave_out(start, rest.start);
         }
         let end = rest.end;
         self.end(Span { start, end, leans })
     }
 
-    // A split of the object stands at `start`, and both parts are read.
-    fn split(&mut self, start: usize, o: ObjId) -> Result<bool, AllocError> {
+    // A link that moves one end of an interval. Its covers end below the other end.
+    fn bound(
+        &mut self,
+        start: usize,
+        o: ObjId,
+        moved: Aspect,
+        other: Aspect,
+    ) -> Result<bool, AllocError> {
+        let mut own = self.take_covers(o);
+        own.insert(o, Aspect::Places);
+        own.remove(o, other);
+        self.link(start, o, moved, &own)
+    }
+
+    // A split of the object stands at `start`, which moves one aspect for its first part and one
+    // for the second, and both parts are read.
+    fn split(
+        &mut self,
+        start: usize,
+        o: ObjId,
+        in_first: Aspect,
+        in_second: Aspect,
+    ) -> Result<bool, AllocError> {
         let Some(first) = self.spans.pop() else {
             return Ok(false);
         };
         let Some(second) = self.spans.pop() else {
             return Ok(false);
         };
-        let leans = if !first.leans.has(o) {
+        let leans = if !first.leans.has(o, in_first) {
             self.leave_out(start, first.start);
             self.leave_out(second.start, second.end);
             first.leans
-        } else if !second.leans.has(o) {
+        } else if !second.leans.has(o, in_second) {
             self.leave_out(start, second.start);
             second.leans
         } else {
-            let mut both = first.leans;
-            both.join(&second.leans);
-            both
+            of_both(o, (first.leans, in_first), (second.leans, in_second))
         };
         let end = second.end;
         self.end(Span { start, end, leans })
@@ -121,24 +147,28 @@ impl Backwards {
     // derivation.
     fn take(&mut self, start: usize, end: usize, e: Event) -> Result<bool, AllocError> {
         match e {
-            Event::SplitShape(o, _) | Event::SplitUpto(o, _, _) | Event::SplitFrom(o, _, _) => {
-                self.split(start, o)
-            }
-            Event::Drop(o, _) | Event::Raise(o, _, _) | Event::Lower(o, _, _) => {
-                self.link(start, o)
+            Event::SplitShape(o, _) => self.split(start, o, Aspect::Places, Aspect::Places),
+            Event::SplitUpto(o, d, _) => self.split(start, o, Aspect::High(d), Aspect::Low(d)),
+            Event::SplitFrom(o, d, _) => self.split(start, o, Aspect::Low(d), Aspect::High(d)),
+            Event::Raise(o, d, _) => self.bound(start, o, Aspect::Low(d), Aspect::High(d)),
+            Event::Lower(o, d, _) => self.bound(start, o, Aspect::High(d), Aspect::Low(d)),
+            Event::Drop(o, _) => {
+                let own = self.take_covers(o);
+                self.link(start, o, Aspect::Places, &own)
             }
             Event::Gone(o) => {
-                let leans = self.take_covers(o);
+                let mut leans = self.take_covers(o);
+                leans.insert(o, Aspect::Places);
                 let end = self.covers_end;
                 self.end(Span { start, end, leans })
             }
             Event::Dead(i) => {
-                let leans = self.named(i);
+                let mut leans = Leans::new();
+                insert_number(&mut leans, self.conditions, i);
                 self.end(Span { start, end, leans })
             }
             Event::By(i) => {
-                let named = self.named(i);
-                self.covers.join(&named);
+                insert_number(&mut self.covers, self.conditions, i);
                 Ok(true)
             }
             Event::EndCovers => {
@@ -148,6 +178,23 @@ impl Backwards {
             Event::Cover(_) | Event::Cut(_, _) | Event::CutFrom(_, _) => Ok(true),
         }
     }
+}
+
+// What both parts of a split of the object lean on. The first part has the place or the end that
+// the split gives it, whatever it was before, and the second part has the end.
+fn of_both(
+    o: ObjId,
+    (first, in_first): (Leans, Aspect),
+    (second, in_second): (Leans, Aspect),
+) -> Leans {
+    let (mut leans, mut others) = (first, second);
+    leans.remove(o, in_first);
+    match in_second {
+        Aspect::Places => {}
+        Aspect::Low(_) | Aspect::High(_) => others.remove(o, in_second),
+    }
+    leans.join(&others);
+    leans
 }
 
 // The events that stay.

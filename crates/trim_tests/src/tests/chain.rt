@@ -1,5 +1,7 @@
 //! Three objects on a line, one behind the other, and events of derivations.
 
+ghost use Rattle.std.specs.Prelude.{◌<◌};
+
 use derivation::{Event, Log, Recorder};
 use geo_base::{KBox, Point};
 use geo_conditions::{Cond, Conds, Form, ObjId, State};
@@ -53,6 +55,7 @@ fn is_same(a: &Event, b: &Event) -> bool {
         (Event::SplitUpto(o, d, v), Event::SplitUpto(u, e, w)) => o == u && d == e && v == w,
         (Event::Drop(o, s), Event::Drop(u, r)) => o == u && s == r,
         (Event::Raise(o, d, v), Event::Raise(u, e, w)) => o == u && d == e && v == w,
+        (Event::Lower(o, d, v), Event::Lower(u, e, w)) => o == u && d == e && v == w,
         (Event::Gone(o), Event::Gone(u)) => o == u,
         (Event::Dead(i), Event::Dead(j)) => i == j,
         (Event::Cover(s), Event::Cover(r)) => s == r,

@@ -3,7 +3,7 @@
 use super::chain::{A, B, C, are_same, conditions, line, record};
 use derivation::{Event, Log, Recorder};
 use derivation_trim::{is_derivation, shortened};
-use geo_conditions::all_fit;
+use geo_conditions::{ObjId, all_fit};
 use std::alloc::{AllocError, Global};
 use std::test::Fail;
 
@@ -58,6 +58,34 @@ const ROWS: &[Row] = &[
         ranges: &[(0, 1), (0, 1), (0, 1)],
         events: &[Event::SplitUpto(B, 0, 0), Event::Dead(1), Event::Dead(2)],
         wanted: &[Event::SplitUpto(B, 0, 0), Event::Dead(1), Event::Dead(2)],
+    },
+    // the low end of B is needed, and the high end is not
+    Row {
+        ranges: &[(0, 1), (0, 9), (0, 1)],
+        events: &[
+            Event::Lower(B, 0, 0),
+            Event::Cover(1),
+            Event::By(2),
+            Event::EndCovers,
+            Event::Raise(B, 0, 1),
+            Event::Cover(1),
+            Event::By(1),
+            Event::EndCovers,
+            Event::Gone(C),
+            Event::Cover(1),
+            Event::By(2),
+            Event::EndCovers,
+        ],
+        wanted: &[
+            Event::Raise(B, 0, 1),
+            Event::Cover(1),
+            Event::By(1),
+            Event::EndCovers,
+            Event::Gone(C),
+            Event::Cover(1),
+            Event::By(2),
+            Event::EndCovers,
+        ],
     },
     // C has no point behind B, at 0 and at 1 for one reason
     Row {

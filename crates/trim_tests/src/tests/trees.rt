@@ -3,7 +3,7 @@
 use super::chain::{A, B, C, conditions, line, record};
 use derivation::Event;
 use derivation_trim::{is_derivation, is_one_tree};
-use geo_conditions::all_fit;
+use geo_conditions::{ObjId, all_fit};
 use std::alloc::{AllocError, Global};
 use std::test::Fail;
 
@@ -80,7 +80,7 @@ const DERIVATIONS: &[(&[Event], bool)] = &[
     (&[Event::SplitUpto(C, 0, 0), Event::Dead(3)], false),
     (
         &[
-            Event::SplitShape(geo_conditions::ObjId(3), 1),
+            Event::SplitShape(ObjId(3), 1),
             Event::Dead(3),
             Event::Dead(3),
         ],
