@@ -29,7 +29,7 @@ checked input p cs es h a are none first second cut short =
     let same = one-cut (input ++ (codes "\n" ++ printed n es)) f.front behind first second mine cut in
     let few : length behind ≤ 2 ^ 40 = subst (λ (z : List ℕ). length z ≤ 2 ^ 40) (sym same.1) short in
     let reads : IsText n behind es =
-        read_printable_behind n h.root es f.blank (said_table p (record { text = input; accepts = a.spells })) h.tree h.printable f.behind few in (
+    read_printable_behind n h.root es f.blank (said_table p (record { text = input; accepts = a.spells })) h.tree h.printable f.behind few in (
       p,
       cs,
       h.root,

@@ -124,8 +124,7 @@ returns-in-Ended-clause-derivation g c =
     c.in_ok-search.ensures.walk c.in_ok-search.ensures.budget c.in_ok-search.ensures.walked in
     let h = first-answer a b _ c.in_ok-search.ensures.over c.in-Ended.ensures.steps in
     let none : b.some_found ≡ false = c.next.ensures.some_found ∙ ap (λ (x : Bool). x || is_found c.next.result) c.in_ok-search.ensures.some_found ∙ ap is_found c.in-Ended.is in
-    let empty : a.began_empty ≡ true = c.in_ok-search.ensures.began_empty refl ∙ ap (λ (es : List Event). length es == 0) c.new-record.ensures.events in
-    (
+    let empty : a.began_empty ≡ true = c.in_ok-search.ensures.began_empty refl ∙ ap (λ (es : List Event). length es == 0) c.new-record.ensures.events in (
       ended-derives p cs well (state-is p well) c.requires.conditions c.args.budget a b f h.0 c.into_recorder.result.events c.into_recorder.ensures.events
           (c.next.ensures.derived refl c.in-Ended.is none empty (ap (λ (W : Tree). W.after) c.in_ok-search.ensures.walk)),
       c.in_ok-propagator.ensures.few,
