@@ -97,7 +97,7 @@ draw_text input t u _ a b = absurd a
 text_of : (words : List (List ℕ)) (c : Command) (input t u : List ℕ) (s : Status) → HasForm words c → AnswerTo c input t s → AnswerTo c input u s → AreAlike words input s t u
 text_of words (First n) input t u s form a b = elim (first_text n input t u s a b) [
   | inl e ↦ inl e
-  | inr (no, both) ↦ inr (n, form, no, both)
+  | inr (ended, both) ↦ inr (n, form, ended, both)
 ]
 text_of words Show input t u s form a b = inl (show_text input t u s a b)
 text_of words Judge input t u s form a b = inl (judge_text input t u s a b)

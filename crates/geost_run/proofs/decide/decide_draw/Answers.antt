@@ -18,9 +18,9 @@ returns-in-Err-clause-decided c = refused_as IsDecided c.in-Err.fault c.refuse.r
 pub returns-in-Some-clause-answer : goal.returns-in-Some-clause-answer
 returns-in-Some-clause-answer c =
     let h = c.in-Ok.ensures in
-    (c.in-Ok.accepted.problem, c.in-Ok.layout, (h.first, h.second, h.cut, h.read.accepted, h.spells), c.in-Some.ensures)
+    (c.in-Ok.given.accepted.problem, c.in-Ok.given.layout, (h.first, h.second, h.cut, h.read.accepted, h.spells), c.in-Some.ensures)
 
-pub returns-in-None-clause-answer : goal.returns-in-None-clause-answer
-returns-in-None-clause-answer c =
+pub returns-clause-answer : goal.returns-clause-answer
+returns-clause-answer c =
     let h = c.in-Ok.ensures in
-    (c.in-Ok.accepted.problem, c.in-Ok.layout, (h.first, h.second, h.cut, h.read.accepted, h.spells), c.in-None.ensures, refl)
+    (c.in-Ok.given.accepted.problem, c.in-Ok.given.layout, (h.first, h.second, h.cut, h.read.accepted, h.spells), c.in-None.ensures, refl)

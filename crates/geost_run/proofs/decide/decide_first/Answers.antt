@@ -24,16 +24,16 @@ returns-in_ok-log-in-Nothing-clause-answer c =
     let walk = subst (λ (o : Outcome). Lists p cs c.args.most o) c.in-Nothing.is c.in_ok-layout.ensures.walk in
     let none = subst (λ (o : Outcome). Finds p o) c.in-Nothing.is c.in_ok-layout.ensures.layout in
     let found = subst (λ (o : Outcome). Derives p cs o) c.in-Nothing.is c.in_ok-layout.ensures.derivation in
-    let shows = c.in_ok-log.ensures cs c.in-Ok.ensures.are (shown p cs c.in-Nothing.log.events (accepted_well_formed c.args.text.now p c.in-Ok.ensures.accepted.spells) found.0 found.1) in
-    (p, cs, c.in-Ok.ensures.accepted, c.in-Ok.ensures.are, walk, none, says p cs c.in_ok-names.names c.in_ok-log.log.events c.in_ok-names.ensures shows)
+    let shows = c.in_ok-log-in-Nothing.ensures cs c.in-Ok.ensures.are (shown p cs c.in-Nothing.log.events (accepted_well_formed c.args.text.now p c.in-Ok.ensures.accepted.spells) found.0 found.1) in
+    (p, cs, c.in-Ok.ensures.accepted, c.in-Ok.ensures.are, walk, none, says p cs c.in_ok-names-in-Nothing.names c.in_ok-log-in-Nothing.log.events c.in_ok-names-in-Nothing.ensures shows)
 
 pub returns-in_ok-log-in-Nothing-clause-decided : goal.returns-in_ok-log-in-Nothing-clause-decided
 returns-in_ok-log-in-Nothing-clause-decided c =
     let p = c.in-Ok.accepted.problem in
     let cs = c.in-Ok.accepted.conditions.items in
     let found = subst (λ (o : Outcome). Derives p cs o) c.in-Nothing.is c.in_ok-layout.ensures.derivation in
-    let shows = c.in_ok-log.ensures cs c.in-Ok.ensures.are (shown p cs c.in-Nothing.log.events (accepted_well_formed c.args.text.now p c.in-Ok.ensures.accepted.spells) found.0 found.1) in
-    subst (λ (n : NameTable). AreNamed n 0 c.in_ok-log.log.events) (sym c.in_ok-names.ensures) shows.printable.named
+    let shows = c.in_ok-log-in-Nothing.ensures cs c.in-Ok.ensures.are (shown p cs c.in-Nothing.log.events (accepted_well_formed c.args.text.now p c.in-Ok.ensures.accepted.spells) found.0 found.1) in
+    subst (λ (n : NameTable). AreNamed n 0 c.in_ok-log-in-Nothing.log.events) (sym c.in_ok-names-in-Nothing.ensures) shows.printable.named
 
 pub returns-in-Err-clause-answer : goal.returns-in-Err-clause-answer
 returns-in-Err-clause-answer c =

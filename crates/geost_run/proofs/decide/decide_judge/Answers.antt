@@ -17,12 +17,12 @@ returns-in-Err-clause-decided c = refused_as IsDecided c.in-Err.fault c.refuse.r
 pub returns-in-Good-clause-answer : goal.returns-in-Good-clause-answer
 returns-in-Good-clause-answer c =
     let h = c.in-Ok.ensures in
-    (c.in-Ok.accepted.problem, c.in-Ok.layout, (h.first, h.second, h.cut, h.read.accepted, h.spells), record { tuple = h.tuple; rules = c.in-Good.ensures }, refl)
+    (c.in-Ok.given.accepted.problem, c.in-Ok.given.layout, (h.first, h.second, h.cut, h.read.accepted, h.spells), record { tuple = h.tuple; rules = c.in-Good.ensures }, refl)
 
 pub returns-in-Broken-clause-answer : goal.returns-in-Broken-clause-answer
 returns-in-Broken-clause-answer c =
     let h = c.in-Ok.ensures in
-    (c.in-Ok.accepted.problem, c.in-Ok.layout, c.in-Broken.number, (h.first, h.second, h.cut, h.read.accepted, h.spells), c.in-Broken.ensures, refl)
+    (c.in-Ok.given.accepted.problem, c.in-Ok.given.layout, c.in-Broken.number, (h.first, h.second, h.cut, h.read.accepted, h.spells), c.in-Broken.ensures, refl)
 
 pub returns-in-Broken-clause-decided : goal.returns-in-Broken-clause-decided
 returns-in-Broken-clause-decided c = (let n = c.in-Broken.ensures.number in let i = c.in-Broken.ensures.inside in (omega (arith, n), omega (arith, n, i)))
