@@ -1,6 +1,7 @@
 mod answer;
 mod boxes;
 mod derivations;
+mod drawings;
 mod formulas;
 mod layouts;
 mod mistakes;
@@ -8,3 +9,4 @@ mod problems;
 mod statements;
 mod streams;
 mod tokens;
+mod tuple_tokens;
