@@ -111,21 +111,19 @@ fn layouts_are_drawn(rt: HostRuntime) -> Result<(), Fail> {
 /// The last sign and what stands in front of the million cells.
 #[test]
 fn a_million_cells_are_drawn(rt: HostRuntime) -> Result<(), Fail> {
-    let long = drawing(
-        rt.alloc(),
-        LONG,
-        b"layout a as u at 0 b as u at 999999",
-    )?;
+    let long = drawing(rt.alloc(), LONG, b"layout a as u at 0 b as u at 999999")?;
     assert_eq!(rt; long.len(), 14 + 1_000_000 + 1);
-    assert!(rt; long.as_slice().starts_with(b"box 0..999999\na.........".as_slice()));
+    assert!(rt;
+        long.as_slice()
+            .starts_with(b"box 0..999999\na.........".as_slice())
+    );
     assert!(rt; long.as_slice().ends_with(b".........b\n".as_slice()));
-    let wide = drawing(
-        rt.alloc(),
-        WIDE,
-        b"layout a as u at 0 0 b as u at 999 999",
-    )?;
+    let wide = drawing(rt.alloc(), WIDE, b"layout a as u at 0 0 b as u at 999 999")?;
     assert_eq!(rt; wide.len(), 18 + 1_001_000);
-    assert!(rt; wide.as_slice().starts_with(b"box 0..999 0..999\n.........".as_slice()));
+    assert!(rt;
+        wide.as_slice()
+            .starts_with(b"box 0..999 0..999\n.........".as_slice())
+    );
     assert!(rt; wide.as_slice().ends_with(b".........\n".as_slice()));
     Ok(())
 }
@@ -146,8 +144,7 @@ fn in_a_row(alloc: Global, count: u8) -> Result<(String, String), Fail> {
 fn signs_begin_again_behind_the_digits(rt: HostRuntime) -> Result<(), Fail> {
     let (problem, layout) = in_a_row(rt.alloc(), 64)?;
     let found = drawing(rt.alloc(), problem.as_bytes(), layout.as_bytes())?;
-    let wanted =
-        b"box 0..63\nabcdefghijklmnopqrstuvwxyzABCDEFGHIJKLMNOPQRSTUVWXYZ0123456789ab\n";
+    let wanted = b"box 0..63\nabcdefghijklmnopqrstuvwxyzABCDEFGHIJKLMNOPQRSTUVWXYZ0123456789ab\n";
     assert_eq!(rt; found.as_slice(), wanted.as_slice());
     Ok(())
 }
