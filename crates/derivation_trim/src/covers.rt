@@ -40,9 +40,8 @@ impl<'a, const K: usize> Swept<'a, K> {
         }
     }
 
-    // The number from `good` on and before `bad` that is farthest from `good` and where a condition
-    // stays refuted up to it, as bisection finds it; it is known to be so at `good`. Either may be
-    // the lesser.
+    // A side as far from `side` towards `bad` as bisection finds one on which the condition is
+    // refuted. It is taken to be refuted on `side`, and not up to `bad`.
     fn farthest(&self, i: u32, b: &KBox<K>, side: Side, bad: i64) -> Side
         requires { K ≤ MAX_DIMS }
     {

@@ -6,6 +6,7 @@
 #![tactic(auto)]
 
 mod covers;
+mod joins;
 mod judged;
 mod leans;
 mod needed;

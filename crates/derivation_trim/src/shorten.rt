@@ -2,6 +2,7 @@
 
 ghost use Rattle.std.specs.Prelude.{◌≤◌, IfOk, length};
 
+use crate::joins::joined;
 use crate::needed::{copied, needed};
 use crate::walk::with_simpler_covers;
 use derivation::Log;
@@ -21,7 +22,8 @@ pub fn shortened<const K: usize>(
     ensures { IfOk result (λ shorter. length shorter.events ≤ length log.now.events) }
 {
     let simpler = with_simpler_covers(alloc, conditions, first, log.events())?;
-    let shorter = needed(alloc, conditions, simpler.events())?;
+    let kept = needed(alloc, conditions, simpler.events())?;
+    let shorter = joined(alloc, kept.events())?;
     if shorter.events().len() <= log.events().len() {
         Ok(shorter)
     } else {

@@ -82,4 +82,4 @@ pub shorter-shows : {E : Type 0} (p : ProblemData) (ds : List Cond) (old : List 
     → IfOk r (λ k. (cs : List Cond) → AreConditions p cs → ShowsNone p cs old → ShowsNone p cs k.events)
 shorter-shows p ds old (Ok k) is (inl e) cs are h = subst (ShowsNone p cs) (sym e) h
 shorter-shows p ds old (Ok k) is (inr s) cs are h = shows-alike p cs ds k.events are is s
-shorter-shows p ds old (Err k) is h = tt
+shorter-shows p ds old (Err k) is h cs are s = tt

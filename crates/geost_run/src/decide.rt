@@ -79,7 +79,8 @@ pub fn decide_draw(alloc: Global, text: &[u8]) -> Result<Decision, AllocError>
         Ok(given) => given,
         Err(fault) => return refuse(fault),
     };
-    match drawing(alloc, &accepted.problem, &layout)? {
+    let drawn = drawing(alloc, &accepted.problem, &layout)?;
+    match drawn {
         Some(rows) => Ok(Decision::Drawn(rows)),
         None => Ok(Decision::Large),
     }

@@ -161,7 +161,7 @@ const ROWS: &[Row] = &[
             Event::EndCovers,
         ],
     },
-    // a cut outside the box leaves one part empty
+    // a cut outside the box leaves one part empty, and what is dropped stands in the last list
     Row {
         ranges: &[(0, 1), (0, 2), (0, 1)],
         events: &[
@@ -175,11 +175,11 @@ const ROWS: &[Row] = &[
             Event::EndCovers,
         ],
         wanted: &[
-            Event::Drop(B, 1),
+            Event::Gone(B),
+            Event::Cover(1),
             Event::CutFrom(0, 1),
             Event::By(2),
             Event::By(1),
-            Event::Gone(B),
             Event::EndCovers,
         ],
     },
