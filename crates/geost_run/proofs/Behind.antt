@@ -1,5 +1,5 @@
 -- What is decided of a problem and the text behind it is an answer of `check` to the input.
-use Rattle.std.proofs.Common.{◌≡◌, inl, inr, ℕ, ◌<◌, ◌≤◌, List, [], ◌∷◌, ◌++◌, length, Bool, true, false, refl, sym, ap, ◌∙◌, subst, arith, append-nil}
+use Rattle.std.proofs.Common.{◌≡◌, inl, inr, ℕ, ◌<◌, ◌≤◌, List, [], ◌++◌, length, Bool, true, false, refl, sym, ap, ◌∙◌, subst, arith, append-nil}
 use Rattle.std.specs.Prelude.{Option, None, Some, Result, Ok, Err}
 use Rattle.std.specs.Io.KnownBytes.{Consumes, IsAtEnd}
 use Rattle.geo_tokens.specs.declared.fault.FaultWord.{FaultWord}
@@ -10,7 +10,6 @@ use Rattle.geo_base.specs.Tuple.{Tuple}
 use Rattle.geo_conditions.specs.declared.cond.Cond.{Cond}
 use Rattle.geo_conditions.specs.Reach.{State}
 use Rattle.derivation.specs.declared.event.Event.{Event}
-use Rattle.derivation.specs.Nodes.{node_events}
 use Rattle.derivation_check.specs.declared.progress.Checked.{Checked}
 use Rattle.derivation_check.specs.declared.progress.Checked.TheVariants as verdicts
 use Rattle.derivation_check.specs.Sound.{Solves}
@@ -28,12 +27,12 @@ use Rattle.geost_run.specs.declared.accepted.Accepted.{Accepted}
 use Rattle.geost_run.specs.declared.decision.Decision.{Decision}
 use Rattle.geost_run.specs.declared.decision.Decision.TheVariants.{Refuse, Nothing, Layout, Shown, Good, Proved, Failing}
 use Rattle.geost_run.specs.declared.decision.Decision.TheVariants as decisions
-use Rattle.geost_run.specs.Accepted.{IsAccepted, IsRefused, HasRead}
+use Rattle.geost_run.specs.Accepted.{IsRefused, HasRead}
 use Rattle.geost_run.specs.Answer.{CheckAnswer, HasDerivationFault}
 use Rattle.geost_run.specs.Checks.{Follows, HasEnded, DecidesOn, verdict_of}
 use Rattle.geost_run.specs.Decision.{decision_text, decision_status, Decides}
 use Rattle.geost_run.specs.Reading.{Tells, ReadsUpTo}
-use Rattle.geost_run.specs.Texts.{AreTextsOf, IsRefusedPair, in_first, in_second}
+use Rattle.geost_run.specs.Texts.{AreTextsOf, in_first, in_second}
 use Rattle.geost_run.proofs.TwoTexts.{texts-on, refused-first, spelled-short}
 
 -- ---- the text behind the problem

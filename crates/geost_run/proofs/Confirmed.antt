@@ -12,10 +12,9 @@ use Rattle.problem_text.proofs.Said.{said_table}
 use Rattle.accepted_fronts.specs.Fronts.{HasFrontThere}
 use Rattle.accepted_fronts.proofs.Fronts.{has_front_there}
 use Rattle.layout_search.specs.FirstLayout.{HasNoLayout}
-use Rattle.geost_run.specs.declared.command.Status.TheVariants.{Answered}
 use Rattle.geost_run.specs.Accepted.{IsAccepted, AreConditions}
 use Rattle.geost_run.specs.Texts.{AreTextsOf}
-use Rattle.geost_run.specs.Answer.{ShowsNone, SaysNone, CheckAnswer}
+use Rattle.geost_run.specs.Answer.{ShowsNone, SaysNone}
 use Rattle.geost_run.specs.Headline.{IsConfirmed}
 use Rattle.geost_run.proofs.TwoTexts.{one-cut}
 

@@ -1,8 +1,6 @@
 -- The same words and the same input have one text, where the status is the same; but behind `none` each valid derivation may stand.
-use Rattle.std.proofs.Common.{◌≡◌, ◌≤◌, ◌^◌, inl, inr, ℕ, Bool, true, List, length, map, refl, sym, ◌∙◌, ap, subst, arith}
+use Rattle.std.proofs.Common.{◌≡◌, inl, inr, ℕ, List, refl, sym, ◌∙◌, ap, subst, arith}
 use Rattle.std.specs.Prelude.{◌⊎◌}
-use Rattle.std.specs.List.{All}
-use Rattle.std.proofs.lemmas.List.{length-map}
 use Rattle.std.proofs.lemmas.Bool.{cases_lt}
 use Rattle.geo_base.specs.Tuple.{Tuple}
 use Rattle.geo_conditions.specs.declared.cond.Cond.{Cond}

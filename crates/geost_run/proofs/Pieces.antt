@@ -1,8 +1,7 @@
 -- What a check of a text that comes in pieces has taken.
-use Rattle.std.proofs.Common.{◌≡◌, ◌⊎◌, inl, inr, ℕ, ◌+◌, ◌-◌, ◌<◌, ◌≤◌, List, [], ◌++◌, length, take, Bool, true, false, refl, sym, ap, ◌∙◌, subst, arith, append-nil, append_assoc, length-append}
+use Rattle.std.proofs.Common.{◌≡◌, ◌⊎◌, inl, inr, ℕ, ◌+◌, ◌-◌, ◌<◌, ◌≤◌, List, [], ◌++◌, length, Bool, true, false, refl, sym, ap, ◌∙◌, subst, arith, append-nil, append_assoc, length-append}
 use Rattle.std.specs.Prelude.{◌^◌, Option, None, Some, Result, Ok, Err, IfErr}
 use Rattle.std.specs.Io.KnownBytes.{Consumes, IsAtEnd}
-use Rattle.std.proofs.lemmas.List.{length-take}
 use Rattle.std.proofs.lemmas.Bool.{false≢true}
 use Rattle.geo_tokens.specs.declared.fault.TextFault.{TextFault}
 use Rattle.geo_tokens.specs.Names.{NameTable}
@@ -17,7 +16,7 @@ use Rattle.derivation_reading.specs.declared.feeder.Feeder.{Feeder}
 use Rattle.derivation_reading.specs.FirstFault.{HasFaultFrom}
 use Rattle.derivation_reading.specs.Feeding.{IsOpen, IsAt}
 use Rattle.stream_check.specs.Streaming.{IsChecking, HasChecked}
-use Rattle.geost_run.specs.Reading.{Tells, TakesAtMost}
+use Rattle.geost_run.specs.Reading.{TakesAtMost}
 use Rattle.geost_run.specs.Checks.{Follows}
 use Rattle.geost_run.proofs.Taking.{nothing_taken, taken_then}
 

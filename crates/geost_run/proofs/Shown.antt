@@ -1,5 +1,5 @@
 -- What a search records where it finds no layout: its events have names in the table of the problem, and their lines show that there is none.
-use Rattle.std.proofs.Common.{inl, inr, ◌≡◌, ◌∙◌, ℕ, zero, suc, ◌<◌, ◌≤◌, ◌^◌, Bool, true, List, [], length, map, refl, sym, ap, subst, arith}
+use Rattle.std.proofs.Common.{inl, inr, ◌≡◌, ◌∙◌, ℕ, zero, suc, ◌<◌, ◌≤◌, ◌^◌, Bool, true, List, [], length, sym, ap, subst, arith}
 use Rattle.std.specs.Prelude.{◌⊎◌, Result, Ok, Err, IfOk}
 use Rattle.std.specs.List.{All}
 use Rattle.std.proofs.lemmas.Bool.{cases_lt, false≢true}
@@ -17,7 +17,7 @@ use Rattle.printed_derivation.specs.Laws.{printed}
 use Rattle.printed_derivation.proofs.ReadBack.{is_printed}
 use Rattle.problem_data.specs.Problem.{RangeData, ObjectData, ProblemData}
 use Rattle.problem_data.specs.Tuple.{object_of}
-use Rattle.problem_data.specs.WellFormed.{IsObject, IsWellFormed}
+use Rattle.problem_data.specs.WellFormed.{IsWellFormed}
 use Rattle.problem_text.specs.NameTable.{named_object, name_table}
 use Rattle.rule_ground.specs.Start.{whole_reach, first_state}
 use Rattle.rule_ground.proofs.Starts.{place-there, reach-at}
@@ -80,6 +80,6 @@ says p cs names es same h = record { events = es; shows = h; says = ap (λ (n : 
 -- a record that is the old one, or shows the same under conditions of the same problem, shows what the old one shows
 pub shorter-shows : {E : Type 0} (p : ProblemData) (ds : List Cond) (old : List Event) (r : Result Kept E) → AreConditions p ds → IfOk r (λ k. (k.events ≡ old) ⊎ ShowsNone p ds k.events)
     → IfOk r (λ k. (cs : List Cond) → AreConditions p cs → ShowsNone p cs old → ShowsNone p cs k.events)
-shorter-shows p ds old (Ok k) is (inl e) cs are h = subst (ShowsNone p cs) (sym e) h
-shorter-shows p ds old (Ok k) is (inr s) cs are h = shows-alike p cs ds k.events are is s
-shorter-shows p ds old (Err k) is h cs are s = tt
+shorter-shows p ds old (Ok k) is (inl e) = λ cs are h. subst (ShowsNone p cs) (sym e) h
+shorter-shows p ds old (Ok k) is (inr s) = λ cs are h. shows-alike p cs ds k.events are is s
+shorter-shows p ds old (Err k) is h = tt

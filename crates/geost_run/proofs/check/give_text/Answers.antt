@@ -1,10 +1,5 @@
-use Rattle.std.proofs.Common.{rules, ◌≡◌, ◌+◌, ◌^◌, ◌<◌, ◌≤◌, ℕ, List, [], ◌++◌, length, take, true, false, refl, sym, ap, ◌∙◌, subst, arith, Ok}
-use Rattle.std.specs.Prelude.{Result, Bool}
+use Rattle.std.proofs.Common.{rules, ◌≡◌, ◌≤◌, ℕ, [], length, take, true, refl, sym, ap, ◌∙◌, subst, arith, Ok}
 use Rattle.std.proofs.lemmas.Grind.{common_steps}
-use Rattle.geo_tokens.specs.declared.fault.TextFault.{TextFault}
-use Rattle.geo_tokens.specs.Names.{NameTable}
-use Rattle.geo_conditions.specs.Reach.{Reach}
-use Rattle.stream_check.specs.Streaming.{IsChecking, HasChecked}
 use Rattle.geost_run.specs.Reading.{TakesAtMost}
 use Rattle.geost_run.proofs.Pieces.{first_given, piece_taken, next_given, most_given, all_checked, fault_found, ok_or_err}
 use Rattle.geost_run.proofs.check.give_text.Goals as goal

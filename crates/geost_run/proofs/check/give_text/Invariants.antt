@@ -1,4 +1,4 @@
-use Rattle.std.proofs.Common.{◌≡◌, [], List, ℕ, length}
+use Rattle.std.proofs.Common.{◌≡◌, [], List, length}
 use Rattle.geo_conditions.specs.Reach.{Reach}
 use Rattle.stream_check.specs.Streaming.{IsChecking}
 use Rattle.geost_run.proofs.Pieces.{HasGiven, still}

@@ -6,7 +6,6 @@ use Rattle.std.specs.Option.{MatchOption}
 use Rattle.geost_run.specs.Decision.{decision_text, decision_status, IsDecided}
 use Rattle.geost_run.specs.Given.{AnswersGiven}
 use Rattle.geost_run.proofs.Refusals.{refused_as}
-use Rattle.geost_run.proofs.Ending.{shaped_tuple}
 use Rattle.geost_run.proofs.decide.decide_draw.Goals as goal
 
 pub returns-in-Err-clause-answer : goal.returns-in-Err-clause-answer

@@ -1,4 +1,4 @@
-use Rattle.std.proofs.Common.{ℕ, sym, ◌∙◌}
+use Rattle.std.proofs.Common.{sym}
 use Rattle.std.proofs.lemmas.Result.{err_from_is_err_and}
 use Rattle.geost_run.proofs.TwoTexts.{cut-at}
 use Rattle.geost_run.proofs.Giving.{refused_first, refused_second}

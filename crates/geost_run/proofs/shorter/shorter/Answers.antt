@@ -1,5 +1,4 @@
-use Rattle.std.proofs.Common.{List, map, subst, sym}
-use Rattle.geo_conditions.specs.declared.cond.Cond.{Cond}
+use Rattle.std.proofs.Common.{subst, sym}
 use Rattle.geost_run.specs.Accepted.{AreConditions}
 use Rattle.geost_run.proofs.Shown.{shorter-shows}
 use Rattle.geost_run.proofs.shorter.shorter.Goals as goal
