@@ -1,0 +1,4 @@
+pub mod Layouts
+pub mod Listed
+pub mod Pages
+pub mod Stated

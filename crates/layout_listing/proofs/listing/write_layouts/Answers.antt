@@ -1,0 +1,108 @@
+use Rattle.std.proofs.Common.{◌∷◌, [], ◌++◌, List, ap, subst, refl, ◌∙◌, arith}
+use Rattle.std.proofs.lemmas.List.{append-nil, append_assoc, length-append}
+use Rattle.std.proofs.lemmas.Grind.{flat_map-append}
+use Rattle.std.proofs.lemmas.Result.{err_from_is_err_and}
+use Rattle.geo_base.specs.Tuple.{Tuple}
+use Rattle.geo_chan.proofs.Appending.{wrote_none, wrote_ok}
+use Rattle.geo_conditions.specs.Walk.{Tree}
+use Rattle.layout_search.proofs.Members.{found-tuple}
+use Rattle.layout_text.specs.Block.{block_of}
+use Rattle.layout_listing.specs.declared.listing.Ending.TheVariants.{More, End, OutOfBudget}
+use Rattle.layout_listing.specs.Page.{IsPage, blocks_of}
+use Rattle.layout_listing.proofs.Layouts.{shaped-tuple}
+use Rattle.layout_listing.proofs.Listed.{answered, none-listed, one-more, more-page, end-page, spent-page, listed-on}
+use Rattle.layout_listing.proofs.Pages.{page-written, page-wanting, page-cut}
+use Rattle.layout_listing.proofs.listing.write_layouts.Goals as goal
+
+pub listing-init : goal.listing-init
+listing-init g c =
+    let a = c.args.search.now in
+    ([], refl, none-listed c.args.problem.now a.walk a.budget c.is_said.ensures.formed c.requires.walk a refl refl c.requires.over c.requires.walked, wrote_none _ _ _)
+
+pub found_layout-requires : goal.found_layout-requires
+found_layout-requires g c =
+    let a = c.listing.search in
+    let b = c.next.new.self in
+    let h = c.listing.invariant.2 in
+    let (cs, past, are, e) = c.requires.walk in
+    let step = answered a b _ h.over c.in-Found.ensures.steps in
+    let same = c.in-Found.ensures.steps.0 in
+    (omega arith, (omega arith, (c.requires.k, (c.requires.dims, (ap (λ (V : Tree). V.first) (same ∙ h.walk ∙ e), found-tuple c.args.problem.now cs past c.is_said.ensures.formed are.fit a b (h.walk ∙ e) same step)))))
+
+pub print_layout-requires : goal.print_layout-requires
+print_layout-requires g c = record { layout = shaped-tuple c.args.problem.now c.in_ok-layout-in-Found.layout c.in_ok-layout-in-Found.ensures.1 }
+
+pub returns-in_err-layout-in-Found : goal.returns-in_err-layout-in-Found
+returns-in_err-layout-in-Found g c =
+    let p = c.args.problem.now in
+    let a = c.args.search.now in
+    let ts = c.listing.invariant.0 in
+    let size = c.listing.invariant.1 in
+    let r = listed-on p a.walk a.budget c.is_said.ensures.formed c.requires.walk c.args.most c.listing.search ts c.listing.invariant.2 (omega (arith, size, c.listing-test.true)) in
+    let x = err_from_is_err_and c.from_residual.result c.from_residual.ensures.1 in
+    rw (x.1, x.2) (page-wanting p a.walk c.args.most a.budget _ _ _ _ _ _ ts c.listing.invariant.3 r.0 r.1 r.2)
+
+pub returns-in_err-print_layout-in-Found : goal.returns-in_err-print_layout-in-Found
+returns-in_err-print_layout-in-Found g c =
+    let p = c.args.problem.now in
+    let a = c.args.search.now in
+    let b = c.next.new.self in
+    let ts = c.listing.invariant.0 in
+    let size = c.listing.invariant.1 in
+    let h = c.listing.invariant.2 in
+    let t = c.in_ok-layout-in-Found.layout in
+    let steps = c.in-Found.ensures.steps in
+    let m = one-more p a.walk a.budget c.is_said.ensures.formed c.requires.walk c.listing.search b ts t h steps.0 steps.1 (answered c.listing.search b _ h.over steps) c.in_ok-layout-in-Found.ensures.1 c.in_ok-layout-in-Found.ensures.0 in
+    let r = listed-on p a.walk a.budget c.is_said.ensures.formed c.requires.walk c.args.most b (ts ++ t ∷ []) m (omega (arith, size, c.listing-test.true, length-append ts (t ∷ []))) in
+    let page : IsPage p a.walk c.args.most a.budget (ts ++ t ∷ r.0) r.1 = subst (λ (us : List Tuple). IsPage p a.walk c.args.most a.budget us r.1) (append_assoc ts (t ∷ []) r.0) r.2 in
+    let x = err_from_is_err_and c.from_residual-in_err-print_layout-in-Found.result c.from_residual-in_err-print_layout-in-Found.ensures.1 in
+    rw (x.1, x.2) (page-cut p a.walk c.args.most a.budget _ _ _ _ _ _ ts c.listing.invariant.3 _ _ _ _ t r.0 r.1 c.in_err-print_layout-in-Found.ensures page)
+
+pub returns-in-Ended : goal.returns-in-Ended
+returns-in-Ended g c =
+    let p = c.args.problem.now in
+    let a = c.args.search.now in
+    let b = c.next.new.self in
+    let ts = c.listing.invariant.0 in
+    let size = c.listing.invariant.1 in
+    let h = c.listing.invariant.2 in
+    let steps = c.in-Ended.ensures.steps in
+    let page = end-page p a.walk a.budget c.is_said.ensures.formed c.requires.walk c.args.most c.listing.search b ts h steps.0 (answered c.listing.search b _ h.over steps) (omega (arith, size, c.listing-test.true)) in
+    page-written p a.walk c.args.most a.budget _ _ _ _ _ _ ts c.listing.invariant.3 End page
+
+pub returns-in-Budget : goal.returns-in-Budget
+returns-in-Budget g c =
+    let p = c.args.problem.now in
+    let a = c.args.search.now in
+    let b = c.next.new.self in
+    let ts = c.listing.invariant.0 in
+    let size = c.listing.invariant.1 in
+    let h = c.listing.invariant.2 in
+    let steps = c.in-Budget.ensures.steps in
+    let page = spent-page p a.walk a.budget c.is_said.ensures.formed c.requires.walk c.args.most c.listing.search b ts h steps.0 (answered c.listing.search b _ h.over steps) (omega (arith, size, c.listing-test.true)) in
+    page-written p a.walk c.args.most a.budget _ _ _ _ _ _ ts c.listing.invariant.3 OutOfBudget page
+
+pub listing-preserved : goal.listing-preserved
+listing-preserved g c =
+    let p = c.args.problem.now in
+    let a = c.args.search.now in
+    let b = c.next.new.self in
+    let ts = c.listing.invariant.0 in
+    let size = c.listing.invariant.1 in
+    let h = c.listing.invariant.2 in
+    let t = c.in_ok-layout-in-Found.layout in
+    let steps = c.in-Found.ensures.steps in (
+      ts ++ t ∷ [],
+      omega (arith, size, length-append ts (t ∷ [])),
+      one-more p a.walk a.budget c.is_said.ensures.formed c.requires.walk c.listing.search b ts t h steps.0 steps.1 (answered c.listing.search b _ h.over steps) c.in_ok-layout-in-Found.ensures.1 c.in_ok-layout-in-Found.ensures.0,
+      wrote_ok _ _ _ _ _ _ _ _ _ _ _ _ _ c.listing.invariant.3 c.in_ok-print_layout-in-Found.ensures (flat_map-append (block_of p) ts (t ∷ []) ∙ ap (λ (x : List _). blocks_of p ts ++ x) (append-nil (block_of p t))),
+    )
+
+pub returns : goal.returns
+returns g c =
+    let p = c.args.problem.now in
+    let a = c.args.search.now in
+    let ts = c.listing.invariant.0 in
+    let size = c.listing.invariant.1 in
+    let page = more-page p a.walk a.budget c.is_said.ensures.formed c.requires.walk c.args.most c.listing.search ts c.listing.invariant.2 (omega (arith, size, c.listing-test.false)) in
+    page-written p a.walk c.args.most a.budget _ _ _ _ _ _ ts c.listing.invariant.3 More page

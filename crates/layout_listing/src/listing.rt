@@ -1,0 +1,112 @@
+//! The blocks of a listing.
+
+ghost use Rattle.std.specs.Prelude.{◌≡◌, ◌≤◌, ◌<◌, ◌^◌, IfSome, None};
+ghost use Rattle.std.specs.Option.{option_copied};
+ghost use Rattle.problem_data.specs.Cells.{IsTuple};
+ghost use Rattle.layout_search.specs.FirstLayout.{AreConditionsOf, walk_after};
+ghost use Rattle.layout_listing.specs.Page.{IsWalkOf, WritesPage};
+
+use derivation::NoRecord;
+use fixpoint::Fixpoint;
+use geo_base::MAX_DIMS;
+use geo_chan::{PutFault, Sink};
+use geo_conditions::{Cond, Layout};
+use layout_search::{found_layout, start_search};
+use layout_text::print_layout;
+use problem_data::problem::Problem;
+use std::alloc::Global;
+use trail_search::{Search, Step};
+
+/// How a listing ends.
+#[derive(Clone, Copy, Debug, PartialEq, Eq)]
+pub enum Ending {
+    /// As many layouts as were wanted were found.
+    More,
+    /// The walk is used up.
+    End,
+    /// The walk goes on past the budget.
+    OutOfBudget,
+}
+
+/// Writes the blocks of the first `most` layouts of the problem, where these are its conditions, among the first `budget`
+/// members of its walk, behind the tuple `after` where one is given; each block as soon as it is found. Says how the listing
+/// ends. After a fault a front part of the listing was written.
+pub fn write_listing<W: Sink>(
+    alloc: Global,
+    problem: &Problem,
+    conditions: Vec<Cond>,
+    after: Option<&Layout>,
+    most: u64,
+    budget: u64,
+    sink: &mut W,
+) -> Result<Ending, PutFault>
+    requires conditions { AreConditionsOf problem.now conditions.items }
+    requires after { IfSome (option_copied after) (IsTuple problem.now) }
+    ensures { WritesPage problem.now
+        (walk_after problem.now conditions.items (option_copied after.entry)) most budget
+        (W.written sink.old) (W.written sink.new) (W.faults sink.old) (W.faults sink.new) result }
+{
+    problem.is_said();
+    match problem.dims() {
+        1 => write_in::<1, W>(alloc, problem, conditions, after, most, budget, sink),
+        2 => write_in::<2, W>(alloc, problem, conditions, after, most, budget, sink),
+        3 => write_in::<3, W>(alloc, problem, conditions, after, most, budget, sink),
+        4 => write_in::<4, W>(alloc, problem, conditions, after, most, budget, sink),
+        _ => unreachable!(),
+    }
+}
+
+// The same, where K is the number of dimensions.
+fn write_in<const K: usize, W: Sink>(
+    alloc: Global,
+    problem: &Problem,
+    conditions: Vec<Cond>,
+    after: Option<&Layout>,
+    most: u64,
+    budget: u64,
+    sink: &mut W,
+) -> Result<Ending, PutFault>
+    requires k { (0 < K) × (K ≤ MAX_DIMS) }
+    requires dims { problem.now.dims ≡ K }
+    requires conditions { AreConditionsOf problem.now conditions.items }
+    requires after { IfSome (option_copied after) (IsTuple problem.now) }
+    ensures { WritesPage problem.now
+        (walk_after problem.now conditions.items (option_copied after.entry)) most budget
+        (W.written sink.old) (W.written sink.new) (W.faults sink.old) (W.faults sink.new) result }
+{
+    problem.is_said();
+    let none = NoRecord::new();
+    let mut search = start_search::<K, NoRecord>(alloc, problem, conditions, after, budget, none)?;
+    write_layouts(alloc, problem, &mut search, most, sink)
+}
+
+// Writes the blocks of the next `most` layouts of a search that has not set off.
+fn write_layouts<const K: usize, W: Sink>(
+    alloc: Global,
+    problem: &Problem,
+    search: &mut Search<K, Fixpoint<K>, NoRecord>,
+    most: u64,
+    sink: &mut W,
+) -> Result<Ending, PutFault>
+    requires k { K ≤ MAX_DIMS }
+    requires dims { problem.now.dims ≡ K }
+    requires walk { IsWalkOf problem.now search.old.walk }
+    requires walked { search.old.walked ≡ 0 }
+    requires over { search.old.over ≡ None }
+    ensures { WritesPage problem.now search.old.walk most search.old.budget
+        (W.written sink.old) (W.written sink.new) (W.faults sink.old) (W.faults sink.new) result }
+{
+    problem.is_said();
+    'listing: for listed in 0..most {
+        match search.next() {
+            Step::Found => {
+                let layout = found_layout(alloc, problem, search)?;
+                print_layout(problem, &layout, sink)?;
+            }
+            Step::Ended => return Ok(Ending::End),
+            Step::Budget => return Ok(Ending::OutOfBudget),
+            Step::Memory => unreachable!(),
+        }
+    }
+    Ok(Ending::More)
+}
