@@ -7,11 +7,10 @@ use crate::Decision;
 use crate::accepted::{Accepted, read_accepted};
 use crate::given::{Given, read_given};
 use crate::shorter::shorter;
-use derivation::{Log, NoRecord};
 use geo_meaning::judging::{Judged, judge_rules};
 use geo_tokens::fault::TextFault;
 use layout_drawing::drawing;
-use layout_search::{Outcome, search_first};
+use layout_search::{Outcome, search_first, search_first_unrecorded};
 use problem_generator::make_problem;
 use problem_summary::Summary;
 use problem_text::names::names;
@@ -31,7 +30,7 @@ pub fn decide_first(alloc: Global, most: u64, text: &[u8]) -> Result<Decision, A
         Ok(accepted) => accepted,
         Err(fault) => return refuse(fault),
     };
-    match search_first(alloc, &problem, conditions, most, Log::new(alloc))? {
+    match search_first(alloc, &problem, conditions, most)? {
         Outcome::Found(layout) => Ok(Decision::Layout(problem, layout)),
         Outcome::Nothing(log) => {
             let names = names(alloc, &problem)?;
@@ -107,7 +106,7 @@ pub fn decide_make(alloc: Global, seed: u32, most: u64) -> Result<Decision, Allo
         Err(fault) => return refuse(fault),
     };
     let count = conditions.len();
-    let outcome = search_first(alloc, &problem, conditions, most, NoRecord::new())?;
+    let outcome = search_first_unrecorded(alloc, &problem, conditions, most)?;
     Ok(Decision::Summed(Summary {
         problem,
         conditions: count,

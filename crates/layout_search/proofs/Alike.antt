@@ -1,5 +1,5 @@
 -- Lists of conditions that stand for the same trees have the same walk.
-use Rattle.std.proofs.Common.{◌≡◌, ◌<◌, ◌≤◌, ℕ, ◌+◌, ℤ, pos, Bool, true, false, not, List, [], ◌∷◌, length, map, get_or, refl, sym, ap, ◌∙◌, subst, arith, Option, None}
+use Rattle.std.proofs.Common.{◌≡◌, ℕ, ◌+◌, ℤ, pos, Bool, true, not, List, [], ◌∷◌, length, map, get_or, refl, sym, ap, ◌∙◌, subst, arith, Option, None}
 use Rattle.std.specs.Prelude.{All}
 use Rattle.std.proofs.lemmas.List.{length-map, get_or-map}
 use Rattle.std.proofs.lemmas.List.Elements.{All-map}
@@ -64,11 +64,12 @@ module _ (cs ds : List Cond) (same : map cond_view cs ≡ map cond_view ds) wher
   in-alike S xs after q (m, a) = (member-alike S xs q m, a)
 
 -- the same list is the walk of both
-pub walk-alike : (cs ds : List Cond) → map cond_view cs ≡ map cond_view ds → (S : State) (xs : List Variable) (w : List (List ℤ)) → IsWalk (record { conditions = cs; first = S; variables = xs; after = None }) w → IsWalk (record { conditions = ds; first = S; variables = xs; after = None }) w
-walk-alike cs ds same S xs w h = record {
-  members = λ k d b. in-alike cs ds same S xs None (get_or w k d) (h.members k d b);
+pub walk-alike : (cs ds : List Cond) → map cond_view cs ≡ map cond_view ds → (S : State) (xs : List Variable) (after : Option (List ℤ)) (w : List (List ℤ)) → IsWalk (record { conditions = cs; first = S; variables = xs; after = after }) w
+    → IsWalk (record { conditions = ds; first = S; variables = xs; after = after }) w
+walk-alike cs ds same S xs after w h = record {
+  members = λ k d b. in-alike cs ds same S xs after (get_or w k d) (h.members k d b);
   in_order = h.in_order;
-  whole = λ q m. h.whole q (in-alike ds cs (sym same) S xs None q m);
+  whole = λ q m. h.whole q (in-alike ds cs (sym same) S xs after q m);
 }
 
 module _ (k : ℕ) (cs ds : List Cond) (S : State) (order : Order) (n : ℕ) (state : IsState k S) (names : NamesEach k S order) (same : map cond_view cs ≡ map cond_view ds) where
@@ -80,7 +81,7 @@ module _ (k : ℕ) (cs ds : List Cond) (S : State) (order : Order) (n : ℕ) (st
       → (w : List (List ℤ)) × Lists (walk-by cs) w 1 n found word × Lists (walk-by ds) w 1 n other last
   by-one-walk found other word last a b =
       let w = every_walk k cs S order None state names in
-      (w.0, listing_follows (walk-by cs) w.0 1 n found word w.1 a, listing_follows (walk-by ds) w.0 1 n other last (walk-alike cs ds same S (variables_in order) w.0 w.1) b)
+      (w.0, listing_follows (walk-by cs) w.0 1 n found word w.1 a, listing_follows (walk-by ds) w.0 1 n other last (walk-alike cs ds same S (variables_in order) None w.0 w.1) b)
 
   pub found-or-spent : (v : List ℤ) → IsListing (walk-by cs) 1 n (v ∷ []) More → IsListing (walk-by ds) 1 n [] OutOfBudget → ⊥
   found-or-spent v a b =

@@ -1,6 +1,7 @@
-mod Walked
+pub mod Walked
 pub mod Alike
 pub mod AlikeRows
 pub mod States
+pub mod Members
 mod Outcomes
 mod Spots

@@ -1,11 +1,11 @@
 -- What a search over the conditions of a problem answers.
-use Rattle.std.proofs.Common.{◌≡◌, ◌≤◌, ◌<◌, ◌⊎◌, ℕ, ℤ, Bool, true, false, List, [], ◌∷◌, ◌++◌, length, drop, refl, sym, ap, ◌∙◌, subst, arith, inl, inr, Option, Some, None}
+use Rattle.std.proofs.Common.{◌≡◌, ℕ, ℤ, true, false, List, [], ◌∷◌, ◌++◌, drop, sym, ap, ◌∙◌, subst, arith, Option, Some, None}
 use Rattle.std.specs.Prelude.{All}
 use Rattle.geo_base.specs.Tuple.{Tuple}
 use Rattle.geo_conditions.specs.declared.cond.Cond.{Cond}
-use Rattle.geo_conditions.specs.Reach.{State, IsState}
+use Rattle.geo_conditions.specs.Reach.{IsState}
 use Rattle.geo_conditions.specs.Walk.{Tree, Order, variables_in, values, is_full, IsFront, IsWhole, GoesOn, Precedes}
-use Rattle.geo_conditions.proofs.Layouts.{values_tell}
+use Rattle.layout_search.proofs.Members.{values-tell}
 use Rattle.problem_data.specs.Problem.{ProblemData}
 use Rattle.problem_data.specs.Cells.{IsTuple}
 use Rattle.problem_data.specs.Layouts.{IsLayout}
@@ -14,13 +14,11 @@ use Rattle.rule_ground.specs.Order.{order_of, variables_for}
 use Rattle.rule_ground.specs.Start.{first_state}
 use Rattle.rule_ground.proofs.Starts.{names-each, tuples-are}
 use Rattle.derivation.specs.declared.event.Event.{Event}
-use Rattle.derivation.specs.Events.{Kept}
 use Rattle.whole_derivation.specs.Whole.{IsDerivation}
 use Rattle.trail_search.specs.Next.{HasDerived, Quest, Answers, AsBefore, Steps, HasFound}
 use Rattle.trail_search.specs.declared.step.Step.{Step}
 use Rattle.trail_search.specs.declared.step.Step.TheVariants.{Found, Ended, Budget}
-use Rattle.layout_search.specs.FirstLayout.{AreConditionsOf, walk_of, IsFirstLayout, HasNoLayout, Lists, Finds}
-use Rattle.layout_search.specs.Found.{HasFoundIn}
+use Rattle.layout_search.specs.FirstLayout.{AreConditionsOf, walk_of, IsFirstLayout, HasNoLayout, Lists}
 use Rattle.layout_search.specs.declared.first.Outcome.TheVariants as outcomes
 use Rattle.layout_search.proofs.Walked.{IsGood, found-listed, found-first, ended-listed, ended-none, spent-listed}
 
@@ -29,14 +27,6 @@ pub record IsFresh (W : Tree) (n : ℕ) (a : Quest) : Type 0 where
   pub walk : a.walk ≡ W
   pub budget : a.budget ≡ n
   pub walked : a.walked ≡ 0
-
-pub fresh-search : (p : ProblemData) (cs ds : List Cond) (S : State) (o : Order) (n : ℕ) (a : Quest) → ds ≡ cs → S ≡ first_state p → o ≡ order_of p
-    → a.walk ≡ record { conditions = ds; first = S; variables = variables_in o; after = None } → a.budget ≡ n → a.walked ≡ 0 → IsFresh (walk_of p cs) n a
-fresh-search p cs ds S o n a d s e walk budget walked = record {
-  walk = walk ∙ (λ i. record { conditions = d i; first = s i; variables = variables_in (e i); after = None });
-  budget = budget;
-  walked = walked;
-}
 
 same-some : {X : Type 0} (x y : X) → Some x ≡ Some y → x ≡ y
 same-some x y e = cc
@@ -56,7 +46,7 @@ module _ (p : ProblemData) (cs : List Cond) (well : IsWellFormed p) (state : IsS
     none-before w h = subst (λ (W : Tree). All (λ q. is_full W q ≡ false) w) fresh.walk (subst (λ (k : ℕ). All (λ q. is_full a.walk q ≡ false) (drop k w)) fresh.walked h)
 
     -- the layout that was found
-    first-found : Answers a Found b → (t : Tuple) × IsTuple p t × HasFound b t × IsFirstLayout p t × Lists p cs n (outcomes.Found t)
+    first-found : Answers a Found b → (t : Tuple) × IsTuple p t × HasFound b t × IsFirstLayout p t × Lists {R = Unit {0}} p cs n (outcomes.Found t)
     first-found (w, q, (front, count), after, none, full, found, few, over) =
         let W = walk_of p cs in
         let front' : IsFront W (w ++ q ∷ []) = of-walk (λ (V : Tree). IsFront V (w ++ q ∷ [])) front in
@@ -72,22 +62,18 @@ module _ (p : ProblemData) (cs : List Cond) (well : IsWellFormed p) (state : IsS
           subst (λ (r : List ℤ). Rattle.geo_conditions.specs.Walk.IsListing W 1 n (r ∷ []) Rattle.geo_conditions.specs.Walk.More) (sym e) (found-listed p.dims cs (first_state p) (order_of p) well.some state are.fit (names-each p well) w n none' q front' full' (omega (arith, count, few, fresh.budget))),
         )
 
-    pub found-in : Answers a Found b → HasFoundIn p b
-    found-in h = let f = first-found h in (f.0, f.1, f.2)
-
     found-once : (t u : Tuple) → IsTuple p t → IsTuple p u → HasFound b t → HasFound b u → u ≡ t
     found-once t u it iu ht hu =
-        values_tell p.dims (first_state p) (order_of p) u t state (names-each p well) ((tuples-are p u well).1 iu) ((tuples-are p t well).1 it)
-        (subst (λ (V : Tree). values V.variables u ≡ values V.variables t) (same ∙ fresh.walk) (same-some (values b.walk.variables u) (values b.walk.variables t) (sym hu ∙ ht)))
+        values-tell p u t well iu it (subst (λ (V : Tree). values V.variables u ≡ values V.variables t) (same ∙ fresh.walk) (same-some (values b.walk.variables u) (values b.walk.variables t) (sym hu ∙ ht)))
 
-    pub found-lists : (t : Tuple) → Answers a Found b → IsTuple p t → HasFound b t → Lists p cs n (outcomes.Found t)
-    found-lists t h it ht = let f = first-found h in subst (λ (u : Tuple). Lists p cs n (outcomes.Found u)) (found-once t f.0 it f.1 ht f.2) f.4
+    pub found-lists : (t : Tuple) → Answers a Found b → IsTuple p t → HasFound b t → Lists {R = Unit {0}} p cs n (outcomes.Found t)
+    found-lists t h it ht = let f = first-found h in subst (λ (u : Tuple). Lists {R = Unit {0}} p cs n (outcomes.Found u)) (found-once t f.0 it f.1 ht f.2) f.4
 
     pub found-finds : (t : Tuple) → Answers a Found b → IsTuple p t → HasFound b t → IsFirstLayout p t
     found-finds t h it ht = let f = first-found h in subst (IsFirstLayout p) (found-once t f.0 it f.1 ht f.2) f.3
 
-    pub ended-lists : (log : Kept) → Answers a Ended b → Lists p cs n (outcomes.Nothing log)
-    ended-lists log (w, (front, count), whole, none, few, over) =
+    pub ended-lists : {R : Type 0} (rec : R) → Answers a Ended b → Lists p cs n (outcomes.Nothing rec)
+    ended-lists rec (w, (front, count), whole, none, few, over) =
         ended-listed p.dims cs (first_state p) (order_of p) well.some state are.fit (names-each p well) w n (none-before w none)
         (of-walk (λ (V : Tree). IsFront V w) front) (subst (λ (V : Tree). IsWhole V w) fresh.walk whole) (omega (arith, count, few, fresh.budget))
 
@@ -99,7 +85,7 @@ module _ (p : ProblemData) (cs : List Cond) (well : IsWellFormed p) (state : IsS
     pub ended-derives : (es : List Event) → es ≡ b.events → HasDerived b → IsDerivation cs (first_state p) es
     ended-derives es e h = subst (IsDerivation cs (first_state p)) (sym e) (of-walk (λ (V : Tree). IsDerivation V.conditions V.first b.events) h)
 
-    pub budget-lists : Answers a Budget b → Lists p cs n outcomes.OutOfBudget
+    pub budget-lists : Answers a Budget b → Lists {R = Unit {0}} p cs n outcomes.OutOfBudget
     budget-lists (w, (front, count), spent, more, none, over) =
         spent-listed p.dims cs (first_state p) (order_of p) well.some state are.fit (names-each p well) w n (none-before w none)
         (of-walk (λ (V : Tree). IsFront V w) front) (subst (λ (V : Tree). GoesOn V w) fresh.walk more) (count ∙ spent ∙ fresh.budget)

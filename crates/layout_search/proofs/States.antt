@@ -1,11 +1,10 @@
 -- The first state of a problem is a state.
-use Rattle.std.proofs.Common.{◌≡◌, ◌≤◌, ◌-◌, ◌+◌, ℕ, ℤ, Bool, true, false, List, ◌++◌, length, map, replicate, subst, sym, ◌∙◌, ap, arith}
-use Rattle.std.specs.Prelude.{All}
+use Rattle.std.proofs.Common.{◌≡◌, ◌≤◌, ◌-◌, ℕ, true, false, length, replicate, ◌∙◌, arith}
 use Rattle.std.proofs.lemmas.List.{length-map, length-append, length-replicate}
 use Rattle.std.proofs.lemmas.List.Elements.{All-map}
-use Rattle.geo_conditions.specs.declared.object.TheConstants.{MAX_OBJECTS, MAX_SHAPES}
+use Rattle.geo_conditions.specs.declared.object.TheConstants.{MAX_SHAPES}
 use Rattle.geo_conditions.specs.Reach.{Reach, IsState, first_places}
-use Rattle.problem_data.specs.Problem.{RangeData, ObjectData, ProblemData}
+use Rattle.problem_data.specs.Problem.{RangeData, ProblemData}
 use Rattle.problem_data.specs.WellFormed.{IsWellFormed}
 use Rattle.rule_ground.specs.Start.{whole_reach, first_state}
 

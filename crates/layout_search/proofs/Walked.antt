@@ -1,6 +1,6 @@
 -- What the members of a walk that were met say of the tuples on which every condition is true.
-use Rattle.std.proofs.Common.{◌≡◌, ◌<◌, ◌≤◌, ◌⊎◌, ℕ, zero, suc, ℤ, Bool, true, false, List, [], ◌∷◌, ◌++◌, length, refl, sym, ap, ◌∙◌, subst, arith, inl, inr, Option, Some, None}
-use Rattle.std.specs.Prelude.{All, Contains, filter, if◌then◌else◌, ◌==◌}
+use Rattle.std.proofs.Common.{◌≡◌, ◌<◌, ◌≤◌, ◌⊎◌, ℕ, zero, suc, ℤ, Bool, true, false, List, [], ◌∷◌, ◌++◌, length, refl, sym, ap, ◌∙◌, subst, arith, inl, inr, None}
+use Rattle.std.specs.Prelude.{All, Contains, filter, if◌then◌else◌}
 use Rattle.std.proofs.lemmas.Bool.{false≢true}
 use Rattle.std.proofs.lemmas.Bool.Decides.{nat_tests}
 use Rattle.std.proofs.lemmas.List.Elements.{Contains-append_cases, Contains-append_right, filter-append}
@@ -8,13 +8,11 @@ use Rattle.geo_base.specs.Tuple.{Tuple}
 use Rattle.geo_conditions.specs.declared.cond.Cond.{Cond}
 use Rattle.geo_conditions.specs.Conditions.{AllFit, AllHold}
 use Rattle.geo_conditions.specs.Reach.{State, IsState, TupleIn}
-use Rattle.geo_conditions.specs.Walk.{Order, NamesEach, Variable, Tree, values, variables_in, is_full, IsIn, IsFront, IsWhole, GoesOn, Precedes, IsListing, More, End, OutOfBudget}
+use Rattle.geo_conditions.specs.Walk.{Order, NamesEach, Tree, values, variables_in, is_full, IsIn, IsFront, IsWhole, GoesOn, Precedes, IsListing, More, End, OutOfBudget}
 use Rattle.geo_conditions.proofs.Layouts.{member_is_layout, layout_is_member, values_tell}
+use Rattle.layout_search.proofs.Members.{at-element}
 
-at-element : {X : Type 0} (P : X → Type 0) (xs : List X) (x : X) → All P xs → Contains xs x → P x
-at-element P xs x all (k, b, e) = subst P e (all k x b)
-
-none-kept : {X : Type 0} (f : X → Bool) (xs : List X) → All (λ x. f x ≡ false) xs → filter f xs ≡ []
+pub none-kept : {X : Type 0} (f : X → Bool) (xs : List X) → All (λ x. f x ≡ false) xs → filter f xs ≡ []
 none-kept f [] h = refl
 none-kept f (x ∷ xs) h = subst (λ (b : Bool). (if b then x ∷ filter f xs else filter f xs) ≡ []) (sym (h 0 x (omega arith))) (none-kept f xs (λ k d b. h (suc k) d (omega arith)))
 

@@ -1,5 +1,6 @@
 -- The first layout of a problem, and the listing of its walk.
-use Rattle.std.specs.Prelude.{◌≡◌, ◌⊎◌, ◌↔◌, ◌≤◌, ◌^◌, ℕ, List, [], ◌∷◌, length, None, All}
+use Rattle.std.specs.Prelude.{◌≡◌, ◌⊎◌, ◌↔◌, ◌≤◌, ◌^◌, ℕ, ℤ, List, [], ◌∷◌, length, Option, None, All}
+use Rattle.std.specs.Option.{option_map}
 use Rattle.geo_base.specs.Tuple.{Tuple}
 use Rattle.geo_conditions.specs.declared.cond.Cond.{Cond}
 use Rattle.geo_conditions.specs.Conditions.{AllFit, AllHold}
@@ -10,6 +11,7 @@ use Rattle.problem_data.specs.Cells.{IsTuple}
 use Rattle.problem_data.specs.Layouts.{DemandHolds, IsLayout}
 use Rattle.rule_ground.specs.Order.{variables_for, ComesBefore}
 use Rattle.rule_ground.specs.Start.{first_state}
+use Rattle.derivation.specs.declared.event.Event.{Event}
 use Rattle.whole_derivation.specs.Whole.{IsDerivation}
 use Rattle.layout_search.specs.declared.first.Outcome.{Outcome}
 use Rattle.layout_search.specs.declared.first.Outcome.TheVariants.{Found, Nothing, OutOfBudget}
@@ -20,9 +22,17 @@ pub record AreConditionsOf (p : ProblemData) (cs : List Cond) : Type 0 where
   pub fit : AllFit cs (first_state p)
   pub meaning : (t : Tuple) → IsTuple p t → AllHold cs t ↔ All (λ (r : RuleData). DemandHolds p t r.demand) p.rules
 
--- the walk of a problem under its conditions
+-- the walk of a problem under conditions, past the values of a tuple where they are given
+abbrev pub walk_past : ProblemData → List Cond → Option (List ℤ) → Tree
+walk_past p cs past = record { conditions = cs; first = first_state p; variables = variables_for p; after = past }
+
+-- the same after a tuple where one is given
+abbrev pub walk_after : ProblemData → List Cond → Option Tuple → Tree
+walk_after p cs after = walk_past p cs (option_map (values (variables_for p)) after)
+
+-- the whole walk
 abbrev pub walk_of : ProblemData → List Cond → Tree
-walk_of p cs = record { conditions = cs; first = first_state p; variables = variables_for p; after = None }
+walk_of p cs = walk_after p cs None
 
 -- a layout that comes before every other one
 pub record IsFirstLayout (p : ProblemData) (t : Tuple) : Type 0 where
@@ -33,20 +43,20 @@ abbrev pub HasNoLayout : ProblemData → Type 0
 HasNoLayout p = (t : Tuple) → IsLayout p t → ⊥
 
 -- the listing of one layout among the first n members of the walk: its full member, and the word that ends it
-abbrev pub Lists : ProblemData → List Cond → ℕ → Outcome → Type 0
+abbrev pub Lists : {R : Type 0} → ProblemData → List Cond → ℕ → Outcome R → Type 0
 Lists p cs n (Found t) = IsListing (walk_of p cs) 1 n (values (variables_for p) t ∷ []) More
-Lists p cs n (Nothing log) = IsListing (walk_of p cs) 1 n [] End
+Lists p cs n (Nothing r) = IsListing (walk_of p cs) 1 n [] End
 Lists p cs n OutOfBudget = IsListing (walk_of p cs) 1 n [] walk.OutOfBudget
 
 -- the layout that is found is the first one; where nothing is found, there is none
-abbrev pub Finds : ProblemData → Outcome → Type 0
+abbrev pub Finds : {R : Type 0} → ProblemData → Outcome R → Type 0
 Finds p (Found t) = IsFirstLayout p t
-Finds p (Nothing log) = HasNoLayout p
+Finds p (Nothing r) = HasNoLayout p
 Finds p OutOfBudget = Unit {0}
 
--- where nothing is found, the events that were kept are a derivation, which is valid on the first state; and there are at most as many
--- conditions as the numbers of a derivation can name
-abbrev pub Derives : ProblemData → List Cond → Outcome → Type 0
-Derives p cs (Found t) = Unit {0}
-Derives p cs (Nothing log) = IsDerivation cs (first_state p) log.events × (length cs ≤ 10 ^ 9)
-Derives p cs OutOfBudget = Unit {0}
+-- where nothing is found, the events that the recorder kept are a derivation, which is valid on the first state; and there are at most as
+-- many conditions as the numbers of a derivation can name
+abbrev pub Derives : {R : Type 0} → ProblemData → List Cond → (R → List Event) → Outcome R → Type 0
+Derives p cs list (Found t) = Unit {0}
+Derives p cs list (Nothing r) = IsDerivation cs (first_state p) (list r) × (length cs ≤ 10 ^ 9)
+Derives p cs list OutOfBudget = Unit {0}

@@ -1,6 +1,8 @@
-//! The first layout of a problem, by a search over its conditions within a budget.
+//! Searches for layouts of a problem over its conditions, within a budget, and the first layout.
 #![tactic(auto)]
 
 mod first;
+mod start;
 
-pub use first::{Outcome, search_first};
+pub use first::{Outcome, search_first, search_first_unrecorded};
+pub use start::{found_layout, start_search};

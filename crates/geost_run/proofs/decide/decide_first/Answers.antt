@@ -1,6 +1,7 @@
 use Rattle.std.proofs.Common.{Err, refl, sym, subst}
 use Rattle.geost_run.specs.Answer.{FirstAnswer}
 use Rattle.geo_tokens.specs.Names.{NameTable}
+use Rattle.derivation.specs.Events.{Kept}
 use Rattle.derivation_text.specs.Lines.{AreNamed}
 use Rattle.geo_tokens.specs.declared.fault.TextFault.{TextFault}
 use Rattle.problem_data.proofs.Accepted.{accepted_well_formed}
@@ -36,7 +37,7 @@ returns-in_ok-log-in-Nothing-clause-answer c =
     let p = c.in-Ok.accepted.problem in
     let cs = c.in-Ok.accepted.conditions.items in
     let none = none_found c.args.most c.args.text.now c.in-Ok.accepted c.in-Ok.ensures c.in_ok-layout.field-0 c.in_ok-layout.ensures.walk c.in_ok-layout.ensures.layout c.in-Nothing.log c.in-Nothing.is in
-    let found = subst (λ (o : Outcome). Derives p cs o) c.in-Nothing.is c.in_ok-layout.ensures.derivation in
+    let found = subst (λ (o : Outcome Kept). Derives p cs (λ log. log.events) o) c.in-Nothing.is c.in_ok-layout.ensures.derivation in
     let shows = c.in_ok-log-in-Nothing.ensures cs c.in-Ok.ensures.are (shown p cs c.in-Nothing.log.events (accepted_well_formed c.args.text.now p c.in-Ok.ensures.accepted.spells) found.0 found.1) in
     (p, cs, none, says p cs c.in_ok-names-in-Nothing.names c.in_ok-log-in-Nothing.log.events c.in_ok-names-in-Nothing.ensures shows)
 
@@ -44,7 +45,7 @@ pub returns-in_ok-log-in-Nothing-clause-decided : goal.returns-in_ok-log-in-Noth
 returns-in_ok-log-in-Nothing-clause-decided c =
     let p = c.in-Ok.accepted.problem in
     let cs = c.in-Ok.accepted.conditions.items in
-    let found = subst (λ (o : Outcome). Derives p cs o) c.in-Nothing.is c.in_ok-layout.ensures.derivation in
+    let found = subst (λ (o : Outcome Kept). Derives p cs (λ log. log.events) o) c.in-Nothing.is c.in_ok-layout.ensures.derivation in
     let shows = c.in_ok-log-in-Nothing.ensures cs c.in-Ok.ensures.are (shown p cs c.in-Nothing.log.events (accepted_well_formed c.args.text.now p c.in-Ok.ensures.accepted.spells) found.0 found.1) in
     subst (λ (n : NameTable). AreNamed n 0 c.in_ok-log-in-Nothing.log.events) (sym c.in_ok-names-in-Nothing.ensures) shows.printable.named
 

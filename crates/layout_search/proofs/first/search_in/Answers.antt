@@ -1,45 +1,12 @@
-use Rattle.std.proofs.Common.{◌≡◌, ◌≤◌, ◌==◌, ◌||◌, ℕ, Bool, true, false, List, None, sym, ap, length, map, ◌∙◌, subst, refl, arith, All}
-use Rattle.std.proofs.lemmas.Int.{ints}
-use Rattle.std.proofs.lemmas.List.{length-map}
-use Rattle.geo_conditions.specs.Walk.{Tree, Order, NamesEach, variables_in}
-use Rattle.geo_conditions.specs.Conditions.{FitsIn, AllFit}
-use Rattle.geo_conditions.specs.Reach.{State, Reach}
-use Rattle.geo_conditions.specs.declared.cond.Cond.{Cond}
+use Rattle.std.proofs.Common.{◌≡◌, ◌==◌, ◌||◌, Bool, true, false, List, None, ap, length, ◌∙◌, arith, refl}
+use Rattle.geo_conditions.specs.Walk.{Tree}
 use Rattle.derivation.specs.declared.event.Event.{Event}
 use Rattle.trail_search.specs.Next.{is_found}
-use Rattle.indexical.specs.declared.any.AnyIndexical.{AnyIndexical}
-use Rattle.rule_ground.specs.Start.{whole_reach, first_state}
 use Rattle.layout_search.specs.FirstLayout.{walk_of}
+use Rattle.layout_search.proofs.Members.{found-tuple}
 use Rattle.layout_search.proofs.States.{state-is}
-use Rattle.layout_search.proofs.Outcomes.{fresh-search, first-answer, found-in, found-lists, found-finds, ended-lists, ended-finds, ended-derives, budget-lists}
+use Rattle.layout_search.proofs.Outcomes.{IsFresh, first-answer, found-lists, found-finds, ended-lists, ended-finds, ended-derives, budget-lists}
 use Rattle.layout_search.proofs.first.search_in.Goals as goal
-
-pub start-requires : goal.start-requires
-start-requires g c =
-    let p = c.args.problem.now in
-    let s : c.in_ok-first.first ≡ first_state p = c.in_ok-first.ensures.value in
-    let cs = c.in_ok-propagator.ensures.conditions in (
-      omega arith,
-      (
-        omega arith,
-        (
-          c.requires.k.1,
-          (
-            λ o d. let e = c.in_ok-first.ensures.ends o d in ((omega (arith, ints, e), omega (arith, ints, e)), (omega (arith, ints, e), omega (arith, ints, e))),
-            (
-              subst (λ (S : State). NamesEach g.row.K S c.in_ok-order.order) (sym s) (subst (λ (k : ℕ). NamesEach k (first_state p) c.in_ok-order.order) c.requires.dims c.in_ok-order.ensures.names),
-              (
-                tt,
-                (
-                  ap length s ∙ length-map p.objects whole_reach ∙ sym (ap length c.objects.ensures) ∙ sym c.in_ok-propagator.ensures.objects,
-                  subst (λ (l : _). AllFit l c.in_ok-first.first) (sym cs) (subst (AllFit c.args.conditions.items) (sym s) c.requires.conditions.fit),
-                ),
-              ),
-            ),
-          ),
-        ),
-      ),
-    )
 
 pub found_layout-requires : goal.found_layout-requires
 found_layout-requires g c =
@@ -47,11 +14,8 @@ found_layout-requires g c =
     let cs = c.args.conditions.items in
     let a = c.in_ok-search.search in
     let b = c.next.new.self in
-    let well = c.is_said.ensures.formed in
-    let f = fresh-search p cs (map (λ (x : AnyIndexical g.row.K). x.cond) c.in_ok-propagator.propagator.list.items) c.in_ok-first.first c.in_ok-order.order c.args.budget a c.in_ok-propagator.ensures.conditions c.in_ok-first.ensures.value c.in_ok-order.ensures.value
-    c.in_ok-search.ensures.walk c.in_ok-search.ensures.budget c.in_ok-search.ensures.walked in
     let h = first-answer a b _ c.in_ok-search.ensures.over c.in-Found.ensures.steps in
-    (omega arith, (omega arith, (c.requires.k.1, (c.requires.dims, (ap (λ (W : Tree). W.first) (h.0 ∙ f.walk), found-in p cs well (state-is p well) c.requires.conditions c.args.budget a b f h.0 h.1)))))
+    (omega arith, (omega arith, (c.requires.k.1, (c.requires.dims, (ap (λ (W : Tree). W.first) (h.0 ∙ c.in_ok-search.ensures.walk), found-tuple p cs None c.is_said.ensures.formed c.requires.conditions.fit a b c.in_ok-search.ensures.walk h.0 h.1)))))
 
 pub returns-in_ok-found_layout-in-Found-clause-walk : goal.returns-in_ok-found_layout-in-Found-clause-walk
 returns-in_ok-found_layout-in-Found-clause-walk g c =
@@ -60,8 +24,7 @@ returns-in_ok-found_layout-in-Found-clause-walk g c =
     let a = c.in_ok-search.search in
     let b = c.next.new.self in
     let well = c.is_said.ensures.formed in
-    let f = fresh-search p cs (map (λ (x : AnyIndexical g.row.K). x.cond) c.in_ok-propagator.propagator.list.items) c.in_ok-first.first c.in_ok-order.order c.args.budget a c.in_ok-propagator.ensures.conditions c.in_ok-first.ensures.value c.in_ok-order.ensures.value
-    c.in_ok-search.ensures.walk c.in_ok-search.ensures.budget c.in_ok-search.ensures.walked in
+    let f : IsFresh (walk_of p cs) c.args.budget a = record { walk = c.in_ok-search.ensures.walk; budget = c.in_ok-search.ensures.budget; walked = c.in_ok-search.ensures.walked } in
     let h = first-answer a b _ c.in_ok-search.ensures.over c.in-Found.ensures.steps in
     found-lists p cs well (state-is p well) c.requires.conditions c.args.budget a b f h.0 c.in_ok-found_layout-in-Found.field-0 h.1 c.in_ok-found_layout-in-Found.ensures.1 c.in_ok-found_layout-in-Found.ensures.0
 
@@ -72,8 +35,7 @@ returns-in_ok-found_layout-in-Found-clause-layout g c =
     let a = c.in_ok-search.search in
     let b = c.next.new.self in
     let well = c.is_said.ensures.formed in
-    let f = fresh-search p cs (map (λ (x : AnyIndexical g.row.K). x.cond) c.in_ok-propagator.propagator.list.items) c.in_ok-first.first c.in_ok-order.order c.args.budget a c.in_ok-propagator.ensures.conditions c.in_ok-first.ensures.value c.in_ok-order.ensures.value
-    c.in_ok-search.ensures.walk c.in_ok-search.ensures.budget c.in_ok-search.ensures.walked in
+    let f : IsFresh (walk_of p cs) c.args.budget a = record { walk = c.in_ok-search.ensures.walk; budget = c.in_ok-search.ensures.budget; walked = c.in_ok-search.ensures.walked } in
     let h = first-answer a b _ c.in_ok-search.ensures.over c.in-Found.ensures.steps in
     found-finds p cs well (state-is p well) c.requires.conditions c.args.budget a b f h.0 c.in_ok-found_layout-in-Found.field-0 h.1 c.in_ok-found_layout-in-Found.ensures.1 c.in_ok-found_layout-in-Found.ensures.0
 
@@ -84,8 +46,7 @@ returns-in-Ended-clause-walk g c =
     let a = c.in_ok-search.search in
     let b = c.next.new.self in
     let well = c.is_said.ensures.formed in
-    let f = fresh-search p cs (map (λ (x : AnyIndexical g.row.K). x.cond) c.in_ok-propagator.propagator.list.items) c.in_ok-first.first c.in_ok-order.order c.args.budget a c.in_ok-propagator.ensures.conditions c.in_ok-first.ensures.value c.in_ok-order.ensures.value
-    c.in_ok-search.ensures.walk c.in_ok-search.ensures.budget c.in_ok-search.ensures.walked in
+    let f : IsFresh (walk_of p cs) c.args.budget a = record { walk = c.in_ok-search.ensures.walk; budget = c.in_ok-search.ensures.budget; walked = c.in_ok-search.ensures.walked } in
     let h = first-answer a b _ c.in_ok-search.ensures.over c.in-Ended.ensures.steps in
     ended-lists p cs well (state-is p well) c.requires.conditions c.args.budget a b f h.0 c.into_recorder.result h.1
 
@@ -96,8 +57,7 @@ returns-in-Ended-clause-layout g c =
     let a = c.in_ok-search.search in
     let b = c.next.new.self in
     let well = c.is_said.ensures.formed in
-    let f = fresh-search p cs (map (λ (x : AnyIndexical g.row.K). x.cond) c.in_ok-propagator.propagator.list.items) c.in_ok-first.first c.in_ok-order.order c.args.budget a c.in_ok-propagator.ensures.conditions c.in_ok-first.ensures.value c.in_ok-order.ensures.value
-    c.in_ok-search.ensures.walk c.in_ok-search.ensures.budget c.in_ok-search.ensures.walked in
+    let f : IsFresh (walk_of p cs) c.args.budget a = record { walk = c.in_ok-search.ensures.walk; budget = c.in_ok-search.ensures.budget; walked = c.in_ok-search.ensures.walked } in
     let h = first-answer a b _ c.in_ok-search.ensures.over c.in-Ended.ensures.steps in
     ended-finds p cs well (state-is p well) c.requires.conditions c.args.budget a b f h.0 h.1
 
@@ -108,8 +68,7 @@ returns-in-Budget-clause-walk g c =
     let a = c.in_ok-search.search in
     let b = c.next.new.self in
     let well = c.is_said.ensures.formed in
-    let f = fresh-search p cs (map (λ (x : AnyIndexical g.row.K). x.cond) c.in_ok-propagator.propagator.list.items) c.in_ok-first.first c.in_ok-order.order c.args.budget a c.in_ok-propagator.ensures.conditions c.in_ok-first.ensures.value c.in_ok-order.ensures.value
-    c.in_ok-search.ensures.walk c.in_ok-search.ensures.budget c.in_ok-search.ensures.walked in
+    let f : IsFresh (walk_of p cs) c.args.budget a = record { walk = c.in_ok-search.ensures.walk; budget = c.in_ok-search.ensures.budget; walked = c.in_ok-search.ensures.walked } in
     let h = first-answer a b _ c.in_ok-search.ensures.over c.in-Budget.ensures.steps in
     budget-lists p cs well (state-is p well) c.requires.conditions c.args.budget a b f h.0 h.1
 
@@ -120,12 +79,11 @@ returns-in-Ended-clause-derivation g c =
     let a = c.in_ok-search.search in
     let b = c.next.new.self in
     let well = c.is_said.ensures.formed in
-    let f = fresh-search p cs (map (λ (x : AnyIndexical g.row.K). x.cond) c.in_ok-propagator.propagator.list.items) c.in_ok-first.first c.in_ok-order.order c.args.budget a c.in_ok-propagator.ensures.conditions c.in_ok-first.ensures.value c.in_ok-order.ensures.value
-    c.in_ok-search.ensures.walk c.in_ok-search.ensures.budget c.in_ok-search.ensures.walked in
+    let f : IsFresh (walk_of p cs) c.args.budget a = record { walk = c.in_ok-search.ensures.walk; budget = c.in_ok-search.ensures.budget; walked = c.in_ok-search.ensures.walked } in
     let h = first-answer a b _ c.in_ok-search.ensures.over c.in-Ended.ensures.steps in
     let none : b.some_found ≡ false = c.next.ensures.some_found ∙ ap (λ (x : Bool). x || is_found c.next.result) c.in_ok-search.ensures.some_found ∙ ap is_found c.in-Ended.is in
     let empty : a.began_empty ≡ true = c.in_ok-search.ensures.began_empty refl ∙ ap (λ (es : List Event). length es == 0) c.new-record.ensures.events in (
       ended-derives p cs well (state-is p well) c.requires.conditions c.args.budget a b f h.0 c.into_recorder.result.events c.into_recorder.ensures.events
           (c.next.ensures.derived refl c.in-Ended.is none empty (ap (λ (W : Tree). W.after) c.in_ok-search.ensures.walk)),
-      c.in_ok-propagator.ensures.few,
+      c.in_ok-search.ensures.few,
     )

@@ -2,7 +2,7 @@ use Rattle.std.proofs.Common.{◌≡◌, ◌<◌, ℕ, length}
 use Rattle.geo_base.specs.Boxes.{coordinate}
 use Rattle.geo_base.specs.Tuple.{Tuple, spot}
 use Rattle.trail_search.specs.Next.{HasFound}
-use Rattle.layout_search.proofs.first.push_spot.Given as goal
+use Rattle.layout_search.proofs.start.push_spot.Given as goal
 
 -- the first coordinates are those of the tuple that was found
 abbrev pub invariant-loop-d : goal.invariant-loop-d

@@ -1,7 +1,7 @@
 use Rattle.std.proofs.Common.{arith}
 use Rattle.std.proofs.lemmas.Result.{on_ok_weaker}
 use Rattle.layout_search.proofs.Spots.{spot-made}
-use Rattle.layout_search.proofs.first.push_spot.Goals as goal
+use Rattle.layout_search.proofs.start.push_spot.Goals as goal
 
 pub returns : goal.returns
 returns g c =

@@ -1,8 +1,8 @@
-use Rattle.std.proofs.Common.{◌≡◌, ◌<◌, ap, length, subst, sym, arith, ◌∙◌}
+use Rattle.std.proofs.Common.{◌<◌, ap, length, subst, sym, arith, ◌∙◌}
 use Rattle.layout_search.proofs.Spots.{one-more, all-made}
 use Rattle.trail_search.specs.Next.{HasFound}
 use Rattle.problem_data.specs.Cells.{IsTuple}
-use Rattle.layout_search.proofs.first.found_layout.Goals as goal
+use Rattle.layout_search.proofs.start.found_layout.Goals as goal
 
 pub loop-i-preserved : goal.loop-i-preserved
 loop-i-preserved g c = λ t found is.
