@@ -120,9 +120,3 @@ ends_decided answer left r0 r1 w0 w1 f0 f1 d status r a f = given answer left r0
 -- a tuple has the form of one
 pub shaped_tuple : (p : ProblemData) (t : Tuple) → IsTuple p t → IsShaped p t
 shaped_tuple p t h = record { objects = h.objects; each = λ o l. (h.each o l).form }
-
--- what was decided does not end as a read fault
-pub no_read_fault : (d : Decision) (w0 w1 : Option (List ℕ)) (f0 f1 : ℕ) (r : Status) → Finishes (decision_text d) (decision_status d) w0 w1 f0 f1 r → r ≡ ReadFault → ⊥
-no_read_fault d w0 w1 f0 f1 r h e =
-    let k : Finishes (decision_text d) (decision_status d) w0 w1 f0 f1 ReadFault = subst (λ (x : Status). Finishes (decision_text d) (decision_status d) w0 w1 f0 f1 x) e h in
-    subst IsAnswered (sym k.1) (is_answered d)

@@ -50,13 +50,13 @@ summed seed n input a h (Found t) l f = (
   a.problem,
   a.conditions.items,
   t,
-  layout_found n (made_text seed) a h (Found t) l f t refl,
+  layout_found {R = NoRecord} n (made_text seed) a h (Found t) l f t refl,
   ap (λ k. counts (length a.problem.objects) k ++ (codes "answer layout\n" ++ token_line t)) (as_many (made_text seed) a h),
 )
 summed seed n input a h (Nothing r) l f =
-    (a.problem, a.conditions.items, none_found n (made_text seed) a h (Nothing r) l f r refl, ap (λ k. counts (length a.problem.objects) k ++ codes "answer none\n") (as_many (made_text seed) a h))
+    (a.problem, a.conditions.items, none_found {R = NoRecord} n (made_text seed) a h (Nothing r) l f r refl, ap (λ k. counts (length a.problem.objects) k ++ codes "answer none\n") (as_many (made_text seed) a h))
 summed seed n input a h OutOfBudget l f =
-    (a.problem, a.conditions.items, ran_out n (made_text seed) a h OutOfBudget l f refl, ap (λ k. counts (length a.problem.objects) k ++ codes "answer budget\n") (as_many (made_text seed) a h))
+    (a.problem, a.conditions.items, ran_out {R = NoRecord} n (made_text seed) a h OutOfBudget l f refl, ap (λ k. counts (length a.problem.objects) k ++ codes "answer budget\n") (as_many (made_text seed) a h))
 
 -- a layout that was found has the form of one
 pub shaped_found : (p : ProblemData) (o : Outcome NoRecord) → Finds p o → IsShapedFor p o
