@@ -113,6 +113,7 @@ module _ (left new : Option (List ℕ)) (bytes first second : List ℕ) (read : 
           go (decisions.Budget n) x = absurd x
           go (Layout p layout) x = absurd x
           go (Shown p) x = absurd x
+          go (decisions.Summed s) x = absurd x
           go Good x = absurd x
           go (decisions.Broken p i) x = absurd x
           go (decisions.Drawn text) x = absurd x

@@ -13,7 +13,10 @@ use Rattle.geost_run.specs.Words.{HasForm, HasNoForm}
 use Rattle.geost_run.specs.declared.decision.Decision.{Decision}
 use Rattle.geost_run.specs.declared.decision.Decision.TheVariants.{Refuse, Nothing, Layout, Shown}
 use Rattle.geost_run.specs.declared.decision.Decision.TheVariants as decisions
-use Rattle.geost_run.specs.Decision.{decision_text, decision_status, Decides}
+use Rattle.derivation.specs.declared.recorder.NoRecord.{NoRecord}
+use Rattle.layout_search.specs.declared.first.Outcome.{Outcome}
+use Rattle.layout_search.specs.declared.first.Outcome.TheVariants as outcomes
+use Rattle.geost_run.specs.Decision.{decision_text, decision_status, outcome_status, Decides}
 use Rattle.geost_run.specs.Answer.{FrontOf, AnswerTo, BeginsOf, BadWordsAnswer, Answer, Begins}
 use Rattle.geost_run.specs.Reading.{Tells}
 use Rattle.geost_run.specs.Ends.{Gave, WroteFront, Ends, EndsUnread, Finishes}
@@ -55,7 +58,7 @@ pub ends_command : (words : List (List ℕ)) (command : Command) (left : Option 
 ends_command words command left r0 r1 w0 w1 f0 f1 status form h =
     ends_as (AnswerTo command) (Answer words) (BeginsOf command) (Begins words) left r0 r1 w0 w1 f0 f1 status (λ i t s a. inl (command, form, a)) (λ i t a. inl (command, form, a)) h
 
-some_input : (left : Option (List ℕ)) → (input : List ℕ) × Tells left input
+pub some_input : (left : Option (List ℕ)) → (input : List ℕ) × Tells left input
 some_input None = ([], tt)
 some_input (Some xs) = (xs, refl)
 
@@ -79,6 +82,11 @@ ends_unread words left r w0 w1 f0 f1 WriteFault none (rose, h) = (refl, rose, be
 ends_unread words left r w0 w1 f0 f1 Memory none (same, h) = (refl, same, began_bad words left w0 w1 none h)
 ends_unread words left r w0 w1 f0 f1 _ none h = absurd h
 
+outcome_answered : (o : Outcome NoRecord) → IsAnswered (outcome_status o)
+outcome_answered (outcomes.Found t) = tt
+outcome_answered (outcomes.Nothing kept) = tt
+outcome_answered outcomes.OutOfBudget = tt
+
 is_answered : (d : Decision) → IsAnswered (decision_status d)
 is_answered (Refuse place word) = tt
 is_answered (Nothing names log) = tt
@@ -91,6 +99,7 @@ is_answered decisions.Proved = tt
 is_answered (decisions.Failing n) = tt
 is_answered (decisions.Drawn text) = tt
 is_answered decisions.Large = tt
+is_answered (decisions.Summed s) = outcome_answered s.outcome
 
 gave : (answer : List ℕ → List ℕ → Status → Type 0) (left w0 w1 : Option (List ℕ)) (d : Decision) → Decides answer left d → Appends w0 w1 (decision_text d) → Gave answer left w0 w1 (decision_status d)
 gave answer left w0 w1 d (input, told, a) bytes = record { input = input; text = decision_text d; told = told; answers = a; bytes = bytes }

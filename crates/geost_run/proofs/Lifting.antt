@@ -51,9 +51,9 @@ abbrev pub WasRead : (List ℕ → List ℕ → Type 0) → Option (List ℕ) �
 WasRead R left text = (input : List ℕ) × Tells left input × R input text
 
 pub lifts_first : (n : ℕ) → Lifts IsFirstText (FirstAnswer n)
-lifts_first n input text out Answered h (p, t, cs, a, are, l, f, e) = (p, t, cs, accepted_input input text p h a, are, l, f, e)
-lifts_first n input text out No h (p, cs, a, are, l, f, e) = (p, cs, accepted_input input text p h a, are, l, f, e)
-lifts_first n input text out Budget h (p, cs, a, are, l, e) = (p, cs, accepted_input input text p h a, are, l, e)
+lifts_first n input text out Answered h (p, cs, t, a, e) = (p, cs, t, record { accepted = accepted_input input text p h a.accepted; are = a.are; listing = a.listing; first = a.first }, e)
+lifts_first n input text out No h (p, cs, a, e) = (p, cs, record { accepted = accepted_input input text p h a.accepted; are = a.are; listing = a.listing; none = a.none }, e)
+lifts_first n input text out Budget h (p, cs, a, e) = (p, cs, record { accepted = accepted_input input text p h a.accepted; are = a.are; listing = a.listing }, e)
 lifts_first n input text out Refused h r = refused_input input text out h r
 lifts_first n input text out _ h a = a
 

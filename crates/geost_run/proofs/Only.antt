@@ -1,10 +1,10 @@
 -- The same words and the same input have one status.
-use Rattle.std.proofs.Common.{◌≡◌, inl, inr, ℕ, ℤ, List, [], ◌∷◌, length, refl, sym, ◌∙◌, ap, subst, arith}
-use Rattle.std.specs.Prelude.{codes, decimal}
+use Rattle.std.proofs.Common.{◌≡◌, ◌+◌, ◌*◌, inl, inr, ℕ, List, [], ◌∷◌, length, refl, sym, ◌∙◌, ap, subst, arith}
+use Rattle.std.specs.Prelude.{codes, decimal, sum}
 use Rattle.std.proofs.lemmas.Fmt.{decimal_injective}
 use Rattle.geo_base.specs.Tuple.{Tuple}
 use Rattle.geo_conditions.specs.declared.cond.Cond.{Cond}
-use Rattle.geo_conditions.specs.Walk.{IsListing, More, End, OutOfBudget}
+use Rattle.geo_conditions.specs.Walk.{IsListing, OutOfBudget}
 use Rattle.geo_tokens.specs.declared.fault.FaultWord.{FaultWord}
 use Rattle.layout_drawing.specs.Drawing.{IsDrawing, IsLarge}
 use Rattle.layout_drawing.proofs.OneDrawing.{not_large}
@@ -12,6 +12,7 @@ use Rattle.layout_text.specs.FirstFault as layouts
 use Rattle.layout_text.proofs.OneLayout.{layout_once, layout_or_fault}
 use Rattle.geo_meaning.specs.Judged.{IsFirstBroken}
 use Rattle.problem_data.specs.Problem.{ProblemData}
+use Rattle.problem_generator.specs.Made.{made_text}
 use Rattle.problem_data.specs.Layouts.{IsLayout}
 use Rattle.problem_data.specs.WellFormed.{IsWellFormed}
 use Rattle.problem_data.proofs.Accepted.{accepted_well_formed}
@@ -22,64 +23,93 @@ use Rattle.layout_search.specs.FirstLayout.{walk_of, HasNoLayout}
 use Rattle.layout_search.proofs.Alike as alike
 use Rattle.layout_search.proofs.States.{state-is}
 use Rattle.geost_run.specs.declared.command.Command.{Command}
-use Rattle.geost_run.specs.declared.command.Command.TheVariants.{First, Show, Judge, Check, Draw}
+use Rattle.geost_run.specs.declared.command.Command.TheVariants.{First, Show, Judge, Check, Draw, Make}
 use Rattle.geost_run.specs.declared.command.Status.{Status}
 use Rattle.geost_run.specs.declared.command.Status.TheVariants.{Answered, No, Refused, Budget, BadWords, BadToken, ReadFault, WriteFault, Memory}
 use Rattle.geost_run.specs.Accepted.{IsAccepted, AreConditions}
 use Rattle.geost_run.proofs.Refusals.{same_problem, not_refused, not_refused_pair}
-use Rattle.geost_run.specs.Words.{HasForm}
-use Rattle.geost_run.specs.Answer.{RefusedAnswer, FirstAnswer, ShowAnswer, JudgeAnswer, DrawAnswer, Gives, AnswerTo, Answer}
+use Rattle.geost_run.specs.Words.{HasForm, IsInRange}
+use Rattle.geost_run.specs.Answer.{FindsLayout, FindsNone, RunsOut, RefusedAnswer, FirstAnswer, MakeAnswer, ShowAnswer, JudgeAnswer, DrawAnswer, Gives, AnswerTo, Answer}
 use Rattle.geost_run.specs.Texts.{IsRefusedPair}
 use Rattle.geost_run.proofs.TwoTexts.{one-cut}
 use Rattle.geost_run.proofs.OneCheck.{check_status}
 
+-- ---- what a search finds
+
 -- a text of which a problem with a layout is spelled spells none without
-layout_or_none : (input : List ℕ) (p q : ProblemData) (t : Tuple) → IsAccepted input p → IsLayout p t → IsAccepted input q → HasNoLayout q → ⊥
-layout_or_none input p q t a l b none = subst HasNoLayout (same_problem input q p b a) none t l
+layout_or_none : (n : ℕ) (input : List ℕ) (p q : ProblemData) (cs ds : List Cond) (t : Tuple) → FindsLayout n input p cs t → FindsNone n input q ds → ⊥
+layout_or_none n input p q cs ds t a b = subst HasNoLayout (same_problem input q p b.accepted a.accepted) b.none t a.first.layout
 
 -- under conditions of the same problem no listing finds a layout where another is out of budget, and none ends there
-found_or_spent : (n : ℕ) (input : List ℕ) (p q : ProblemData) (v : List ℤ) (cs ds : List Cond) → IsAccepted input p → IsAccepted input q → AreConditions p cs → AreConditions q ds
-    → IsListing (walk_of p cs) 1 n (v ∷ []) More → IsListing (walk_of q ds) 1 n [] OutOfBudget → ⊥
-found_or_spent n input p q v cs ds a b i j l m =
-    let e : q ≡ p = same_problem input q p b a in
-    let well = accepted_well_formed input p a.spells in
-    alike.found-or-spent p.dims cs ds (first_state p) (order_of p) n (state-is p well) (names-each p well) (i ∙ sym (subst (λ (x : ProblemData). AreConditions x ds) e j)) v l
-    (subst (λ (x : ProblemData). IsListing (walk_of x ds) 1 n [] OutOfBudget) e m)
+layout_or_spent : (n : ℕ) (input : List ℕ) (p q : ProblemData) (cs ds : List Cond) (t : Tuple) → FindsLayout n input p cs t → RunsOut n input q ds → ⊥
+layout_or_spent n input p q cs ds t a b =
+    let e : q ≡ p = same_problem input q p b.accepted a.accepted in
+    let well = accepted_well_formed input p a.accepted.spells in
+    alike.found-or-spent p.dims cs ds (first_state p) (order_of p) n (state-is p well) (names-each p well) (a.are ∙ sym (subst (λ (x : ProblemData). AreConditions x ds) e b.are)) _ a.listing
+    (subst (λ (x : ProblemData). IsListing (walk_of x ds) 1 n [] OutOfBudget) e b.listing)
 
-ended_or_spent : (n : ℕ) (input : List ℕ) (p q : ProblemData) (cs ds : List Cond) → IsAccepted input p → IsAccepted input q → AreConditions p cs → AreConditions q ds
-    → IsListing (walk_of p cs) 1 n [] End → IsListing (walk_of q ds) 1 n [] OutOfBudget → ⊥
-ended_or_spent n input p q cs ds a b i j l m =
-    let e : q ≡ p = same_problem input q p b a in
-    let well = accepted_well_formed input p a.spells in
-    alike.ended-or-spent p.dims cs ds (first_state p) (order_of p) n (state-is p well) (names-each p well) (i ∙ sym (subst (λ (x : ProblemData). AreConditions x ds) e j)) l
-    (subst (λ (x : ProblemData). IsListing (walk_of x ds) 1 n [] OutOfBudget) e m)
+none_or_spent : (n : ℕ) (input : List ℕ) (p q : ProblemData) (cs ds : List Cond) → FindsNone n input p cs → RunsOut n input q ds → ⊥
+none_or_spent n input p q cs ds a b =
+    let e : q ≡ p = same_problem input q p b.accepted a.accepted in
+    let well = accepted_well_formed input p a.accepted.spells in
+    alike.ended-or-spent p.dims cs ds (first_state p) (order_of p) n (state-is p well) (names-each p well) (a.are ∙ sym (subst (λ (x : ProblemData). AreConditions x ds) e b.are)) a.listing
+    (subst (λ (x : ProblemData). IsListing (walk_of x ds) 1 n [] OutOfBudget) e b.listing)
 
 pub refused_too : (input out : List ℕ) (p : ProblemData) → IsAccepted input p → RefusedAnswer input out → ⊥
 refused_too input out p a (place, word, f, e) = not_refused input p place word a f
 
+-- what is found of a text, by the status that says it
+abbrev pub Finds : ℕ → List ℕ → List ℕ → Status → Type 0
+Finds n input out Answered = (p : ProblemData) × (cs : List Cond) × (t : Tuple) × FindsLayout n input p cs t
+Finds n input out No = (p : ProblemData) × (cs : List Cond) × FindsNone n input p cs
+Finds n input out Budget = (p : ProblemData) × (cs : List Cond) × RunsOut n input p cs
+Finds n input out Refused = RefusedAnswer input out
+Finds n input out _ = ⊥
+
+-- only one of them is found of a text
+found_status : (n : ℕ) (input t u : List ℕ) (s r : Status) → Finds n input t s → Finds n input u r → s ≡ r
+found_status n input t u Answered Answered a b = refl
+found_status n input t u No No a b = refl
+found_status n input t u Budget Budget a b = refl
+found_status n input t u Refused Refused a b = refl
+found_status n input t u Answered No (p, cs, x, a) (q, ds, b) = absurd (layout_or_none n input p q cs ds x a b)
+found_status n input t u No Answered (q, ds, b) (p, cs, x, a) = absurd (layout_or_none n input p q cs ds x a b)
+found_status n input t u Answered Budget (p, cs, x, a) (q, ds, b) = absurd (layout_or_spent n input p q cs ds x a b)
+found_status n input t u Budget Answered (q, ds, b) (p, cs, x, a) = absurd (layout_or_spent n input p q cs ds x a b)
+found_status n input t u No Budget (p, cs, a) (q, ds, b) = absurd (none_or_spent n input p q cs ds a b)
+found_status n input t u Budget No (q, ds, b) (p, cs, a) = absurd (none_or_spent n input p q cs ds a b)
+found_status n input t u Answered Refused (p, cs, x, a) r = absurd (refused_too input u p a.accepted r)
+found_status n input t u Refused Answered r (p, cs, x, a) = absurd (refused_too input t p a.accepted r)
+found_status n input t u No Refused (p, cs, a) r = absurd (refused_too input u p a.accepted r)
+found_status n input t u Refused No r (p, cs, a) = absurd (refused_too input t p a.accepted r)
+found_status n input t u Budget Refused (p, cs, a) r = absurd (refused_too input u p a.accepted r)
+found_status n input t u Refused Budget r (p, cs, a) = absurd (refused_too input t p a.accepted r)
+found_status n input t u BadWords r a b = absurd a
+found_status n input t u BadToken r a b = absurd a
+found_status n input t u ReadFault r a b = absurd a
+found_status n input t u WriteFault r a b = absurd a
+found_status n input t u Memory r a b = absurd a
+found_status n input t u s _ a b = absurd b
+
+first_finds : (n : ℕ) (input text : List ℕ) (s : Status) → FirstAnswer n input text s → Finds n input text s
+first_finds n input text Answered (p, cs, t, a, e) = (p, cs, t, a)
+first_finds n input text No (p, cs, a, e) = (p, cs, a)
+first_finds n input text Budget (p, cs, a, e) = (p, cs, a)
+first_finds n input text Refused r = r
+first_finds n input text _ a = a
+
+make_finds : (seed n : ℕ) (input text : List ℕ) (s : Status) → MakeAnswer seed n input text s → Finds n (made_text seed) text s
+make_finds seed n input text Answered (p, cs, t, a, e) = (p, cs, t, a)
+make_finds seed n input text No (p, cs, a, e) = (p, cs, a)
+make_finds seed n input text Budget (p, cs, a, e) = (p, cs, a)
+make_finds seed n input text Refused r = r
+make_finds seed n input text _ a = a
+
 first_status : (n : ℕ) (input t u : List ℕ) (s r : Status) → FirstAnswer n input t s → FirstAnswer n input u r → s ≡ r
-first_status n input t u Answered Answered a b = refl
-first_status n input t u No No a b = refl
-first_status n input t u Budget Budget a b = refl
-first_status n input t u Refused Refused a b = refl
-first_status n input t u Answered No (p, x, cs, a, are, l, f, e) (q, ds, b, is, m, none, g) = absurd (layout_or_none input p q x a f.layout b none)
-first_status n input t u No Answered (q, ds, b, is, m, none, g) (p, x, cs, a, are, l, f, e) = absurd (layout_or_none input p q x a f.layout b none)
-first_status n input t u Answered Budget (p, x, cs, a, are, l, f, e) (q, ds, b, is, m, g) = absurd (found_or_spent n input p q _ cs ds a b are is l m)
-first_status n input t u Budget Answered (q, ds, b, is, m, g) (p, x, cs, a, are, l, f, e) = absurd (found_or_spent n input p q _ cs ds a b are is l m)
-first_status n input t u No Budget (p, cs, a, are, l, none, e) (q, ds, b, is, m, g) = absurd (ended_or_spent n input p q cs ds a b are is l m)
-first_status n input t u Budget No (q, ds, b, is, m, g) (p, cs, a, are, l, none, e) = absurd (ended_or_spent n input p q cs ds a b are is l m)
-first_status n input t u Answered Refused (p, x, cs, a, are, l, f, e) r = absurd (refused_too input u p a r)
-first_status n input t u Refused Answered r (p, x, cs, a, are, l, f, e) = absurd (refused_too input t p a r)
-first_status n input t u No Refused (p, cs, a, are, l, none, e) r = absurd (refused_too input u p a r)
-first_status n input t u Refused No r (p, cs, a, are, l, none, e) = absurd (refused_too input t p a r)
-first_status n input t u Budget Refused (p, cs, a, are, l, e) r = absurd (refused_too input u p a r)
-first_status n input t u Refused Budget r (p, cs, a, are, l, e) = absurd (refused_too input t p a r)
-first_status n input t u BadWords r a b = absurd a
-first_status n input t u BadToken r a b = absurd a
-first_status n input t u ReadFault r a b = absurd a
-first_status n input t u WriteFault r a b = absurd a
-first_status n input t u Memory r a b = absurd a
-first_status n input t u s _ a b = absurd b
+first_status n input t u s r a b = found_status n input t u s r (first_finds n input t s a) (first_finds n input u r b)
+
+make_status : (seed n : ℕ) (input t u : List ℕ) (s r : Status) → MakeAnswer seed n input t s → MakeAnswer seed n input u r → s ≡ r
+make_status seed n input t u s r a b = found_status n (made_text seed) t u s r (make_finds seed n input t s a) (make_finds seed n input u r b)
 
 show_status : (input t u : List ℕ) (s r : Status) → ShowAnswer input t s → ShowAnswer input u r → s ≡ r
 show_status input t u Answered Answered a b = refl
@@ -174,55 +204,53 @@ same_number words n m f g = decimal_injective n m (omega (arith, f.2)) (omega (a
     second : codes "first" ∷ decimal n ∷ [] ≡ codes "first" ∷ decimal m ∷ [] → decimal n ≡ decimal m
     second e = cc
 
--- a word and a number are no word alone
-not_alone : (words : List (List ℕ)) (n : ℕ) (name : List ℕ) → HasForm words (First n) → words ≡ name ∷ [] → ⊥
-not_alone words n name f g = let e = sym f.0 ∙ g in absurd (omega (arith, ap length e))
+-- words have one seed and one number
+same_seed : (words : List (List ℕ)) (seed n other m : ℕ) → HasForm words (Make seed n) → HasForm words (Make other m) → (seed ≡ other) × (n ≡ m)
+same_seed words seed n other m f g = (
+  decimal_injective seed other (omega (arith, f.1)) (omega (arith, g.1)) (second (sym f.0 ∙ g.0)),
+  decimal_injective n m (omega (arith, f.3)) (omega (arith, g.3)) (third (sym f.0 ∙ g.0)),
+)
+  where
+    second : codes "make" ∷ decimal seed ∷ decimal n ∷ [] ≡ codes "make" ∷ decimal other ∷ decimal m ∷ [] → decimal seed ≡ decimal other
+    second e = cc
 
--- a word alone is no other
-show_or_judge : codes "show" ∷ [] ≡ codes "judge" ∷ [] → ⊥
-show_or_judge e = absurd cc
+    third : codes "make" ∷ decimal seed ∷ decimal n ∷ [] ≡ codes "make" ∷ decimal other ∷ decimal m ∷ [] → decimal n ≡ decimal m
+    third e = cc
 
-show_or_check : codes "show" ∷ [] ≡ codes "check" ∷ [] → ⊥
-show_or_check e = absurd cc
+-- a number of the first word and of how many words there are
+abbrev mark_in : List (List ℕ) → ℕ
+mark_in [] = 0
+mark_in (word ∷ words) = sum word + 1000 * length words
 
-abbrev first_letter : List (List ℕ) → ℕ
-first_letter [] = 0
-first_letter ([] ∷ words) = 0
-first_letter ((c ∷ cs) ∷ words) = c
+-- that of a command's words, which no other command has
+abbrev mark_of : Command → ℕ
+mark_of (First n) = sum (codes "first") + 1000
+mark_of Show = sum (codes "show")
+mark_of Judge = sum (codes "judge")
+mark_of Check = sum (codes "check")
+mark_of Draw = sum (codes "draw")
+mark_of (Make seed n) = sum (codes "make") + 2000
 
-draw_or : (name : List ℕ) → (100 ≡ first_letter (name ∷ []) → ⊥) → codes "draw" ∷ [] ≡ name ∷ [] → ⊥
-draw_or name other e = other (ap first_letter e)
+mark_is : (words : List (List ℕ)) (c : Command) → HasForm words c → mark_in words ≡ mark_of c
+mark_is words (First n) f = ap mark_in f.0
+mark_is words Show f = ap mark_in f
+mark_is words Judge f = ap mark_in f
+mark_is words Check f = ap mark_in f
+mark_is words Draw f = ap mark_in f
+mark_is words (Make seed n) f = ap mark_in f.0
 
-judge_or_check : codes "judge" ∷ [] ≡ codes "check" ∷ [] → ⊥
-judge_or_check e = (let other : 106 ≡ 99 = ap first_letter e in absurd (omega (arith, other)))
+same_mark : (words : List (List ℕ)) (c d : Command) → HasForm words c → HasForm words d → mark_of c ≡ mark_of d
+same_mark words c d f g = sym (mark_is words c f) ∙ mark_is words d g
 
 -- words are of one command
-one_command : (words : List (List ℕ)) (c d : Command) → HasForm words c → HasForm words d → c ≡ d
+pub one_command : (words : List (List ℕ)) (c d : Command) → HasForm words c → HasForm words d → c ≡ d
 one_command words (First n) (First m) f g = ap First (same_number words n m f g)
 one_command words Show Show f g = refl
 one_command words Judge Judge f g = refl
 one_command words Check Check f g = refl
-one_command words (First n) Show f g = absurd (not_alone words n (codes "show") f g)
-one_command words (First n) Judge f g = absurd (not_alone words n (codes "judge") f g)
-one_command words (First n) Check f g = absurd (not_alone words n (codes "check") f g)
-one_command words Show (First m) f g = absurd (not_alone words m (codes "show") g f)
-one_command words Judge (First m) f g = absurd (not_alone words m (codes "judge") g f)
-one_command words Check (First m) f g = absurd (not_alone words m (codes "check") g f)
-one_command words Show Judge f g = absurd (show_or_judge (sym f ∙ g))
-one_command words Judge Show f g = absurd (show_or_judge (sym g ∙ f))
-one_command words Show Check f g = absurd (show_or_check (sym f ∙ g))
-one_command words Check Show f g = absurd (show_or_check (sym g ∙ f))
-one_command words Judge Check f g = absurd (judge_or_check (sym f ∙ g))
-one_command words Check Judge f g = absurd (judge_or_check (sym g ∙ f))
 one_command words Draw Draw f g = refl
-one_command words (First n) Draw f g = absurd (not_alone words n (codes "draw") f g)
-one_command words Draw (First m) f g = absurd (not_alone words m (codes "draw") g f)
-one_command words Draw Show f g = absurd (draw_or (codes "show") (λ e. omega (arith, e)) (sym f ∙ g))
-one_command words Show Draw f g = absurd (draw_or (codes "show") (λ e. omega (arith, e)) (sym g ∙ f))
-one_command words Draw Judge f g = absurd (draw_or (codes "judge") (λ e. omega (arith, e)) (sym f ∙ g))
-one_command words Judge Draw f g = absurd (draw_or (codes "judge") (λ e. omega (arith, e)) (sym g ∙ f))
-one_command words Draw Check f g = absurd (draw_or (codes "check") (λ e. omega (arith, e)) (sym f ∙ g))
-one_command words Check Draw f g = absurd (draw_or (codes "check") (λ e. omega (arith, e)) (sym g ∙ f))
+one_command words (Make seed n) (Make other m) f g = let e = same_seed words seed n other m f g in ap (λ (s : ℕ). Make s n) e.0 ∙ ap (λ (k : ℕ). Make other k) e.1
+one_command words c d f g = let e : mark_of c ≡ mark_of d = same_mark words c d f g in absurd (omega (arith, e))
 
 -- an answer to words that have the form of a command is one to the command
 pub answers_to : (words : List (List ℕ)) (c : Command) (input text : List ℕ) (s : Status) → HasForm words c → Answer words input text s → AnswerTo c input text s
@@ -235,8 +263,18 @@ status_of Show input t u s r a b = show_status input t u s r a b
 status_of Judge input t u s r a b = judge_status input t u s r a b
 status_of Check input t u s r a b = check_status input t u s r a b
 status_of Draw input t u s r a b = draw_status input t u s r a b
+status_of (Make seed n) input t u s r a b = make_status seed n input t u s r a b
 
 pub one_status : (words : List (List ℕ)) (input t u : List ℕ) (s r : Status) → Answer words input t s → Answer words input u r → s ≡ r
 one_status words input t u s r (inl (c, f, a)) b = status_of c input t u s r a (answers_to words c input u r f b)
 one_status words input t u s r (inr h) (inl (c, f, a)) = absurd (h.none c f)
 one_status words input t u s r (inr h) (inr k) = h.ends ∙ sym k.ends
+
+-- the numbers of a command whose form words have are in range
+pub in_range : (words : List (List ℕ)) (c : Command) → HasForm words c → IsInRange c
+in_range words (Make seed n) f = f.1
+in_range words (First n) f = tt
+in_range words Show f = tt
+in_range words Judge f = tt
+in_range words Check f = tt
+in_range words Draw f = tt

@@ -3,9 +3,10 @@ use Rattle.std.proofs.Common.{◌≡◌, inl, inr, ℕ, List, refl, sym, subst}
 use Rattle.std.specs.Prelude.{Option, Some}
 use Rattle.geo_chan.specs.Causes.{Rose}
 use Rattle.geost_run.specs.declared.command.Command.{Command}
-use Rattle.geost_run.specs.declared.command.Command.TheVariants.{First, Show, Judge, Check, Draw}
+use Rattle.geost_run.specs.declared.command.Command.TheVariants.{First, Show, Judge, Check, Draw, Make}
 use Rattle.geost_run.specs.declared.command.Status.{Status}
 use Rattle.geost_run.specs.declared.command.Status.TheVariants.{Answered, No, Refused, Budget, BadWords, BadToken, ReadFault, WriteFault, Memory}
+use Rattle.problem_generator.specs.Made.{made_text}
 use Rattle.geost_run.specs.Words.{HasForm}
 use Rattle.geost_run.specs.Answer.{FirstAnswer, Answer, AnswerTo, Begins, FrontOf}
 use Rattle.geost_run.specs.Reading.{Tells}
@@ -17,9 +18,9 @@ use Rattle.geost_run.proofs.OneCheck.{derived_or_refused}
 use Rattle.geost_run.proofs.Only.{answers_to, refused_too, given_or_refused}
 
 promised : (n : ℕ) (input text : List ℕ) (s : Status) → FirstAnswer n input text s → Promises n input text s
-promised n input text Answered (p, t, cs, a, are, l, f, e) = (p, t, a, f.layout, f.first, e)
-promised n input text No (p, cs, a, are, l, none, e) = (p, cs, a, are, none, e, confirmed input p cs text a are none e)
-promised n input text Budget (p, cs, a, are, l, e) = (p, cs, l.walked, a, are, l.front, l.ends.1, sym l.full, l.ends.2, e)
+promised n input text Answered (p, cs, t, a, e) = (p, t, a.accepted, a.first.layout, a.first.first, e)
+promised n input text No (p, cs, a, e) = (p, cs, a.accepted, a.are, a.none, e, confirmed input p cs text a.accepted a.are a.none e)
+promised n input text Budget (p, cs, a, e) = (let l = a.listing in (p, cs, l.walked, a.accepted, a.are, l.front, l.ends.1, sym l.full, l.ends.2, e))
 promised n input text Refused r = r
 promised n input text _ a = a
 
@@ -33,6 +34,7 @@ not-refused-by Show input text (p, a) r = refused_too input text p a r
 not-refused-by Judge input text (p, t, g) (place, word, r, e) = given_or_refused input p t place word g r
 not-refused-by Check input text (p, root, g) (place, word, r, e) = derived_or_refused input p root place word g r
 not-refused-by Draw input text (p, t, g) (place, word, r, e) = given_or_refused input p t place word g r
+not-refused-by (Make seed n) input text (p, a) r = refused_too (made_text seed) text p a r
 
 no-bad-words : (c : Command) (input text : List ℕ) → AnswerTo c input text BadWords → ⊥
 no-bad-words (First m) input text a = a
@@ -40,6 +42,7 @@ no-bad-words Show input text a = a
 no-bad-words Judge input text a = a
 no-bad-words Check input text a = a
 no-bad-words Draw input text a = a
+no-bad-words (Make seed n) input text a = a
 
 no-bad-token : (c : Command) (input text : List ℕ) → AnswerTo c input text BadToken → ⊥
 no-bad-token (First m) input text a = a
@@ -47,6 +50,7 @@ no-bad-token Show input text a = a
 no-bad-token Judge input text a = a
 no-bad-token Check input text a = a
 no-bad-token Draw input text a = a
+no-bad-token (Make seed n) input text a = a
 
 -- where the words have a form, the texts no fault and no count rose, the answer was written, or memory ran out
 pub complete : (words : List (List ℕ)) (c : Command) (input : List ℕ) (left : Option (List ℕ)) (r0 r1 : ℕ) (w0 w1 : Option (List ℕ)) (f0 f1 : ℕ) (s : Status) → HasForm words c → left ≡ Some input → IsFaultless c input

@@ -1,5 +1,5 @@
 -- What the program answers: the text that it writes and the status that it ends with.
-use Rattle.std.specs.Prelude.{◌≡◌, ◌⊎◌, ◌++◌, ◌+◌, ◌-◌, ℕ, List, [], ◌∷◌, codes, decimal}
+use Rattle.std.specs.Prelude.{◌≡◌, ◌⊎◌, ◌++◌, ◌+◌, ◌-◌, ℕ, List, [], ◌∷◌, length, codes, decimal}
 use Rattle.geo_base.specs.Tuple.{Tuple}
 use Rattle.geo_conditions.specs.declared.cond.Cond.{Cond}
 use Rattle.geo_conditions.specs.Walk.{values, IsListing, More, End, OutOfBudget}
@@ -10,9 +10,11 @@ use Rattle.derivation_reading.specs.FirstFault as derivations
 use Rattle.geo_tokens.specs.declared.fault.FaultWord.{FaultWord}
 use Rattle.geo_tokens.specs.Fault.{fault_bytes}
 use Rattle.layout_drawing.specs.Drawing.{IsDrawing, IsLarge}
-use Rattle.layout_text.specs.Block.{block_of}
+use Rattle.layout_text.specs.Block.{block_of, token_line}
 use Rattle.layout_text.specs.FirstFault as layouts
 use Rattle.geo_meaning.specs.Judged.{IsFirstBroken, rule_at}
+use Rattle.problem_generator.specs.Made.{made_text}
+use Rattle.problem_summary.specs.Summary.{counts}
 use Rattle.printed_derivation.specs.Laws.{printed}
 use Rattle.printed_derivation.specs.Printable.{IsPrintable}
 use Rattle.problem_data.specs.Problem.{ProblemData}
@@ -20,9 +22,10 @@ use Rattle.problem_data.specs.Layouts.{IsLayout}
 use Rattle.problem_text.specs.Canonical.{problem_text}
 use Rattle.problem_text.specs.NameTable.{name_table}
 use Rattle.geost_run.specs.declared.command.Command.{Command}
-use Rattle.geost_run.specs.declared.command.Command.TheVariants.{First, Show, Judge, Check, Draw}
+use Rattle.geost_run.specs.declared.command.Command.TheVariants.{First, Show, Judge, Check, Draw, Make}
 use Rattle.geost_run.specs.declared.command.Status.{Status}
 use Rattle.geost_run.specs.declared.command.Status.TheVariants.{Answered, No, Refused, Budget, BadWords}
+use Rattle.rule_ground.specs.Ground.{conditions}
 use Rattle.rule_ground.specs.Order.{variables_for}
 use Rattle.rule_ground.specs.Start.{first_state}
 use Rattle.layout_search.specs.FirstLayout.{walk_of, IsFirstLayout, HasNoLayout}
@@ -55,15 +58,50 @@ pub record SaysNone (p : ProblemData) (cs : List Cond) (text : List ℕ) : Type 
   pub shows : ShowsNone p cs events
   pub says : text ≡ printed (name_table p) events
 
--- `first N`. The listing of one layout among the first N members of the walk. So the printed layout satisfies every rule by its
--- cells and its formula and precedes every other layout; `none` means that there is no layout, and a valid derivation stands behind it; any
--- other text is refused at its first fault.
+-- ---- What is found of a text: the listing of one layout among the first N members of the walk.
+
+-- the text is a problem with these conditions, and this is its first layout: it satisfies every rule by its cells and its formula, and
+-- precedes every other layout
+pub record FindsLayout (n : ℕ) (input : List ℕ) (p : ProblemData) (cs : List Cond) (t : Tuple) : Type 0 where
+  pub accepted : IsAccepted input p
+  pub are : AreConditions p cs
+  pub listing : IsListing (walk_of p cs) 1 n (values (variables_for p) t ∷ []) More
+  pub first : IsFirstLayout p t
+
+-- the problem has no layout
+pub record FindsNone (n : ℕ) (input : List ℕ) (p : ProblemData) (cs : List Cond) : Type 0 where
+  pub accepted : IsAccepted input p
+  pub are : AreConditions p cs
+  pub listing : IsListing (walk_of p cs) 1 n [] End
+  pub none : HasNoLayout p
+
+-- none of the first N members is a layout, and the walk goes on
+pub record RunsOut (n : ℕ) (input : List ℕ) (p : ProblemData) (cs : List Cond) : Type 0 where
+  pub accepted : IsAccepted input p
+  pub are : AreConditions p cs
+  pub listing : IsListing (walk_of p cs) 1 n [] OutOfBudget
+
+-- `first N`. The first layout; or `none`, where there is no layout, and a valid derivation behind it; or `budget`. Any other text is
+-- refused at its first fault.
 abbrev pub FirstAnswer : ℕ → List ℕ → List ℕ → Status → Type 0
-FirstAnswer n input text Answered = (p : ProblemData) × (t : Tuple) × (cs : List Cond) × IsAccepted input p × AreConditions p cs × IsListing (walk_of p cs) 1 n (values (variables_for p) t ∷ []) More × IsFirstLayout p t × (text ≡ block_of p t)
-FirstAnswer n input text No = (p : ProblemData) × (cs : List Cond) × IsAccepted input p × AreConditions p cs × IsListing (walk_of p cs) 1 n [] End × HasNoLayout p × SaysNone p cs text
-FirstAnswer n input text Budget = (p : ProblemData) × (cs : List Cond) × IsAccepted input p × AreConditions p cs × IsListing (walk_of p cs) 1 n [] OutOfBudget × (text ≡ out_of_budget n)
+FirstAnswer n input text Answered = (p : ProblemData) × (cs : List Cond) × (t : Tuple) × FindsLayout n input p cs t × (text ≡ block_of p t)
+FirstAnswer n input text No = (p : ProblemData) × (cs : List Cond) × FindsNone n input p cs × SaysNone p cs text
+FirstAnswer n input text Budget = (p : ProblemData) × (cs : List Cond) × RunsOut n input p cs × (text ≡ out_of_budget n)
 FirstAnswer n input text Refused = RefusedAnswer input text
 FirstAnswer n input text _ = ⊥
+
+-- the numbers of objects and of conditions, and the lines behind them
+abbrev pub summary : ProblemData → List ℕ → List ℕ
+summary p lines = counts (length p.objects) (length (conditions p)) ++ lines
+
+-- `make SEED N`. A summary of what `first N` finds of the text that is made from the seed, with the token of a layout. The input is not
+-- looked at.
+abbrev pub MakeAnswer : ℕ → ℕ → List ℕ → List ℕ → Status → Type 0
+MakeAnswer seed n input text Answered = (p : ProblemData) × (cs : List Cond) × (t : Tuple) × FindsLayout n (made_text seed) p cs t × (text ≡ summary p (codes "answer layout\n" ++ token_line t))
+MakeAnswer seed n input text No = (p : ProblemData) × (cs : List Cond) × FindsNone n (made_text seed) p cs × (text ≡ summary p (codes "answer none\n"))
+MakeAnswer seed n input text Budget = (p : ProblemData) × (cs : List Cond) × RunsOut n (made_text seed) p cs × (text ≡ summary p (codes "answer budget\n"))
+MakeAnswer seed n input text Refused = RefusedAnswer (made_text seed) text
+MakeAnswer seed n input text _ = ⊥
 
 -- `show`. The problem in its canonical spelling; any other text is refused at its first fault.
 abbrev pub ShowAnswer : List ℕ → List ℕ → Status → Type 0
@@ -127,6 +165,7 @@ AnswerTo Show input text status = ShowAnswer input text status
 AnswerTo Judge input text status = JudgeAnswer input text status
 AnswerTo Check input text status = CheckAnswer input text status
 AnswerTo Draw input text status = DrawAnswer input text status
+AnswerTo (Make seed n) input text status = MakeAnswer seed n input text status
 
 -- a front part of a text that is an answer
 abbrev pub FrontOf : (List ℕ → List ℕ → Status → Type 0) → List ℕ → List ℕ → Type 0

@@ -7,6 +7,7 @@ use Rattle.derivation.specs.Nodes.{Node}
 use Rattle.geo_tokens.specs.declared.fault.FaultWord.{FaultWord}
 use Rattle.layout_text.specs.Block.{block_of}
 use Rattle.problem_data.specs.Problem.{ProblemData}
+use Rattle.problem_generator.specs.Made.{made_text}
 use Rattle.problem_data.specs.Layouts.{IsLayout}
 use Rattle.rule_ground.specs.Order.{ComesBefore}
 use Rattle.layout_search.specs.FirstLayout.{walk_of}
@@ -14,7 +15,7 @@ use Rattle.geost_run.specs.Accepted.{IsAccepted, IsRefused, AreConditions}
 use Rattle.geost_run.specs.Texts.{AreTextsOf}
 use Rattle.geost_run.specs.Answer.{refusal, out_of_budget, SaysNone, CheckAnswer, Gives, Derives}
 use Rattle.geost_run.specs.declared.command.Command.{Command}
-use Rattle.geost_run.specs.declared.command.Command.TheVariants.{First, Show, Judge, Check, Draw}
+use Rattle.geost_run.specs.declared.command.Command.TheVariants.{First, Show, Judge, Check, Draw, Make}
 use Rattle.geost_run.specs.declared.command.Status.{Status}
 use Rattle.geost_run.specs.declared.command.Status.TheVariants.{Answered, No, Refused, Budget, Memory}
 
@@ -48,6 +49,7 @@ IsFaultless Show input = (p : ProblemData) × IsAccepted input p
 IsFaultless Judge input = (p : ProblemData) × (t : Tuple) × Gives input p t
 IsFaultless Check input = (p : ProblemData) × (root : Node) × Derives input p root
 IsFaultless Draw input = (p : ProblemData) × (t : Tuple) × Gives input p t
+IsFaultless (Make seed n) input = (p : ProblemData) × IsAccepted (made_text seed) p
 
 -- a status with which the whole of a command's answer was written, or want of memory
 abbrev pub IsComplete : Status → Type 0

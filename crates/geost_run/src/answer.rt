@@ -1,12 +1,13 @@
 // How a command is carried out: its answer to the input is decided, and that is written.
-ghost use Rattle.std.specs.Prelude.{◌≡◌, IfOk};
+ghost use Rattle.std.specs.Prelude.{◌≡◌, Err, IfOk};
 ghost use Rattle.geost_run.specs.Answer.{AnswerTo, BeginsOf};
 ghost use Rattle.geost_run.specs.Decision.{decision_text, decision_status, Decides, IsDecided};
 ghost use Rattle.geost_run.specs.Ends.{Ends, Finishes};
-ghost use Rattle.geost_run.specs.Reading.{ReadCause, TakesAtMost, most_taken};
+ghost use Rattle.geost_run.specs.Reading.{ReadCause, ReadsNothing, TakesAtMost, most_taken};
+ghost use Rattle.geost_run.specs.Words.{IsInRange};
 
 use crate::check::decide_check;
-use crate::decide::{decide_draw, decide_first, decide_judge, decide_show};
+use crate::decide::{decide_draw, decide_first, decide_judge, decide_make, decide_show};
 use crate::{
     Command, Decision, ReadFault, Status, read_first_text, read_two_texts, write_decision,
 };
@@ -20,10 +21,13 @@ pub fn carry_out<S: Source, W: Sink>(
     source: &mut S,
     sink: &mut W,
 ) -> Status
+    requires { IsInRange command }
     ensures ends { Ends (AnswerTo command) (BeginsOf command)
         (S.left source.old) (S.faults source.old) (S.faults source.new)
         (W.written sink.old) (W.written sink.new) (W.faults sink.old) (W.faults sink.new) result }
     ensures most { TakesAtMost (most_taken command) (S.left source.old) (S.left source.new) }
+    ensures unread { ReadsNothing command
+        → (source.new ≡ source.old) × (result ≡ Status.ReadFault → ⊥) }
 {
     match decide_input(alloc, command, source) {
         Ok(decision) => finish(alloc, sink, &decision),
@@ -38,10 +42,13 @@ fn decide_input<S: Source>(
     command: Command,
     source: &mut S,
 ) -> Result<Decision, ReadFault>
+    requires { IsInRange command }
     ensures answer { IfOk result (Decides (AnswerTo command) (S.left source.old)) }
     ensures decided { IfOk result IsDecided }
     ensures most { TakesAtMost (most_taken command) (S.left source.old) (S.left source.new) }
     ensures cause { ReadCause (S.faults source.old) (S.faults source.new) result }
+    ensures unread { ReadsNothing command
+        → (source.new ≡ source.old) × (result ≡ Err ReadFault.Failed → ⊥) }
 {
     match command {
         Command::First(most) => {
@@ -61,6 +68,7 @@ fn decide_input<S: Source>(
             let text = read_two_texts(alloc, source)?;
             Ok(decide_draw(alloc, &text)?)
         }
+        Command::Make(seed, most) => Ok(decide_make(alloc, seed, most)?),
     }
 }
 

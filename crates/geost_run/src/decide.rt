@@ -1,6 +1,6 @@
 // What each command that reads its texts whole answers to them.
-ghost use Rattle.std.specs.Prelude.{◌≡◌, ◌≤◌, IfOk, length};
-ghost use Rattle.geost_run.specs.Answer.{DrawAnswer, FirstAnswer, ShowAnswer, JudgeAnswer};
+ghost use Rattle.std.specs.Prelude.{◌≡◌, ◌<◌, ◌≤◌, ◌^◌, ℕ, List, IfOk, length};
+ghost use Rattle.geost_run.specs.Answer.{DrawAnswer, FirstAnswer, MakeAnswer, ShowAnswer, JudgeAnswer};
 ghost use Rattle.geost_run.specs.Decision.{decision_text, decision_status, IsDecided, RefusesAs};
 
 use crate::Decision;
@@ -10,7 +10,9 @@ use crate::shorter::shorter;
 use geo_meaning::judging::{Judged, judge_rules};
 use geo_tokens::fault::TextFault;
 use layout_drawing::drawing;
-use layout_search::{Outcome, search_first};
+use layout_search::{Outcome, search_first, search_first_unrecorded};
+use problem_generator::make_problem;
+use problem_summary::Summary;
 use problem_text::names::names;
 use std::alloc::{AllocError, Global};
 
@@ -84,6 +86,32 @@ pub fn decide_draw(alloc: Global, text: &[u8]) -> Result<Decision, AllocError>
         Some(rows) => Ok(Decision::Drawn(rows)),
         None => Ok(Decision::Large),
     }
+}
+
+// What the search for the first layout, where the walk to it has at most `most` members, finds of the problem that is made
+// from the seed.
+pub fn decide_make(alloc: Global, seed: u32, most: u64) -> Result<Decision, AllocError>
+    requires { seed < 2 ^ 31 }
+    ensures answer { IfOk result (λ decision. (input : List ℕ)
+        → MakeAnswer seed most input (decision_text decision) (decision_status decision)) }
+    ensures decided { IfOk result IsDecided }
+{
+    let text = make_problem(alloc, seed)?;
+    let Accepted {
+        problem,
+        rules: _,
+        conditions,
+    } = match read_accepted(alloc, &text) {
+        Ok(accepted) => accepted,
+        Err(fault) => return refuse(fault),
+    };
+    let count = conditions.len();
+    let outcome = search_first_unrecorded(alloc, &problem, conditions, most)?;
+    Ok(Decision::Summed(Summary {
+        problem,
+        conditions: count,
+        outcome,
+    }))
 }
 
 // The answer to a text with that fault.

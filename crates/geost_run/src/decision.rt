@@ -1,13 +1,15 @@
 // What is to be answered, decided before anything is written.
 ghost use Rattle.std.specs.Prelude.{◌≡◌};
-ghost use Rattle.geost_run.specs.Decision.{decision_status};
+ghost use Rattle.geost_run.specs.Decision.{decision_status, outcome_status};
 
 use crate::Status;
-use derivation::Log;
+use derivation::{Log, NoRecord};
 use geo_conditions::Layout;
 use geo_tokens::fault::FaultWord;
 use geo_tokens::names::Names;
+use layout_search::Outcome;
 use problem_data::problem::Problem;
+use problem_summary::Summary;
 
 /// The answer to a command.
 #[derive(Drop)]
@@ -34,6 +36,8 @@ pub enum Decision {
     Drawn(Vec<u8>),
     /// The drawing of a layout would have too many cells.
     Large,
+    /// What a search has found of a problem that was made from a seed.
+    Summed(Summary),
 }
 
 impl Decision {
@@ -53,6 +57,18 @@ impl Decision {
             | Decision::Broken(_, _)
             | Decision::Failing(_)
             | Decision::Large => Status::No,
+            Decision::Summed(summary) => status_of(&summary.outcome),
         }
+    }
+}
+
+// The status of a run that says how a search ended.
+fn status_of(outcome: &Outcome<NoRecord>) -> Status
+    ensures { result ≡ outcome_status outcome.now }
+{
+    match outcome {
+        Outcome::Found(_) => Status::Answered,
+        Outcome::Nothing(_) => Status::No,
+        Outcome::OutOfBudget => Status::Budget,
     }
 }

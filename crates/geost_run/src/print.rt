@@ -16,6 +16,7 @@ use geo_tokens::fault::{FaultWord, fault_text};
 use geo_tokens::names::Names;
 use layout_text::print_layout;
 use problem_data::problem::Problem;
+use problem_summary::print_summary;
 use problem_text::print::print_problem;
 use std::alloc::Global;
 
@@ -41,6 +42,7 @@ pub fn write_decision<W: Sink>(
         Decision::Failing(node) => write_failing(sink, *node),
         Decision::Drawn(text) => write_all_bytes(sink, text.as_slice()),
         Decision::Large => write_all_bytes(sink, b"large\n"),
+        Decision::Summed(summary) => print_summary(summary, sink),
     }
 }
 

@@ -22,7 +22,7 @@ pub fn print_layout<W: Sink>(
 {
     write_all_bytes(sink, b"layout\n")?;
     write_lines(problem, layout, sink)?;
-    write_token_line(problem, layout, sink)
+    print_token_line(problem, layout, sink)
 }
 
 /// Writes the token of a layout: the place of the shape and the coordinates of each object, in file order; `-` where there
@@ -38,7 +38,8 @@ pub fn print_token<W: Sink>(
     write_token(problem, layout, sink)
 }
 
-fn write_token_line<W: Sink>(
+/// Writes the line `token TOKEN` of a layout. After a fault a front part of it was written.
+pub fn print_token_line<W: Sink>(
     problem: &Problem,
     layout: &Layout,
     sink: &mut W,

@@ -17,7 +17,7 @@ mod syntax;
 mod token;
 mod tree;
 
-pub use block::{print_layout, print_token};
+pub use block::{print_layout, print_token, print_token_line};
 pub use laws::texts_are_read_back;
 pub use read::read_layout;
 pub use token::{TokenFault, read_token};

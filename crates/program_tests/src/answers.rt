@@ -18,8 +18,17 @@ pub fn words(alloc: Global, list: &[&str]) -> Result<Vec<String>, AllocError> {
     Ok(all)
 }
 
+// The status and the text that the words have for an input.
+pub fn asked(alloc: Global, list: &[&str], input: &[u8]) -> Result<(Status, Vec<u8>), AllocError> {
+    let words = words(alloc, list)?;
+    let mut source = CleanSource::new(Vec::from_slice(alloc, input)?);
+    let mut sink = CleanSink::new(alloc);
+    let ended = run(alloc, &words, &mut source, &mut sink);
+    Ok((ended, Vec::from_slice(alloc, sink.bytes())?))
+}
+
 // Whether the words have that status and that text for an input, and leave so many of its first 200 bytes, where that is asked.
-fn answers(
+pub fn answers(
     alloc: Global,
     (list, input): (&[&str], &[u8]),
     (status, text): (Status, &[u8]),

@@ -8,4 +8,6 @@ mod checking;
 #[cfg(test)]
 mod ends;
 #[cfg(test)]
+mod making;
+#[cfg(test)]
 mod nothing;

@@ -1,7 +1,7 @@
 // What `first` writes where there is no layout.
-use crate::answers::words;
+use crate::answers::{asked, words};
 use crate::checking::{CHAIN, FALSE, HALVES, NARROW};
-use geo_chan::{CleanSink, CleanSource, MemSink};
+use geo_chan::{CleanSource, MemSink};
 use geost_run::{Status, run};
 use std::alloc::{AllocError, Global};
 use std::test::Fail;
@@ -21,15 +21,6 @@ const BOARD: &[u8] =
 // Its last line is a comment that no line feed ends.
 const COMMENTED: &[u8] =
     b"geost 1 dims 1 shape s box 0 size 3 ; object a as s at 0..2 ; rule r : within 0..1 ; end # none, then";
-
-// The status and the text that the words have for an input.
-fn asked(alloc: Global, list: &[&str], input: &[u8]) -> Result<(Status, Vec<u8>), AllocError> {
-    let words = words(alloc, list)?;
-    let mut source = CleanSource::new(Vec::from_slice(alloc, input)?);
-    let mut sink = CleanSink::new(alloc);
-    let ended = run(alloc, &words, &mut source, &mut sink);
-    Ok((ended, Vec::from_slice(alloc, sink.bytes())?))
-}
 
 // Whether `none` and a derivation are written, and `check` says yes to them behind the problem and a line feed.
 fn is_shown(alloc: Global, problem: &[u8]) -> Result<bool, AllocError> {

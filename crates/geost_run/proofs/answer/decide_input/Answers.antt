@@ -4,6 +4,7 @@ use Rattle.geost_run.specs.Answer.{AnswerTo, FirstAnswer, ShowAnswer, JudgeAnswe
 use Rattle.geost_run.specs.Decision.{Decides}
 use Rattle.geost_run.specs.Reading.{IsFirstText, AreFirstTexts}
 use Rattle.geost_run.proofs.Lifting.{lifts_first, lifts_show, decided}
+use Rattle.geost_run.proofs.Ending.{some_input}
 use Rattle.geost_run.proofs.TwoTexts.{lifts_judge, lifts_draw}
 use Rattle.geost_run.proofs.answer.decide_input.Goals as goal
 
@@ -38,3 +39,10 @@ returns-in_ok-decide_draw-in-Draw-clause-answer g c =
     subst (λ (x : Command). Decides (AnswerTo x) (g.S.Source.left c.args.source.now) d) (sym c.in-Draw.is)
     (decided AreFirstTexts DrawAnswer (g.S.Source.left c.args.source.now) c.in_ok-text-in-Draw.text.items c.deref-in-Draw.result.now d lifts_draw c.in_ok-text-in-Draw.ensures.texts c.deref-in-Draw.ensures.value
     c.in_ok-decide_draw-in-Draw.ensures.answer)
+
+pub returns-in_ok-decide_make-in-Make-clause-answer :
+    goal.returns-in_ok-decide_make-in-Make-clause-answer
+returns-in_ok-decide_make-in-Make-clause-answer g c =
+    let left = g.S.Source.left c.args.source.now in
+    let i = some_input left in
+    subst (λ (x : Command). Decides (AnswerTo x) left c.in_ok-decide_make-in-Make.field-0) (sym c.in-Make.is) (i.0, i.1, c.in_ok-decide_make-in-Make.ensures.answer i.0)

@@ -9,24 +9,37 @@ use Rattle.geost_run.specs.Accepted.{AnswersAccepted}
 use Rattle.geost_run.specs.Decision.{decision_text, decision_status, IsDecided}
 use Rattle.geost_run.proofs.Refusals.{refused_as}
 use Rattle.geost_run.proofs.Shown.{shown, says}
-use Rattle.layout_search.specs.FirstLayout.{Derives, Finds, Lists}
+use Rattle.geost_run.proofs.Found.{layout_found, none_found, ran_out}
+use Rattle.layout_search.specs.FirstLayout.{Derives}
 use Rattle.layout_search.specs.declared.first.Outcome.{Outcome}
 use Rattle.geost_run.proofs.Ending.{shaped_tuple}
 use Rattle.geost_run.proofs.decide.decide_first.Goals as goal
 
+pub returns-in-Found-clause-answer : goal.returns-in-Found-clause-answer
+returns-in-Found-clause-answer c =
+    let a = c.in-Ok.accepted in
+    let found = layout_found c.args.most c.args.text.now a c.in-Ok.ensures c.in_ok-layout.field-0 c.in_ok-layout.ensures.walk c.in_ok-layout.ensures.layout c.in-Found.layout c.in-Found.is in
+    (a.problem, a.conditions.items, c.in-Found.layout, found, refl)
+
 pub returns-in-Found-clause-decided : goal.returns-in-Found-clause-decided
 returns-in-Found-clause-decided c =
-    shaped_tuple c.in-Ok.accepted.problem c.in-Found.layout (subst (λ (o : Outcome Kept). Finds c.in-Ok.accepted.problem o) c.in-Found.is c.in_ok-layout.ensures.layout).layout.tuple
+    let a = c.in-Ok.accepted in
+    let found = layout_found c.args.most c.args.text.now a c.in-Ok.ensures c.in_ok-layout.field-0 c.in_ok-layout.ensures.walk c.in_ok-layout.ensures.layout c.in-Found.layout c.in-Found.is in
+    shaped_tuple a.problem c.in-Found.layout found.first.layout.tuple
+
+pub returns-in-OutOfBudget-clause-answer : goal.returns-in-OutOfBudget-clause-answer
+returns-in-OutOfBudget-clause-answer c =
+    let a = c.in-Ok.accepted in
+    (a.problem, a.conditions.items, ran_out c.args.most c.args.text.now a c.in-Ok.ensures c.in_ok-layout.field-0 c.in_ok-layout.ensures.walk c.in_ok-layout.ensures.layout c.in-OutOfBudget.is, refl)
 
 pub returns-in_ok-log-in-Nothing-clause-answer : goal.returns-in_ok-log-in-Nothing-clause-answer
 returns-in_ok-log-in-Nothing-clause-answer c =
     let p = c.in-Ok.accepted.problem in
     let cs = c.in-Ok.accepted.conditions.items in
-    let walk = subst (λ (o : Outcome Kept). Lists p cs c.args.most o) c.in-Nothing.is c.in_ok-layout.ensures.walk in
-    let none = subst (λ (o : Outcome Kept). Finds p o) c.in-Nothing.is c.in_ok-layout.ensures.layout in
+    let none = none_found c.args.most c.args.text.now c.in-Ok.accepted c.in-Ok.ensures c.in_ok-layout.field-0 c.in_ok-layout.ensures.walk c.in_ok-layout.ensures.layout c.in-Nothing.log c.in-Nothing.is in
     let found = subst (λ (o : Outcome Kept). Derives p cs (λ log. log.events) o) c.in-Nothing.is c.in_ok-layout.ensures.derivation in
     let shows = c.in_ok-log-in-Nothing.ensures cs c.in-Ok.ensures.are (shown p cs c.in-Nothing.log.events (accepted_well_formed c.args.text.now p c.in-Ok.ensures.accepted.spells) found.0 found.1) in
-    (p, cs, c.in-Ok.ensures.accepted, c.in-Ok.ensures.are, walk, none, says p cs c.in_ok-names-in-Nothing.names c.in_ok-log-in-Nothing.log.events c.in_ok-names-in-Nothing.ensures shows)
+    (p, cs, none, says p cs c.in_ok-names-in-Nothing.names c.in_ok-log-in-Nothing.log.events c.in_ok-names-in-Nothing.ensures shows)
 
 pub returns-in_ok-log-in-Nothing-clause-decided : goal.returns-in_ok-log-in-Nothing-clause-decided
 returns-in_ok-log-in-Nothing-clause-decided c =

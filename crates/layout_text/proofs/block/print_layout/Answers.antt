@@ -14,4 +14,4 @@ returns-in_err-write_lines g c = let p = err_from_is_err_and c.from_residual-in_
     rw (p.1, p.2) (wrote_err _ _ _ _ _ _ _ _ _ _ _ _ (token_line c.args.layout.now) _ (wrote_first _ _ _ _ _ _ _ _ c.in_ok-write_all_bytes.ensures) c.in_err-write_lines.ensures refl)
 
 pub returns : goal.returns
-returns g c = wrote_then _ _ _ _ _ _ _ _ _ _ _ _ _ (wrote_ok _ _ _ _ _ _ _ _ _ _ _ _ _ (wrote_first _ _ _ _ _ _ _ _ c.in_ok-write_all_bytes.ensures) c.in_ok-write_lines.ensures refl) c.write_token_line.ensures (sym (append_assoc (codes "layout\n") (lines_of c.args.problem.now c.args.layout.now) (token_line c.args.layout.now)))
+returns g c = wrote_then _ _ _ _ _ _ _ _ _ _ _ _ _ (wrote_ok _ _ _ _ _ _ _ _ _ _ _ _ _ (wrote_first _ _ _ _ _ _ _ _ c.in_ok-write_all_bytes.ensures) c.in_ok-write_lines.ensures refl) c.print_token_line.ensures (sym (append_assoc (codes "layout\n") (lines_of c.args.problem.now c.args.layout.now) (token_line c.args.layout.now)))

@@ -3,7 +3,7 @@ use Rattle.std.specs.Prelude.{codes}
 use Rattle.std.proofs.lemmas.Result.{err_from_is_err_and}
 use Rattle.geo_chan.proofs.Appending.{wrote_none, wrote_first, wrote_ok, wrote_err, wrote_then}
 use Rattle.layout_text.specs.Block.{token_of}
-use Rattle.layout_text.proofs.block.write_token_line.Goals as goal
+use Rattle.layout_text.proofs.block.print_token_line.Goals as goal
 
 pub returns-in_err-write_all_bytes : goal.returns-in_err-write_all_bytes
 returns-in_err-write_all_bytes g c = let p = err_from_is_err_and c.from_residual.result c.from_residual.ensures.1 in
