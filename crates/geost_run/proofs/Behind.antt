@@ -118,6 +118,7 @@ module _ (left new : Option (List ℕ)) (bytes first second : List ℕ) (read : 
           go (decisions.Broken p i) x = absurd x
           go (decisions.Drawn text) x = absurd x
           go decisions.Large x = absurd x
+          go decisions.BadToken x = absurd x
 
     -- the decision on the text behind an accepted problem
     pub decides_behind : (a : Accepted) (d : Decision) → HasRead first a → (more : List ℕ) × Follows is_whole new more × DecidesOn a.problem a.conditions.items (second ++ more) (length first) d → Decides CheckAnswer left d

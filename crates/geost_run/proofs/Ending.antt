@@ -99,6 +99,7 @@ is_answered decisions.Proved = tt
 is_answered (decisions.Failing n) = tt
 is_answered (decisions.Drawn text) = tt
 is_answered decisions.Large = tt
+is_answered decisions.BadToken = tt
 is_answered (decisions.Summed s) = outcome_answered s.outcome
 
 gave : (answer : List ℕ → List ℕ → Status → Type 0) (left w0 w1 : Option (List ℕ)) (d : Decision) → Decides answer left d → Appends w0 w1 (decision_text d) → Gave answer left w0 w1 (decision_status d)

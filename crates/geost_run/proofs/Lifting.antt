@@ -7,10 +7,10 @@ use Rattle.problem_data.specs.Problem.{ProblemData}
 use Rattle.problem_data.specs.Accepted.{most_bytes, Accepts}
 use Rattle.problem_text.specs.FirstFault.{HasFirstFault, long, no_token, no_statements, in_statements}
 use Rattle.geost_run.specs.declared.command.Status.{Status}
-use Rattle.geost_run.specs.declared.command.Status.TheVariants.{Answered, No, Refused, Budget}
+use Rattle.geost_run.specs.declared.command.Status.TheVariants.{Answered, No, Refused, Budget, BadToken}
 use Rattle.geost_run.specs.declared.decision.Decision.{Decision}
 use Rattle.geost_run.specs.Accepted.{IsAccepted, IsRefused, unread, misnamed, unexpanded, ungrounded}
-use Rattle.geost_run.specs.Answer.{RefusedAnswer, FirstAnswer, ShowAnswer}
+use Rattle.geost_run.specs.Answer.{RefusedAnswer, FirstAnswer, ShowAnswer, AllAnswer, ListsLayouts}
 use Rattle.geost_run.specs.Decision.{decision_text, decision_status, Decides}
 use Rattle.geost_run.specs.Reading.{Tells, IsFirstText}
 
@@ -30,7 +30,7 @@ fault_of_input input text place word h (no_token s f) = subst (λ (t : List ℕ)
 fault_of_input input text place word h (no_statements s list tokens f) = subst (λ (t : List ℕ). HasFirstFault t place word) (whole_text input text h s) (no_statements s list tokens f)
 fault_of_input input text place word h (in_statements t says f) = subst (λ (u : List ℕ). HasFirstFault u place word) (whole_text input text h says.short) (in_statements t says f)
 
-accepted_input : (input text : List ℕ) (p : ProblemData) → IsFirstText input text → IsAccepted text p → IsAccepted input p
+pub accepted_input : (input text : List ℕ) (p : ProblemData) → IsFirstText input text → IsAccepted text p → IsAccepted input p
 accepted_input input text p h a = record { spells = accepts_input input text p h a.spells; names = a.names; expands = a.expands; grounds = a.grounds }
 
 refused_of_input : (input text : List ℕ) (place : ℕ) (word : FaultWord) → IsFirstText input text → IsRefused text place word → IsRefused input place word
@@ -57,10 +57,32 @@ lifts_first n input text out Budget h (p, cs, a, e) = (p, cs, record { accepted 
 lifts_first n input text out Refused h r = refused_input input text out h r
 lifts_first n input text out _ h a = a
 
+lifted_listing : (most n : ℕ) (token : Option (List ℕ)) (input text out : List ℕ) (s : Status) → IsFirstText input text → ListsLayouts most n token text out s → ListsLayouts most n token input out s
+lifted_listing most n token input text out s h l = record {
+  problem = l.problem;
+  conditions = l.conditions;
+  after = l.after;
+  layouts = l.layouts;
+  word = l.word;
+  accepted = accepted_input input text l.problem h l.accepted;
+  are = l.are;
+  from = l.from;
+  page = l.page;
+  says = l.says;
+  ends = l.ends;
+}
+
 pub lifts_show : Lifts IsFirstText ShowAnswer
 lifts_show input text out Answered h (p, a, e) = (p, accepted_input input text p h a, e)
 lifts_show input text out Refused h r = refused_input input text out h r
 lifts_show input text out _ h a = a
+
+pub lifts_all : (most n : ℕ) (token : Option (List ℕ)) → Lifts IsFirstText (AllAnswer most n token)
+lifts_all most n token input text out Answered h l = lifted_listing most n token input text out Answered h l
+lifts_all most n token input text out Budget h l = lifted_listing most n token input text out Budget h l
+lifts_all most n token input text out BadToken h (p, a, none, e) = (p, accepted_input input text p h a, none, e)
+lifts_all most n token input text out Refused h r = refused_input input text out h r
+lifts_all most n token input text out _ h a = a
 
 -- what is decided on the text that was read
 pub decided : (R : List ℕ → List ℕ → Type 0) (answer : List ℕ → List ℕ → Status → Type 0) (left : Option (List ℕ)) (text seen : List ℕ) (d : Decision) → Lifts R answer → WasRead R left text → seen ≡ text

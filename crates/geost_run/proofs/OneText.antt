@@ -1,6 +1,7 @@
 -- The same words and the same input have one text, where the status is the same; but behind `none` each valid derivation may stand.
 use Rattle.std.proofs.Common.{◌≡◌, inl, inr, ℕ, List, refl, sym, ◌∙◌, ap, subst, arith}
-use Rattle.std.specs.Prelude.{◌⊎◌, codes, ◌++◌}
+use Rattle.std.specs.Prelude.{◌⊎◌, Option, codes, ◌++◌}
+use Rattle.std.specs.Option.{option_copied}
 use Rattle.std.proofs.lemmas.Bool.{cases_lt}
 use Rattle.geo_base.specs.Tuple.{Tuple}
 use Rattle.geo_conditions.specs.declared.cond.Cond.{Cond}
@@ -17,16 +18,17 @@ use Rattle.problem_text.specs.Canonical.{problem_text}
 use Rattle.rule_ground.specs.Order.{variables_for}
 use Rattle.layout_search.specs.FirstLayout.{IsFirstLayout}
 use Rattle.geost_run.specs.declared.command.Command.{Command}
-use Rattle.geost_run.specs.declared.command.Command.TheVariants.{First, Show, Judge, Check, Draw, Make}
+use Rattle.geost_run.specs.declared.command.Command.TheVariants.{First, Show, Judge, Check, Draw, All, Make}
 use Rattle.geost_run.specs.declared.command.Status.{Status}
-use Rattle.geost_run.specs.declared.command.Status.TheVariants.{Answered, No, Refused, Budget}
+use Rattle.geost_run.specs.declared.command.Status.TheVariants.{Answered, No, Refused, Budget, BadToken}
 use Rattle.geost_run.specs.Accepted.{AreConditions}
 use Rattle.geost_run.specs.Words.{HasForm}
-use Rattle.geost_run.specs.Answer.{broken_rule, rule_name, SaysNone, BothSayNone, AreAlike, FindsLayout, FirstAnswer, MakeAnswer, ShowAnswer, JudgeAnswer, DrawAnswer, AnswerTo, Answer, summary}
+use Rattle.geost_run.specs.Answer.{broken_rule, rule_name, SaysNone, BothSayNone, AreAlike, FirstAnswer, ShowAnswer, JudgeAnswer, DrawAnswer, AllAnswer, AnswerTo, Answer, FindsLayout, MakeAnswer, summary}
 use Rattle.geost_run.proofs.Refusals.{same_problem}
 use Rattle.geost_run.proofs.Shown.{shows-alike}
 use Rattle.geost_run.proofs.Only.{given_once, given_formed, answers_to}
 use Rattle.geost_run.proofs.OneCheck.{check_text}
+use Rattle.geost_run.proofs.OnePage.{same_lists}
 use Rattle.geost_run.proofs.OneRefusal.{one_refusal, one_fault_from, one_pair_refusal, same_refusal}
 
 -- two first layouts are one
@@ -98,6 +100,13 @@ draw_text input t u No (p, x, g, l, e) (q, y, k, m, h) = e ∙ sym h
 draw_text input t u Refused (k, v, f, e) (q, w, g, h) = e ∙ sym (h ∙ same_refusal k q v w (one_pair_refusal layouts.HasFaultFrom one_fault_from input k q v w f g))
 draw_text input t u _ a b = absurd a
 
+all_text : (most n : ℕ) (token : Option (List ℕ)) (input t u : List ℕ) (s : Status) → AllAnswer most n token input t s → AllAnswer most n token input u s → t ≡ u
+all_text most n token input t u Answered a b = (same_lists most n token input t u Answered Answered a b).1
+all_text most n token input t u Budget a b = (same_lists most n token input t u Budget Budget a b).1
+all_text most n token input t u BadToken (p, a, none, e) (q, b, neither, h) = e ∙ sym h
+all_text most n token input t u Refused (k, v, f, e) (q, w, g, h) = e ∙ sym (h ∙ same_refusal k q v w (one_refusal input k q v w f g))
+all_text most n token input t u _ a b = absurd a
+
 make_text : (seed n : ℕ) (input t u : List ℕ) (s : Status) → MakeAnswer seed n input t s → MakeAnswer seed n input u s → t ≡ u
 make_text seed n input t u Answered (p, cs, x, a, e) (q, ds, y, b, h) =
     same_lines (λ p t. summary p (codes "answer layout\n" ++ token_line t)) n (made_text seed) t u p q cs ds x y a b e h
@@ -115,6 +124,7 @@ text_of words Show input t u s form a b = inl (show_text input t u s a b)
 text_of words Judge input t u s form a b = inl (judge_text input t u s a b)
 text_of words Check input t u s form a b = inl (check_text input t u s a b)
 text_of words Draw input t u s form a b = inl (draw_text input t u s a b)
+text_of words (All page) input t u s form a b = inl (all_text page.most page.budget (option_copied page.token) input t u s a b)
 text_of words (Make seed n) input t u s form a b = inl (make_text seed n input t u s a b)
 
 pub one_text : (words : List (List ℕ)) (input t u : List ℕ) (s : Status) → Answer words input t s → Answer words input u s → AreAlike words input s t u

@@ -1,6 +1,7 @@
 -- The same words and the same input have one status.
-use Rattle.std.proofs.Common.{◌≡◌, ◌+◌, ◌*◌, inl, inr, ℕ, List, [], ◌∷◌, length, refl, sym, ◌∙◌, ap, subst, arith}
-use Rattle.std.specs.Prelude.{codes, decimal, sum}
+use Rattle.std.proofs.Common.{◌≡◌, inl, inr, ℕ, List, [], ◌∷◌, length, refl, sym, ◌∙◌, ap, subst, arith, ◌+◌, ◌*◌}
+use Rattle.std.specs.Prelude.{codes, decimal, Option, sum, None, Some}
+use Rattle.std.specs.Option.{option_copied, option_to_list}
 use Rattle.std.proofs.lemmas.Fmt.{decimal_injective}
 use Rattle.geo_base.specs.Tuple.{Tuple}
 use Rattle.geo_conditions.specs.declared.cond.Cond.{Cond}
@@ -23,16 +24,18 @@ use Rattle.layout_search.specs.FirstLayout.{walk_of, HasNoLayout}
 use Rattle.layout_search.proofs.Alike as alike
 use Rattle.layout_search.proofs.States.{state-is}
 use Rattle.geost_run.specs.declared.command.Command.{Command}
-use Rattle.geost_run.specs.declared.command.Command.TheVariants.{First, Show, Judge, Check, Draw, Make}
+use Rattle.geost_run.specs.declared.command.Command.TheVariants.{First, Show, Judge, Check, Draw, All, Make}
+use Rattle.geost_run.specs.declared.command.Page.{Page}
 use Rattle.geost_run.specs.declared.command.Status.{Status}
 use Rattle.geost_run.specs.declared.command.Status.TheVariants.{Answered, No, Refused, Budget, BadWords, BadToken, ReadFault, WriteFault, Memory}
 use Rattle.geost_run.specs.Accepted.{IsAccepted, AreConditions}
 use Rattle.geost_run.proofs.Refusals.{same_problem, not_refused, not_refused_pair}
 use Rattle.geost_run.specs.Words.{HasForm, IsInRange}
-use Rattle.geost_run.specs.Answer.{FindsLayout, FindsNone, RunsOut, RefusedAnswer, FirstAnswer, MakeAnswer, ShowAnswer, JudgeAnswer, DrawAnswer, Gives, AnswerTo, Answer}
+use Rattle.geost_run.specs.Answer.{RefusedAnswer, FirstAnswer, ShowAnswer, JudgeAnswer, DrawAnswer, AllAnswer, Gives, AnswerTo, Answer, FindsLayout, FindsNone, RunsOut, MakeAnswer}
 use Rattle.geost_run.specs.Texts.{IsRefusedPair}
 use Rattle.geost_run.proofs.TwoTexts.{one-cut}
 use Rattle.geost_run.proofs.OneCheck.{check_status}
+use Rattle.geost_run.proofs.OnePage.{same_lists, listed_or_bad}
 
 -- ---- what a search finds
 
@@ -195,6 +198,32 @@ draw_status input t u WriteFault r a b = absurd a
 draw_status input t u Memory r a b = absurd a
 draw_status input t u s _ a b = absurd b
 
+-- ---- all
+
+all_status : (most n : ℕ) (token : Option (List ℕ)) (input t u : List ℕ) (s r : Status) → AllAnswer most n token input t s → AllAnswer most n token input u r → s ≡ r
+all_status most n token input t u Answered Answered a b = refl
+all_status most n token input t u Budget Budget a b = refl
+all_status most n token input t u BadToken BadToken a b = refl
+all_status most n token input t u Refused Refused a b = refl
+all_status most n token input t u Answered Budget a b = (same_lists most n token input t u Answered Budget a b).0
+all_status most n token input t u Budget Answered a b = (same_lists most n token input t u Budget Answered a b).0
+all_status most n token input t u Answered BadToken a b = absurd (listed_or_bad most n token input t u Answered a b)
+all_status most n token input t u BadToken Answered a b = absurd (listed_or_bad most n token input u t Answered b a)
+all_status most n token input t u Budget BadToken a b = absurd (listed_or_bad most n token input t u Budget a b)
+all_status most n token input t u BadToken Budget a b = absurd (listed_or_bad most n token input u t Budget b a)
+all_status most n token input t u Answered Refused a r = absurd (refused_too input u a.problem a.accepted r)
+all_status most n token input t u Refused Answered r a = absurd (refused_too input t a.problem a.accepted r)
+all_status most n token input t u Budget Refused a r = absurd (refused_too input u a.problem a.accepted r)
+all_status most n token input t u Refused Budget r a = absurd (refused_too input t a.problem a.accepted r)
+all_status most n token input t u BadToken Refused (p, a, none, e) r = absurd (refused_too input u p a r)
+all_status most n token input t u Refused BadToken r (p, a, none, e) = absurd (refused_too input t p a r)
+all_status most n token input t u No r a b = absurd a
+all_status most n token input t u BadWords r a b = absurd a
+all_status most n token input t u ReadFault r a b = absurd a
+all_status most n token input t u WriteFault r a b = absurd a
+all_status most n token input t u Memory r a b = absurd a
+all_status most n token input t u s _ a b = absurd b
+
 -- ---- the words
 
 -- words have one number
@@ -230,6 +259,7 @@ mark_of Judge = sum (codes "judge")
 mark_of Check = sum (codes "check")
 mark_of Draw = sum (codes "draw")
 mark_of (Make seed n) = sum (codes "make") + 2000
+mark_of (All page) = sum (codes "all") + 1000 * (2 + length (option_to_list (option_copied page.token)))
 
 mark_is : (words : List (List ℕ)) (c : Command) → HasForm words c → mark_in words ≡ mark_of c
 mark_is words (First n) f = ap mark_in f.0
@@ -238,12 +268,51 @@ mark_is words Judge f = ap mark_in f
 mark_is words Check f = ap mark_in f
 mark_is words Draw f = ap mark_in f
 mark_is words (Make seed n) f = ap mark_in f.0
+mark_is words (All page) f = ap mark_in f.0 ∙ omega arith
 
 same_mark : (words : List (List ℕ)) (c d : Command) → HasForm words c → HasForm words d → mark_of c ≡ mark_of d
 same_mark words c d f g = sym (mark_is words c f) ∙ mark_is words d g
 
+-- the commands ask for the same
+abbrev IsPage : ℕ → ℕ → Option (List ℕ) → Command → Type 0
+IsPage most n token (All page) = (most ≡ page.most) × (n ≡ page.budget) × (token ≡ option_copied page.token)
+IsPage most n token _ = ⊥
+
+abbrev AskSame : Command → Command → Type 0
+AskSame (First n) d = First n ≡ d
+AskSame Show d = Show ≡ d
+AskSame Judge d = Judge ≡ d
+AskSame Check d = Check ≡ d
+AskSame Draw d = Draw ≡ d
+AskSame (Make seed n) d = Make seed n ≡ d
+AskSame (All page) d = IsPage page.most page.budget (option_copied page.token) d
+
+-- words have one page
+same_page : (words : List (List ℕ)) (x y : Page) → HasForm words (All x) → HasForm words (All y) → IsPage x.most x.budget (option_copied x.token) (All y)
+same_page words x y f g = (
+  decimal_injective x.most y.most (omega (arith, f.2)) (omega (arith, g.2)) (second _ _ _ _ _ _ (sym f.0 ∙ g.0)),
+  decimal_injective x.budget y.budget (omega (arith, f.4)) (omega (arith, g.4)) (third _ _ _ _ _ _ (sym f.0 ∙ g.0)),
+  last (option_copied x.token) (option_copied y.token) (rest _ _ _ _ _ _ (sym f.0 ∙ g.0)),
+)
+  where
+    second : (a b c d : List ℕ) (xs ys : List (List ℕ)) → codes "all" ∷ a ∷ c ∷ xs ≡ codes "all" ∷ b ∷ d ∷ ys → a ≡ b
+    second a b c d xs ys e = cc
+
+    third : (a b c d : List ℕ) (xs ys : List (List ℕ)) → codes "all" ∷ a ∷ c ∷ xs ≡ codes "all" ∷ b ∷ d ∷ ys → c ≡ d
+    third a b c d xs ys e = cc
+
+    rest : (a b c d : List ℕ) (xs ys : List (List ℕ)) → codes "all" ∷ a ∷ c ∷ xs ≡ codes "all" ∷ b ∷ d ∷ ys → xs ≡ ys
+    rest a b c d xs ys e = cc
+
+    last : (o p : Option (List ℕ)) → option_to_list o ≡ option_to_list p → o ≡ p
+    last None None e = refl
+    last None (Some w) e = absurd (omega (arith, ap length e))
+    last (Some v) None e = absurd (omega (arith, ap length e))
+    last (Some v) (Some w) e = cc
+
 -- words are of one command
-pub one_command : (words : List (List ℕ)) (c d : Command) → HasForm words c → HasForm words d → c ≡ d
+pub one_command : (words : List (List ℕ)) (c d : Command) → HasForm words c → HasForm words d → AskSame c d
+one_command words (All x) (All y) f g = same_page words x y f g
 one_command words (First n) (First m) f g = ap First (same_number words n m f g)
 one_command words Show Show f g = refl
 one_command words Judge Judge f g = refl
@@ -252,9 +321,22 @@ one_command words Draw Draw f g = refl
 one_command words (Make seed n) (Make other m) f g = let e = same_seed words seed n other m f g in ap (λ (s : ℕ). Make s n) e.0 ∙ ap (λ (k : ℕ). Make other k) e.1
 one_command words c d f g = let e : mark_of c ≡ mark_of d = same_mark words c d f g in absurd (omega (arith, e))
 
+-- the same is answered to both
+same_answer : (c d : Command) (input text : List ℕ) (s : Status) → AskSame c d → AnswerTo c input text s → AnswerTo d input text s
+same_answer (First n) d input text s e a = subst (λ (x : Command). AnswerTo x input text s) e a
+same_answer Show d input text s e a = subst (λ (x : Command). AnswerTo x input text s) e a
+same_answer Judge d input text s e a = subst (λ (x : Command). AnswerTo x input text s) e a
+same_answer Check d input text s e a = subst (λ (x : Command). AnswerTo x input text s) e a
+same_answer Draw d input text s e a = subst (λ (x : Command). AnswerTo x input text s) e a
+same_answer (Make seed n) d input text s e a = subst (λ (x : Command). AnswerTo x input text s) e a
+same_answer (All x) (All y) input text s (most, n, token) a =
+    subst (λ (o : Option (List ℕ)). AllAnswer y.most y.budget o input text s) token
+    (subst (λ (k : ℕ). AllAnswer y.most k (option_copied x.token) input text s) n (subst (λ (k : ℕ). AllAnswer k x.budget (option_copied x.token) input text s) most a))
+same_answer (All x) _ input text s e a = absurd e
+
 -- an answer to words that have the form of a command is one to the command
 pub answers_to : (words : List (List ℕ)) (c : Command) (input text : List ℕ) (s : Status) → HasForm words c → Answer words input text s → AnswerTo c input text s
-answers_to words c input text s form (inl (d, f, a)) = subst (λ (x : Command). AnswerTo x input text s) (one_command words d c f form) a
+answers_to words c input text s form (inl (d, f, a)) = same_answer d c input text s (one_command words d c f form) a
 answers_to words c input text s form (inr h) = absurd (h.none c form)
 
 status_of : (c : Command) (input t u : List ℕ) (s r : Status) → AnswerTo c input t s → AnswerTo c input u r → s ≡ r
@@ -263,6 +345,7 @@ status_of Show input t u s r a b = show_status input t u s r a b
 status_of Judge input t u s r a b = judge_status input t u s r a b
 status_of Check input t u s r a b = check_status input t u s r a b
 status_of Draw input t u s r a b = draw_status input t u s r a b
+status_of (All page) input t u s r a b = all_status page.most page.budget (option_copied page.token) input t u s r a b
 status_of (Make seed n) input t u s r a b = make_status seed n input t u s r a b
 
 pub one_status : (words : List (List ℕ)) (input t u : List ℕ) (s r : Status) → Answer words input t s → Answer words input u r → s ≡ r
@@ -278,3 +361,4 @@ in_range words Show f = tt
 in_range words Judge f = tt
 in_range words Check f = tt
 in_range words Draw f = tt
+in_range words (All page) f = tt

@@ -1,17 +1,21 @@
 -- What the program promises follows from its answers.
 use Rattle.std.proofs.Common.{◌≡◌, inl, inr, ℕ, List, refl, sym, subst}
 use Rattle.std.specs.Prelude.{Option, Some}
+use Rattle.std.specs.Option.{option_copied}
 use Rattle.geo_chan.specs.Causes.{Rose}
 use Rattle.geost_run.specs.declared.command.Command.{Command}
-use Rattle.geost_run.specs.declared.command.Command.TheVariants.{First, Show, Judge, Check, Draw, Make}
+use Rattle.geost_run.specs.declared.command.Command.TheVariants.{First, Show, Judge, Check, Draw, All, Make}
 use Rattle.geost_run.specs.declared.command.Status.{Status}
 use Rattle.geost_run.specs.declared.command.Status.TheVariants.{Answered, No, Refused, Budget, BadWords, BadToken, ReadFault, WriteFault, Memory}
 use Rattle.problem_generator.specs.Made.{made_text}
 use Rattle.geost_run.specs.Words.{HasForm}
-use Rattle.geost_run.specs.Answer.{FirstAnswer, Answer, AnswerTo, Begins, FrontOf}
+use Rattle.geost_run.specs.Answer.{FirstAnswer, IsNoToken, Answer, AnswerTo, Begins, FrontOf}
 use Rattle.geost_run.specs.Reading.{Tells}
 use Rattle.geost_run.specs.Ends.{Ends}
 use Rattle.geost_run.specs.Headline.{Promises, BeginsWithNone, IsFaultless, IsComplete}
+use Rattle.problem_data.specs.Problem.{ProblemData}
+use Rattle.geost_run.proofs.OnePage.{token_or_none}
+use Rattle.geost_run.proofs.Refusals.{same_problem}
 use Rattle.geost_run.proofs.Confirmed.{confirmed}
 use Rattle.geost_run.proofs.Ending.{ends_as}
 use Rattle.geost_run.proofs.OneCheck.{derived_or_refused}
@@ -34,6 +38,7 @@ not-refused-by Show input text (p, a) r = refused_too input text p a r
 not-refused-by Judge input text (p, t, g) (place, word, r, e) = given_or_refused input p t place word g r
 not-refused-by Check input text (p, root, g) (place, word, r, e) = derived_or_refused input p root place word g r
 not-refused-by Draw input text (p, t, g) (place, word, r, e) = given_or_refused input p t place word g r
+not-refused-by (All page) input text (p, after, a, from) r = refused_too input text p a r
 not-refused-by (Make seed n) input text (p, a) r = refused_too (made_text seed) text p a r
 
 no-bad-words : (c : Command) (input text : List ℕ) → AnswerTo c input text BadWords → ⊥
@@ -42,15 +47,18 @@ no-bad-words Show input text a = a
 no-bad-words Judge input text a = a
 no-bad-words Check input text a = a
 no-bad-words Draw input text a = a
+no-bad-words (All page) input text a = a
 no-bad-words (Make seed n) input text a = a
 
-no-bad-token : (c : Command) (input text : List ℕ) → AnswerTo c input text BadToken → ⊥
-no-bad-token (First m) input text a = a
-no-bad-token Show input text a = a
-no-bad-token Judge input text a = a
-no-bad-token Check input text a = a
-no-bad-token Draw input text a = a
-no-bad-token (Make seed n) input text a = a
+no-bad-token : (c : Command) (input text : List ℕ) → IsFaultless c input → AnswerTo c input text BadToken → ⊥
+no-bad-token (First m) input text f a = a
+no-bad-token Show input text f a = a
+no-bad-token Judge input text f a = a
+no-bad-token Check input text f a = a
+no-bad-token Draw input text f a = a
+no-bad-token (All page) input text (p, after, acc, from) (q, b, none, e) =
+    token_or_none p (option_copied page.token) after from (subst (λ (x : ProblemData). IsNoToken x (option_copied page.token)) (same_problem input q p b acc) none)
+no-bad-token (Make seed n) input text f a = a
 
 -- where the words have a form, the texts no fault and no count rose, the answer was written, or memory ran out
 pub complete : (words : List (List ℕ)) (c : Command) (input : List ℕ) (left : Option (List ℕ)) (r0 r1 : ℕ) (w0 w1 : Option (List ℕ)) (f0 f1 : ℕ) (s : Status) → HasForm words c → left ≡ Some input → IsFaultless c input
@@ -62,7 +70,9 @@ complete words c input left r0 r1 w0 w1 f0 f1 Memory form told a no_read no_writ
 complete words c input left r0 r1 w0 w1 f0 f1 ReadFault form told a no_read no_write h = absurd (no_read h.0)
 complete words c input left r0 r1 w0 w1 f0 f1 WriteFault form told a no_read no_write h = absurd (no_write h.1)
 complete words c input left r0 r1 w0 w1 f0 f1 BadWords form told a no_read no_write (r, f, h) = absurd (no-bad-words c h.input h.text (answers_to words c h.input h.text BadWords form h.answers))
-complete words c input left r0 r1 w0 w1 f0 f1 BadToken form told a no_read no_write (r, f, h) = absurd (no-bad-token c h.input h.text (answers_to words c h.input h.text BadToken form h.answers))
+complete words c input left r0 r1 w0 w1 f0 f1 BadToken form told a no_read no_write (r, f, h) =
+    let same : h.input ≡ input = subst (λ (o : Option (List ℕ)). Tells o h.input) told h.told in
+    absurd (no-bad-token c input h.text a (answers_to words c input h.text BadToken form (subst (λ (i : List ℕ). Answer words i h.text BadToken) same h.answers)))
 complete words c input left r0 r1 w0 w1 f0 f1 Refused form told a no_read no_write (r, f, h) =
     let same : h.input ≡ input = subst (λ (o : Option (List ℕ)). Tells o h.input) told h.told in
     absurd (not-refused-by c input h.text a (answers_to words c input h.text Refused form (subst (λ (i : List ℕ). Answer words i h.text Refused) same h.answers)))

@@ -1,8 +1,9 @@
 -- What the program answers: the text that it writes and the status that it ends with.
-use Rattle.std.specs.Prelude.{◌≡◌, ◌⊎◌, ◌++◌, ◌+◌, ◌-◌, ℕ, List, [], ◌∷◌, length, codes, decimal}
+use Rattle.std.specs.Prelude.{◌≡◌, ◌⊎◌, ◌++◌, ◌+◌, ◌-◌, ℕ, List, [], ◌∷◌, codes, decimal, Option, Some, None, length}
+use Rattle.std.specs.Option.{option_copied}
 use Rattle.geo_base.specs.Tuple.{Tuple}
 use Rattle.geo_conditions.specs.declared.cond.Cond.{Cond}
-use Rattle.geo_conditions.specs.Walk.{values, IsListing, More, End, OutOfBudget}
+use Rattle.geo_conditions.specs.Walk.{values, EndWord, IsListing, More, End, OutOfBudget}
 use Rattle.derivation.specs.declared.event.Event.{Event}
 use Rattle.derivation.specs.Nodes.{Node, node_events}
 use Rattle.derivation.specs.Valid.{Valid, FailsFirst}
@@ -12,6 +13,8 @@ use Rattle.geo_tokens.specs.Fault.{fault_bytes}
 use Rattle.layout_drawing.specs.Drawing.{IsDrawing, IsLarge}
 use Rattle.layout_text.specs.Block.{block_of, token_line}
 use Rattle.layout_text.specs.FirstFault as layouts
+use Rattle.layout_text.specs.Token.{IsTokenOf}
+use Rattle.layout_listing.specs.Page.{IsPage, blocks_of}
 use Rattle.geo_meaning.specs.Judged.{IsFirstBroken, rule_at}
 use Rattle.problem_generator.specs.Made.{made_text}
 use Rattle.problem_summary.specs.Summary.{counts}
@@ -22,13 +25,13 @@ use Rattle.problem_data.specs.Layouts.{IsLayout}
 use Rattle.problem_text.specs.Canonical.{problem_text}
 use Rattle.problem_text.specs.NameTable.{name_table}
 use Rattle.geost_run.specs.declared.command.Command.{Command}
-use Rattle.geost_run.specs.declared.command.Command.TheVariants.{First, Show, Judge, Check, Draw, Make}
+use Rattle.geost_run.specs.declared.command.Command.TheVariants.{First, Show, Judge, Check, Draw, All, Make}
 use Rattle.geost_run.specs.declared.command.Status.{Status}
-use Rattle.geost_run.specs.declared.command.Status.TheVariants.{Answered, No, Refused, Budget, BadWords}
+use Rattle.geost_run.specs.declared.command.Status.TheVariants.{Answered, No, Refused, Budget, BadWords, BadToken}
 use Rattle.rule_ground.specs.Ground.{conditions}
 use Rattle.rule_ground.specs.Order.{variables_for}
 use Rattle.rule_ground.specs.Start.{first_state}
-use Rattle.layout_search.specs.FirstLayout.{walk_of, IsFirstLayout, HasNoLayout}
+use Rattle.layout_search.specs.FirstLayout.{walk_of, walk_after, IsFirstLayout, HasNoLayout}
 use Rattle.geost_run.specs.Accepted.{IsAccepted, IsRefused, AreConditions}
 use Rattle.geost_run.specs.Texts.{AreTextsOf, IsRefusedPair}
 use Rattle.geost_run.specs.Words.{HasForm, HasNoForm}
@@ -158,6 +161,54 @@ DrawAnswer input text No = (p : ProblemData) × (t : Tuple) × Gives input p t �
 DrawAnswer input text Refused = (place : ℕ) × (word : FaultWord) × IsRefusedPair layouts.HasFaultFrom input place word × (text ≡ refusal place word)
 DrawAnswer input text _ = ⊥
 
+-- the tuple is the one of which the word is the token, where a word is given
+abbrev pub IsFrom : ProblemData → Option (List ℕ) → Option Tuple → Type 0
+IsFrom p None None = Unit {0}
+IsFrom p None (Some t) = ⊥
+IsFrom p (Some word) None = ⊥
+IsFrom p (Some word) (Some t) = IsTokenOf p t word
+
+-- a word is given, and it is the token of no tuple
+abbrev pub IsNoToken : ProblemData → Option (List ℕ) → Type 0
+IsNoToken p None = ⊥
+IsNoToken p (Some word) = (t : Tuple) → IsTokenOf p t word → ⊥
+
+-- the line behind a listing, and the status that it ends with
+abbrev pub last_line : ℕ → EndWord → List ℕ
+last_line n More = codes "more\n"
+last_line n End = codes "end\n"
+last_line n OutOfBudget = out_of_budget n
+
+abbrev pub last_status : EndWord → Status
+last_status More = Answered
+last_status End = Answered
+last_status OutOfBudget = Budget
+
+-- the text is the blocks of the layouts that are listed, as many as `most` among the first n members of the walk behind the token's tuple, and
+-- the line that ends the listing
+pub record ListsLayouts (most n : ℕ) (token : Option (List ℕ)) (input text : List ℕ) (status : Status) : Type 0 where
+  pub problem : ProblemData
+  pub conditions : List Cond
+  pub after : Option Tuple
+  pub layouts : List Tuple
+  pub word : EndWord
+  pub accepted : IsAccepted input problem
+  pub are : AreConditions problem conditions
+  pub from : IsFrom problem token after
+  pub page : IsPage problem (walk_after problem conditions after) most n layouts word
+  pub says : text ≡ blocks_of problem layouts ++ last_line n word
+  pub ends : status ≡ last_status word
+
+-- `all C N` and `all C N TOKEN`. The blocks of the first C layouts among the first N members of the walk, behind the tuple of which TOKEN is the
+-- token, and then `more` where there are C of them, `budget N` where the walk has more than N members, else `end`; `bad token` where the text
+-- is accepted and TOKEN is the token of no tuple; other texts are refused at their first fault.
+abbrev pub AllAnswer : ℕ → ℕ → Option (List ℕ) → List ℕ → List ℕ → Status → Type 0
+AllAnswer most n token input text Answered = ListsLayouts most n token input text Answered
+AllAnswer most n token input text Budget = ListsLayouts most n token input text Budget
+AllAnswer most n token input text BadToken = (p : ProblemData) × IsAccepted input p × IsNoToken p token × (text ≡ codes "bad token\n")
+AllAnswer most n token input text Refused = RefusedAnswer input text
+AllAnswer most n token input text _ = ⊥
+
 -- The answer to each command: one line a command.
 abbrev pub AnswerTo : Command → List ℕ → List ℕ → Status → Type 0
 AnswerTo (First n) input text status = FirstAnswer n input text status
@@ -165,6 +216,7 @@ AnswerTo Show input text status = ShowAnswer input text status
 AnswerTo Judge input text status = JudgeAnswer input text status
 AnswerTo Check input text status = CheckAnswer input text status
 AnswerTo Draw input text status = DrawAnswer input text status
+AnswerTo (All page) input text status = AllAnswer page.most page.budget (option_copied page.token) input text status
 AnswerTo (Make seed n) input text status = MakeAnswer seed n input text status
 
 -- a front part of a text that is an answer

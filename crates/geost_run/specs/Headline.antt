@@ -1,5 +1,6 @@
 -- What the program promises, in one place.
-use Rattle.std.specs.Prelude.{◌≡◌, ◌⊎◌, ◌≤◌, ◌^◌, ◌++◌, ℕ, ℤ, List, [], length, codes, filter}
+use Rattle.std.specs.Prelude.{◌≡◌, ◌⊎◌, ◌≤◌, ◌^◌, ◌++◌, ℕ, ℤ, List, [], length, codes, filter, Option}
+use Rattle.std.specs.Option.{option_copied}
 use Rattle.geo_base.specs.Tuple.{Tuple}
 use Rattle.geo_conditions.specs.declared.cond.Cond.{Cond}
 use Rattle.geo_conditions.specs.Walk.{IsFront, GoesOn, is_full}
@@ -13,9 +14,9 @@ use Rattle.rule_ground.specs.Order.{ComesBefore}
 use Rattle.layout_search.specs.FirstLayout.{walk_of}
 use Rattle.geost_run.specs.Accepted.{IsAccepted, IsRefused, AreConditions}
 use Rattle.geost_run.specs.Texts.{AreTextsOf}
-use Rattle.geost_run.specs.Answer.{refusal, out_of_budget, SaysNone, CheckAnswer, Gives, Derives}
+use Rattle.geost_run.specs.Answer.{refusal, out_of_budget, SaysNone, CheckAnswer, Gives, Derives, IsFrom}
 use Rattle.geost_run.specs.declared.command.Command.{Command}
-use Rattle.geost_run.specs.declared.command.Command.TheVariants.{First, Show, Judge, Check, Draw, Make}
+use Rattle.geost_run.specs.declared.command.Command.TheVariants.{First, Show, Judge, Check, Draw, All, Make}
 use Rattle.geost_run.specs.declared.command.Status.{Status}
 use Rattle.geost_run.specs.declared.command.Status.TheVariants.{Answered, No, Refused, Budget, Memory}
 
@@ -49,6 +50,7 @@ IsFaultless Show input = (p : ProblemData) × IsAccepted input p
 IsFaultless Judge input = (p : ProblemData) × (t : Tuple) × Gives input p t
 IsFaultless Check input = (p : ProblemData) × (root : Node) × Derives input p root
 IsFaultless Draw input = (p : ProblemData) × (t : Tuple) × Gives input p t
+IsFaultless (All page) input = (p : ProblemData) × (after : Option Tuple) × IsAccepted input p × IsFrom p (option_copied page.token) after
 IsFaultless (Make seed n) input = (p : ProblemData) × IsAccepted (made_text seed) p
 
 -- a status with which the whole of a command's answer was written, or want of memory

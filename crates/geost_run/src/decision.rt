@@ -36,6 +36,8 @@ pub enum Decision {
     Drawn(Vec<u8>),
     /// The drawing of a layout would have too many cells.
     Large,
+    /// The word is the token of no tuple of the problem.
+    BadToken,
     /// What a search has found of a problem that was made from a seed.
     Summed(Summary),
 }
@@ -57,6 +59,7 @@ impl Decision {
             | Decision::Broken(_, _)
             | Decision::Failing(_)
             | Decision::Large => Status::No,
+            Decision::BadToken => Status::BadToken,
             Decision::Summed(summary) => status_of(&summary.outcome),
         }
     }

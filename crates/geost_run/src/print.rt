@@ -42,6 +42,7 @@ pub fn write_decision<W: Sink>(
         Decision::Failing(node) => write_failing(sink, *node),
         Decision::Drawn(text) => write_all_bytes(sink, text.as_slice()),
         Decision::Large => write_all_bytes(sink, b"large\n"),
+        Decision::BadToken => write_all_bytes(sink, b"bad token\n"),
         Decision::Summed(summary) => print_summary(summary, sink),
     }
 }
@@ -69,7 +70,8 @@ fn write_broken<W: Sink>(sink: &mut W, problem: &Problem, number: u16) -> Result
     write_pieces(sink, &pieces)
 }
 
-fn write_budget<W: Sink>(sink: &mut W, most: u64) -> Result<(), PutFault>
+/// Writes that a walk goes on past its budget.
+pub fn write_budget<W: Sink>(sink: &mut W, most: u64) -> Result<(), PutFault>
     ensures { Prints W.written W.faults W.quiet sink.old sink.new result (out_of_budget most) }
 {
     let pieces = [
