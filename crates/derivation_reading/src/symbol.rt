@@ -7,21 +7,21 @@ use geo_conditions::ObjId;
 use geo_tokens::token::{Keyword, Kind, Sym};
 
 /// The part of a coordinate that is spoken of: up to a number, or from it on.
-#[derive(Clone, Copy, Debug, PartialEq, Eq)]
+#[derive(Clone, Copy, PartialEq, Eq)]
 pub enum Part {
     Upto,
     From,
 }
 
 /// Whether a minus stood in front of a number.
-#[derive(Clone, Copy, Debug, PartialEq, Eq)]
+#[derive(Clone, Copy, PartialEq, Eq)]
 pub enum Sign {
     Plus,
     Minus,
 }
 
 /// What is open in a text. It holds what was read of its line before. Dimensions count from 0.
-#[derive(Clone, Copy, Debug)]
+#[derive(Clone, Copy)]
 pub enum Symbol {
     /// A whole text.
     Text,
@@ -70,7 +70,7 @@ pub enum Symbol {
 }
 
 /// What a token is in the text of a derivation.
-#[derive(Clone, Copy, Debug, PartialEq, Eq)]
+#[derive(Clone, Copy, PartialEq, Eq)]
 pub enum Terminal {
     /// A name, or one of the words that are known by their place.
     Name,

@@ -6,7 +6,7 @@ use super::point::Point;
 
 /// The points between two corners, both included. There is none where in some dimension `hi` is
 /// below `lo`.
-#[derive(Clone, Copy, Debug)]
+#[derive(Clone, Copy)]
 pub struct KBox<const K: usize> {
     pub lo: Point<K>,
     pub hi: Point<K>,

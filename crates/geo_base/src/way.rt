@@ -10,7 +10,7 @@ use super::point::Point;
 
 /// An order of points: lexicographic, the lead dimension first, then those after it, and around;
 /// upwards in each dimension, or downwards in each.
-#[derive(Clone, Copy, Debug)]
+#[derive(Clone, Copy)]
 pub struct Way<const K: usize> {
     lead: usize,
     up: bool,

@@ -10,7 +10,7 @@ use geo_conditions::{ObjId, State};
 /// The condition that two boxes do not overlap: an object has another shape than its box, where its
 /// box has a leaf, or in some dimension one box ends before the other begins. The object with the
 /// lesser number comes first.
-#[derive(Clone, Copy, Debug)]
+#[derive(Clone, Copy)]
 pub struct ApartIndexical<const K: usize> {
     first: PlacedBox<K>,
     second: PlacedBox<K>,

@@ -5,7 +5,7 @@ use geo_base::Point;
 use geo_conditions::ObjId;
 
 /// A box of one of an object's shapes, placed by the object's origin.
-#[derive(Clone, Copy, Debug)]
+#[derive(Clone, Copy)]
 pub struct PlacedBox<const K: usize> {
     object: ObjId,
     place: u8,

@@ -6,7 +6,7 @@ use problem_data::tree::Int;
 use rule_syntax::tree::PlacedName;
 
 /// A line: the name of an object, the name of its shape, and its coordinates.
-#[derive(Debug, Drop)]
+#[derive(Drop)]
 pub struct LineText {
     pub name: PlacedName,
     pub shape: PlacedName,
@@ -14,21 +14,21 @@ pub struct LineText {
 }
 
 /// A group of the token line: which shape of the object's list, from 1, and the coordinates.
-#[derive(Debug, Drop)]
+#[derive(Drop)]
 pub struct GroupText {
     pub shape: u32,
     pub origin: Vec<Int>,
 }
 
 /// The token line, with the place of its word. It has no groups where it says `-`.
-#[derive(Debug, Drop)]
+#[derive(Drop)]
 pub struct TokenText {
     pub place: u64,
     pub groups: Vec<GroupText>,
 }
 
 /// All that a layout text says. The token line may be left out.
-#[derive(Debug, Drop)]
+#[derive(Drop)]
 pub struct LayoutText {
     pub lines: Vec<LineText>,
     pub token: Option<TokenText>,

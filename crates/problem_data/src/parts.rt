@@ -10,7 +10,7 @@ use crate::tree::{
 use std::alloc::{AllocError, Global};
 
 /// The version, the number of dimensions, and the statements of each kind in file order.
-#[derive(Debug, Drop)]
+#[derive(Drop)]
 pub struct Parts {
     pub version: Int,
     pub dims: Int,

@@ -12,7 +12,7 @@ use rule_syntax::tree::Formula;
 use std::marker::Model;
 
 /// A box of a shape: in each dimension where it begins, as seen from the origin of an object, and how many cells it has.
-#[derive(Debug, Drop)]
+#[derive(Drop)]
 pub struct BoxDef {
     offsets: Vec<i64>,
     sizes: Vec<i64>,
@@ -50,7 +50,7 @@ impl BoxDef {
 }
 
 /// A shape: its boxes in file order.
-#[derive(Debug, Drop)]
+#[derive(Drop)]
 pub struct ShapeDef {
     name: Name,
     boxes: Vec<BoxDef>,
@@ -91,14 +91,14 @@ impl ShapeDef {
 }
 
 /// A range of whole numbers, both ends included.
-#[derive(Clone, Copy, Debug)]
+#[derive(Clone, Copy)]
 pub struct RangeDef {
     pub low: i64,
     pub high: i64,
 }
 
 /// An attribute of an object.
-#[derive(Debug, Drop)]
+#[derive(Drop)]
 pub struct AttributeDef {
     pub name: Name,
     pub value: i64,
@@ -106,7 +106,7 @@ pub struct AttributeDef {
 
 /// An object: its shapes by their positions in the list of shapes, from 0, the range of each coordinate of its origin, and
 /// its attributes.
-#[derive(Debug, Drop)]
+#[derive(Drop)]
 pub struct ObjectDef {
     name: Name,
     shapes: Vec<u16>,
@@ -185,14 +185,14 @@ impl ObjectDef {
 }
 
 /// A parameter of a macro.
-#[derive(Debug, Drop)]
+#[derive(Drop)]
 pub struct ParamDef {
     pub name: Name,
     pub kind: ParamKind,
 }
 
 /// A macro, with the place of its name in the text.
-#[derive(Debug, Drop)]
+#[derive(Drop)]
 pub struct MacroDef {
     place: u64,
     name: Name,
@@ -267,7 +267,7 @@ impl MacroDef {
 }
 
 /// What a rule asks for.
-#[derive(Debug, Drop)]
+#[derive(Drop)]
 pub enum Demand {
     /// No two objects share a cell.
     Apart,
@@ -278,7 +278,7 @@ pub enum Demand {
 }
 
 /// A rule, with the place of its name in the text.
-#[derive(Debug, Drop)]
+#[derive(Drop)]
 pub struct RuleDef {
     place: u64,
     name: Name,
@@ -332,7 +332,6 @@ impl RuleDef {
 }
 
 /// A problem. Some text says it.
-#[derive(Debug)]
 pub struct Problem {
     dims: usize,
     shapes: Vec<ShapeDef>,

@@ -1,15 +1,15 @@
 //! How an expression is spelled.
 
-ghost use Rattle.std.specs.Prelude.{◌≡◌, ◌++◌, ◌∷◌, [], IfOk, map};
+ghost use Rattle.std.specs.Prelude.{◌≡◌, ◌++◌, ◌∷◌, [], IfOk, map, nat_lt, if◌then◌else◌};
 ghost use Rattle.rule_syntax.specs.Tree.{sums, products, arguments};
 ghost use Rattle.rule_syntax.specs.View.{expr_view, sum_view, product_view, argument_view};
-ghost use Rattle.rule_print.specs.Canonical.{written};
-ghost use Rattle.rule_print.specs.Spelled.{expr_spelling, sum_spelling, sum_step_spelling, product_spelling, product_step_spelling, in_list, arguments_spelling};
+ghost use Rattle.rule_print.specs.Canonical.{name, symbol, word, written};
+ghost use Rattle.rule_print.specs.Spelled.{expr_level, expr_spelling, sum_spelling, sum_step_spelling, product_spelling, product_step_spelling, in_list, arguments_spelling};
 
 use crate::lexeme::{Lexeme, push, push_if, push_name, push_symbol, push_word};
 use crate::rank::ExprRank;
 use geo_tokens::token::{Keyword, Sym};
-use rule_syntax::tree::{Argument, Expr, ProdStep, SumStep};
+use rule_syntax::tree::{Argument, Expr, PlacedName, ProdStep, SumStep};
 use std::alloc::AllocError;
 
 /// Spells an expression where one of this rank may stand.
@@ -24,11 +24,7 @@ pub fn spell_expression<'a>(
 {
     match e {
         Expr::Num(_, n) => push(Lexeme::Number(u64::from(*n)), into),
-        Expr::Field(object, _, field) => {
-            push_name(object, into)?;
-            push_symbol(Sym::Dot, into)?;
-            push_name(field, into)
-        }
+        Expr::Field(object, _, field) => spell_field(object, field, into),
         Expr::Param(name) => push_name(name, into),
         Expr::ShapeNum(_, name) => {
             push_word(Keyword::Shape, into)?;
@@ -39,34 +35,22 @@ pub fn spell_expression<'a>(
             spell_expression(inner, ExprRank::Factor, into)
         }
         Expr::Sum(_, first, steps) => {
-            let in_parens = ExprRank::Sum.is_looser(rank);
-            push_if(in_parens, Sym::ParenOpen, into)?;
-            spell_expression(first, ExprRank::Product, into)?;
+            spell_opened(first, ExprRank::Sum, ExprRank::Product, rank, into)?;
             spell_sum_steps(steps.as_slice(), into)?;
-            push_if(in_parens, Sym::ParenClose, into)
+            close(ExprRank::Sum, rank, into)
         }
         Expr::Prod(_, first, steps) => {
-            let in_parens = ExprRank::Product.is_looser(rank);
-            push_if(in_parens, Sym::ParenOpen, into)?;
-            spell_expression(first, ExprRank::Factor, into)?;
+            spell_opened(first, ExprRank::Product, ExprRank::Factor, rank, into)?;
             spell_product_steps(steps.as_slice(), into)?;
-            push_if(in_parens, Sym::ParenClose, into)
+            close(ExprRank::Product, rank, into)
         }
         Expr::Min(_, first, second) => {
-            push_word(Keyword::Min, into)?;
-            push_symbol(Sym::ParenOpen, into)?;
-            spell_expression(first, ExprRank::Sum, into)?;
-            push_symbol(Sym::Comma, into)?;
-            spell_expression(second, ExprRank::Sum, into)?;
-            push_symbol(Sym::ParenClose, into)
+            spell_first(Keyword::Min, first, into)?;
+            spell_second(second, into)
         }
         Expr::Max(_, first, second) => {
-            push_word(Keyword::Max, into)?;
-            push_symbol(Sym::ParenOpen, into)?;
-            spell_expression(first, ExprRank::Sum, into)?;
-            push_symbol(Sym::Comma, into)?;
-            spell_expression(second, ExprRank::Sum, into)?;
-            push_symbol(Sym::ParenClose, into)
+            spell_first(Keyword::Max, first, into)?;
+            spell_second(second, into)
         }
         Expr::CallValue(_, name, arguments) => {
             push_symbol(Sym::Dollar, into)?;
@@ -74,6 +58,73 @@ pub fn spell_expression<'a>(
             spell_arguments(arguments.as_slice(), into)
         }
     }
+}
+
+/// Spells a field of an object.
+fn spell_field<'a>(
+    object: &'a PlacedName,
+    field: &'a PlacedName,
+    into: &mut Vec<Lexeme<'a>>,
+) -> Result<(), AllocError>
+    ensures { IfOk result (λ _. map written into.new.items ≡ map written into.old.items
+        ++ name object.now.name ∷ symbol Sym.Dot ∷ name field.now.name ∷ []) }
+{
+    push_name(object, into)?;
+    push_symbol(Sym::Dot, into)?;
+    push_name(field, into)
+}
+
+/// Spells a bracket, where an expression of the rank `own` needs one, and behind it its first part.
+#[cycle(spell)]
+fn spell_opened<'a>(
+    first: &'a Expr,
+    own: ExprRank,
+    inner: ExprRank,
+    rank: ExprRank,
+    into: &mut Vec<Lexeme<'a>>,
+) -> Result<(), AllocError>
+    ensures { IfOk result (λ _. map written into.new.items ≡ map written into.old.items
+        ++ (if nat_lt (expr_level own) (expr_level rank) then symbol Sym.ParenOpen ∷ [] else [])
+        ++ expr_spelling inner (expr_view first.now)) }
+{
+    push_if(own.is_looser(rank), Sym::ParenOpen, into)?;
+    spell_expression(first, inner, into)
+}
+
+/// Spells the bracket that closes, where an expression of the rank `own` needs one.
+fn close<'a>(own: ExprRank, rank: ExprRank, into: &mut Vec<Lexeme<'a>>) -> Result<(), AllocError>
+    ensures { IfOk result (λ _. map written into.new.items ≡ map written into.old.items
+        ++ (if nat_lt (expr_level own) (expr_level rank) then symbol Sym.ParenClose ∷ [] else [])) }
+{
+    push_if(own.is_looser(rank), Sym::ParenClose, into)
+}
+
+/// Spells a word and the first of two expressions behind it.
+#[cycle(spell)]
+fn spell_first<'a>(
+    mark: Keyword,
+    first: &'a Expr,
+    into: &mut Vec<Lexeme<'a>>,
+) -> Result<(), AllocError>
+    ensures { IfOk result (λ _. map written into.new.items ≡ map written into.old.items
+        ++ word mark ∷ symbol Sym.ParenOpen
+        ∷ expr_spelling ExprRank.Sum (expr_view first.now)) }
+{
+    push_word(mark, into)?;
+    push_symbol(Sym::ParenOpen, into)?;
+    spell_expression(first, ExprRank::Sum, into)
+}
+
+/// Spells the second of two expressions.
+#[cycle(spell)]
+fn spell_second<'a>(second: &'a Expr, into: &mut Vec<Lexeme<'a>>) -> Result<(), AllocError>
+    ensures { IfOk result (λ _. map written into.new.items ≡ map written into.old.items
+        ++ symbol Sym.Comma ∷ (expr_spelling ExprRank.Sum (expr_view second.now)
+        ++ symbol Sym.ParenClose ∷ [])) }
+{
+    push_symbol(Sym::Comma, into)?;
+    spell_expression(second, ExprRank::Sum, into)?;
+    push_symbol(Sym::ParenClose, into)
 }
 
 /// Spells the steps of a sum behind its first term.

@@ -1,10 +1,10 @@
 //! How a formula is spelled.
 
-ghost use Rattle.std.specs.Prelude.{◌≡◌, ◌++◌, ◌∷◌, [], IfOk, map};
+ghost use Rattle.std.specs.Prelude.{◌≡◌, ◌++◌, ◌∷◌, [], IfOk, map, nat_lt, if◌then◌else◌};
 ghost use Rattle.rule_syntax.specs.Tree.{formulas};
 ghost use Rattle.rule_syntax.specs.View.{formula_view, coll_view};
-ghost use Rattle.rule_print.specs.Canonical.{written};
-ghost use Rattle.rule_print.specs.Spelled.{formula_spelling, quantifier_spelling, coll_spelling, names_spelling, rel_symbol, operands_spelling, mark_before};
+ghost use Rattle.rule_print.specs.Canonical.{name, symbol, word, written};
+ghost use Rattle.rule_print.specs.Spelled.{formula_level, formula_spelling, in_brackets, quantifier_spelling, coll_spelling, names_spelling, rel_symbol, operands_spelling, mark_before};
 
 use crate::expression::{spell_arguments, spell_expression};
 use crate::lexeme::{Lexeme, push, push_if, push_name, push_symbol, push_word};
@@ -96,38 +96,45 @@ pub fn spell_formula<'a>(
             push_word(Keyword::Not, into)?;
             spell_formula(inner, FormulaRank::Unary, into)
         }
-        Formula::And(_, operands) => {
-            let in_brackets = FormulaRank::Conjunction.is_looser(rank);
-            push_if(in_brackets, Sym::BracketOpen, into)?;
-            spell_operands(operands.as_slice(), Keyword::And, FormulaRank::Unary, into)?;
-            push_if(in_brackets, Sym::BracketClose, into)
-        }
-        Formula::Or(_, operands) => {
-            let in_brackets = FormulaRank::Disjunction.is_looser(rank);
-            push_if(in_brackets, Sym::BracketOpen, into)?;
-            spell_operands(
-                operands.as_slice(),
-                Keyword::Or,
-                FormulaRank::Conjunction,
-                into,
-            )?;
-            push_if(in_brackets, Sym::BracketClose, into)
-        }
+        Formula::And(_, operands) => spell_joined(
+            operands.as_slice(),
+            Keyword::And,
+            FormulaRank::Conjunction,
+            FormulaRank::Unary,
+            rank,
+            into,
+        ),
+        Formula::Or(_, operands) => spell_joined(
+            operands.as_slice(),
+            Keyword::Or,
+            FormulaRank::Disjunction,
+            FormulaRank::Conjunction,
+            rank,
+            into,
+        ),
         Formula::Implies(_, first, second) => {
-            let in_brackets = FormulaRank::Implication.is_looser(rank);
-            push_if(in_brackets, Sym::BracketOpen, into)?;
-            spell_formula(first, FormulaRank::Disjunction, into)?;
-            push_word(Keyword::Implies, into)?;
-            spell_formula(second, FormulaRank::Disjunction, into)?;
-            push_if(in_brackets, Sym::BracketClose, into)
+            let own = FormulaRank::Implication;
+            spell_first(first, own, FormulaRank::Disjunction, rank, into)?;
+            spell_second(
+                Keyword::Implies,
+                second,
+                own,
+                FormulaRank::Disjunction,
+                rank,
+                into,
+            )
         }
         Formula::Iff(_, first, second) => {
-            let in_brackets = FormulaRank::Equivalence.is_looser(rank);
-            push_if(in_brackets, Sym::BracketOpen, into)?;
-            spell_formula(first, FormulaRank::Implication, into)?;
-            push_word(Keyword::Iff, into)?;
-            spell_formula(second, FormulaRank::Implication, into)?;
-            push_if(in_brackets, Sym::BracketClose, into)
+            let own = FormulaRank::Equivalence;
+            spell_first(first, own, FormulaRank::Implication, rank, into)?;
+            spell_second(
+                Keyword::Iff,
+                second,
+                own,
+                FormulaRank::Implication,
+                rank,
+                into,
+            )
         }
         Formula::Compare(_, left, rel, right) => {
             spell_expression(left, ExprRank::Sum, into)?;
@@ -135,11 +142,7 @@ pub fn spell_formula<'a>(
             spell_expression(right, ExprRank::Sum, into)
         }
         Formula::Quant(_, kind, variable, coll, body) => {
-            spell_quantifier(*kind, into)?;
-            push_name(variable, into)?;
-            push_word(Keyword::In, into)?;
-            spell_collection(coll, into)?;
-            push_symbol(Sym::Colon, into)?;
+            spell_range(*kind, variable, coll, into)?;
             spell_formula(body, FormulaRank::Unary, into)
         }
         Formula::Call(_, name, arguments) => {
@@ -148,6 +151,83 @@ pub fn spell_formula<'a>(
             spell_arguments(arguments.as_slice(), into)
         }
     }
+}
+
+/// Spells a quantifier up to its colon.
+fn spell_range<'a>(
+    kind: QuantKind,
+    variable: &'a PlacedName,
+    coll: &'a Coll,
+    into: &mut Vec<Lexeme<'a>>,
+) -> Result<(), AllocError>
+    ensures { IfOk result (λ _. map written into.new.items ≡ map written into.old.items
+        ++ (quantifier_spelling kind ++ name variable.now.name ∷ word Keyword.In
+        ∷ (coll_spelling (coll_view coll.now) ++ symbol Sym.Colon ∷ []))) }
+{
+    spell_quantifier(kind, into)?;
+    push_name(variable, into)?;
+    push_word(Keyword::In, into)?;
+    spell_collection(coll, into)?;
+    push_symbol(Sym::Colon, into)
+}
+
+/// Spells operands with a word between them: a formula of the rank `own`, whose operands have the rank `inner`, in brackets where one of
+/// that rank may not stand.
+#[cycle(spell_formula)]
+fn spell_joined<'a>(
+    operands: &'a [Formula],
+    mark: Keyword,
+    own: FormulaRank,
+    inner: FormulaRank,
+    rank: FormulaRank,
+    into: &mut Vec<Lexeme<'a>>,
+) -> Result<(), AllocError>
+    ensures { IfOk result (λ _. map written into.new.items ≡ map written into.old.items
+        ++ in_brackets own rank (operands_spelling mark inner
+        (formulas (map formula_view operands.now)))) }
+{
+    let in_brackets = own.is_looser(rank);
+    push_if(in_brackets, Sym::BracketOpen, into)?;
+    spell_operands(operands, mark, inner, into)?;
+    push_if(in_brackets, Sym::BracketClose, into)
+}
+
+/// Spells a bracket, where a formula of the rank `own` needs one, and behind it the first of its two operands.
+#[cycle(spell_formula)]
+fn spell_first<'a>(
+    first: &'a Formula,
+    own: FormulaRank,
+    inner: FormulaRank,
+    rank: FormulaRank,
+    into: &mut Vec<Lexeme<'a>>,
+) -> Result<(), AllocError>
+    ensures { IfOk result (λ _. map written into.new.items ≡ map written into.old.items
+        ++ (if nat_lt (formula_level own) (formula_level rank)
+        then symbol Sym.BracketOpen ∷ [] else [])
+        ++ formula_spelling inner (formula_view first.now)) }
+{
+    push_if(own.is_looser(rank), Sym::BracketOpen, into)?;
+    spell_formula(first, inner, into)
+}
+
+/// Spells a word, the second operand behind it, and the bracket that closes where one is needed.
+#[cycle(spell_formula)]
+fn spell_second<'a>(
+    mark: Keyword,
+    second: &'a Formula,
+    own: FormulaRank,
+    inner: FormulaRank,
+    rank: FormulaRank,
+    into: &mut Vec<Lexeme<'a>>,
+) -> Result<(), AllocError>
+    ensures { IfOk result (λ _. map written into.new.items ≡ map written into.old.items
+        ++ word mark ∷ (formula_spelling inner (formula_view second.now)
+        ++ (if nat_lt (formula_level own) (formula_level rank)
+        then symbol Sym.BracketClose ∷ [] else []))) }
+{
+    push_word(mark, into)?;
+    spell_formula(second, inner, into)?;
+    push_if(own.is_looser(rank), Sym::BracketClose, into)
 }
 
 /// A word, but in front of the first operand.

@@ -1,7 +1,7 @@
 ghost use Rattle.std.specs.Prelude.{◌≡◌, ◌≢◌, ℕ, ◌<◌, slice_index};
 
 /// Where the cuts that hold a place stand in a record, one for each dimension by significance.
-#[derive(Clone, Copy, Debug)]
+#[derive(Clone, Copy)]
 pub struct Marks<const K: usize> {
     pub places: [usize; K],
 }

@@ -18,7 +18,7 @@ const GREATEST: u64 = 1_000_000_000;
 const LINE_END: u8 = b'\n';
 
 /// A run of bytes that may go on.
-#[derive(Clone, Copy, Debug)]
+#[derive(Clone, Copy)]
 pub enum Run {
     /// Nothing, or a byte of white space.
     Space,

@@ -14,7 +14,7 @@ use geo_tokens::fault::FaultWord;
 use geo_tokens::token::{Kind, Token};
 
 /// What a byte, or the end of the text, completed.
-#[derive(Clone, Copy, Debug, PartialEq, Eq)]
+#[derive(Clone, Copy, PartialEq, Eq)]
 pub enum Taken {
     /// Nothing.
     Nothing,
@@ -27,7 +27,7 @@ pub enum Taken {
 }
 
 /// A text that comes byte by byte. Of the text only the run is kept that its last byte belongs to.
-#[derive(Debug, Drop)]
+#[derive(Drop)]
 pub struct TokenStream {
     count: u64,
     /// The place of the run.

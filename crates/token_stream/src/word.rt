@@ -16,7 +16,7 @@ use geo_tokens::token::Kind;
 const NAME_BYTES: usize = 40;
 
 /// How many bytes came of a word, and the first of them.
-#[derive(Debug, Drop)]
+#[derive(Drop)]
 pub struct Word {
     len: usize,
     bytes: [u8; 40],
