@@ -1,5 +1,4 @@
-//! Tests of the problems that are made from a seed: their lines against draws worked out by hand,
-//! and what the readers make of them.
+//! Tests of the problems that are made from a seed: their lines against draws worked out by hand.
 #![tactic(auto)]
 
 #[cfg(test)]

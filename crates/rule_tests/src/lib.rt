@@ -1,4 +1,4 @@
-//! Tests of the rules: expansion, values, linear conditions, grounding and judging, each by its public calls.
+//! Tests of the rules: their conditions or the first fault, and what the judge says of tuples.
 //!
 //! Expected values are worked by hand.
 #![tactic(auto)]

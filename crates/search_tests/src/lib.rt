@@ -1,4 +1,5 @@
-//! Tests of both propagators and of the search on small states, with numbers that were worked out by hand.
+//! Tests of what is recorded while states settle, and of the check of derivations, on small states
+//! and with numbers that were worked out by hand. What settles and searches answer is said by clauses.
 #![tactic(auto)]
 
 #[cfg(test)]

@@ -1,5 +1,3 @@
 mod checking;
 mod lines;
 mod records;
-mod searching;
-mod settling;

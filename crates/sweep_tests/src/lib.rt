@@ -1,5 +1,5 @@
-//! Tests of the conditions, of the sweep, of the pruning of one object and of the state with levels, with numbers that were
-//! worked out by hand.
+//! Tests of the sweep and of the pruning of one object: their events, how often they ask and what
+//! they keep, with numbers that were worked out by hand. What they answer is said by clauses.
 #![tactic(auto)]
 
 #[cfg(test)]

@@ -3,7 +3,6 @@ mod boxes;
 mod derivations;
 mod drawings;
 mod formulas;
-mod layouts;
 mod mistakes;
 mod problems;
 mod statements;

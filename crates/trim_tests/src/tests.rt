@@ -1,3 +1,316 @@
-mod chain;
-mod shortening;
-mod trees;
+//! What is left out of a derivation, and how its covers become simpler.
+
+ghost use Rattle.std.specs.Prelude.{◌<◌};
+
+use derivation::{Event, Log, Recorder};
+use derivation_trim::{is_derivation, shortened};
+use geo_base::{KBox, Point};
+use geo_conditions::{Cond, Conds, Form, ObjId, State, all_fit};
+use std::alloc::{AllocError, Global};
+use std::test::Fail;
+
+const A: ObjId = ObjId(0);
+
+const B: ObjId = ObjId(1);
+
+const C: ObjId = ObjId(2);
+
+/// An object of one shape for each of the ranges, on a line.
+fn line(alloc: Global, ranges: &[(i64, i64)]) -> Result<State<1>, AllocError> {
+    let mut s = State::new(alloc);
+    for range in ranges {
+        if s.objects() < 10 {
+            s.add_object(1, KBox::new(Point::filled(range.0), Point::filled(range.1)))?;
+        }
+    }
+    Ok(s)
+}
+
+/// The object a is less than b.
+fn less(alloc: Global, a: ObjId, b: ObjId) -> Result<Cond, AllocError>
+    requires order { a.0 < b.0 }
+{
+    Ok(Cond::Lin(Form::new(alloc, &[(a, 0, 1), (b, 0, -1)], 1)?))
+}
+
+/// A is less than B, B is less than C, and what never holds.
+fn conditions(alloc: Global) -> Result<Vec<Cond>, AllocError> {
+    let mut list = Vec::new(alloc);
+    list.push(less(alloc, A, B)?)?;
+    list.push(less(alloc, B, C)?)?;
+    list.push(Cond::AtLeast(1, Conds::new(alloc)))?;
+    Ok(list)
+}
+
+/// A record of the events.
+fn record(alloc: Global, events: &[Event]) -> Result<Log, AllocError> {
+    let mut log = Log::new(alloc);
+    for event in events {
+        log.add(*event)?;
+    }
+    Ok(log)
+}
+
+/// The kind of an event, and its numbers.
+fn parts(e: &Event) -> (u8, u16, usize, i64) {
+    match *e {
+        Event::SplitShape(o, s) => (0, o.0, 0, i64::from(s)),
+        Event::SplitUpto(o, d, v) => (1, o.0, d, v),
+        Event::SplitFrom(o, d, v) => (2, o.0, d, v),
+        Event::Drop(o, s) => (3, o.0, 0, i64::from(s)),
+        Event::Raise(o, d, v) => (4, o.0, d, v),
+        Event::Lower(o, d, v) => (5, o.0, d, v),
+        Event::Gone(o) => (6, o.0, 0, 0),
+        Event::Dead(i) => (7, 0, 0, i64::from(i)),
+        Event::Cover(s) => (8, 0, 0, i64::from(s)),
+        Event::EndCovers => (9, 0, 0, 0),
+        Event::By(i) => (10, 0, 0, i64::from(i)),
+        Event::Cut(d, v) => (11, 0, d, v),
+        Event::CutFrom(d, v) => (12, 0, d, v),
+    }
+}
+
+/// Whether both are the same events.
+fn are_same(events: &[Event], wanted: &[Event]) -> bool {
+    let mut same = events.len() == wanted.len();
+    for (event, other) in events.iter().zip(wanted) {
+        same &= parts(event) == parts(other);
+    }
+    same
+}
+
+/// What the events on objects in those ranges are shortened to, and whether both are derivations.
+fn trimmed(alloc: Global, ranges: &[(i64, i64)], log: &Log) -> Result<(Log, bool), AllocError> {
+    let s = line(alloc, ranges)?;
+    let list = conditions(alloc)?;
+    let shorter = shortened(alloc, &list, &s, log)?;
+    let are_derivations = all_fit(&list, &s)
+        && is_derivation(alloc, &list, &s, log)?
+        && is_derivation(alloc, &list, &s, &shorter)?;
+    Ok((shorter, are_derivations))
+}
+
+/// A derivation on objects in those ranges, and what it is shortened to.
+struct Row {
+    ranges: &'static [(i64, i64)],
+    events: &'static [Event],
+    wanted: &'static [Event],
+}
+
+/// Events of objects and dimensions that are not there, and not those of one tree.
+const NO_DERIVATION: &[Event] = &[
+    Event::Gone(ObjId(7)),
+    Event::EndCovers,
+    Event::Cut(3, 0),
+    Event::Raise(A, 5, 1),
+];
+
+const ROWS: &[Row] = &[
+    // the first condition is refuted from the start, and says nothing of C
+    Row {
+        ranges: &[(2, 3), (0, 2), (0, 2)],
+        events: &[
+            Event::Raise(C, 0, 1),
+            Event::Cover(1),
+            Event::By(2),
+            Event::EndCovers,
+            Event::Dead(1),
+        ],
+        wanted: &[Event::Dead(1)],
+    },
+    // neither part of a split of C needs it
+    Row {
+        ranges: &[(2, 3), (0, 2), (0, 9)],
+        events: &[Event::SplitUpto(C, 0, 4), Event::Dead(1), Event::Dead(1)],
+        wanted: &[Event::Dead(1)],
+    },
+    // the second part does not
+    Row {
+        ranges: &[(2, 3), (0, 2), (0, 9)],
+        events: &[Event::SplitUpto(C, 0, 0), Event::Dead(2), Event::Dead(1)],
+        wanted: &[Event::Dead(1)],
+    },
+    // the first part does not, and the second has a link of its own
+    Row {
+        ranges: &[(2, 3), (0, 2), (0, 9)],
+        events: &[
+            Event::SplitUpto(C, 0, 8),
+            Event::Dead(1),
+            Event::Raise(C, 0, 9),
+            Event::Cover(1),
+            Event::By(1),
+            Event::EndCovers,
+            Event::Dead(1),
+        ],
+        wanted: &[Event::Dead(1)],
+    },
+    // both parts need the split
+    Row {
+        ranges: &[(0, 1), (0, 1), (0, 1)],
+        events: &[Event::SplitUpto(B, 0, 0), Event::Dead(1), Event::Dead(2)],
+        wanted: &[Event::SplitUpto(B, 0, 0), Event::Dead(1), Event::Dead(2)],
+    },
+    // the low end of B is needed, and the high end is not
+    Row {
+        ranges: &[(0, 1), (0, 9), (0, 1)],
+        events: &[
+            Event::Lower(B, 0, 0),
+            Event::Cover(1),
+            Event::By(2),
+            Event::EndCovers,
+            Event::Raise(B, 0, 1),
+            Event::Cover(1),
+            Event::By(1),
+            Event::EndCovers,
+            Event::Gone(C),
+            Event::Cover(1),
+            Event::By(2),
+            Event::EndCovers,
+        ],
+        wanted: &[
+            Event::Raise(B, 0, 1),
+            Event::Cover(1),
+            Event::By(1),
+            Event::EndCovers,
+            Event::Gone(C),
+            Event::Cover(1),
+            Event::By(2),
+            Event::EndCovers,
+        ],
+    },
+    // C has no point behind B, at 0 and at 1 for one reason
+    Row {
+        ranges: &[(0, 1), (0, 1), (0, 1)],
+        events: &[
+            Event::Raise(B, 0, 1),
+            Event::Cover(1),
+            Event::By(1),
+            Event::EndCovers,
+            Event::Gone(C),
+            Event::Cover(1),
+            Event::Cut(0, 0),
+            Event::By(2),
+            Event::By(2),
+            Event::EndCovers,
+        ],
+        wanted: &[
+            Event::Raise(B, 0, 1),
+            Event::Cover(1),
+            Event::By(1),
+            Event::EndCovers,
+            Event::Gone(C),
+            Event::Cover(1),
+            Event::By(2),
+            Event::EndCovers,
+        ],
+    },
+    // B is not behind A up to 2, and not before C from 3 on: two pieces do for four
+    Row {
+        ranges: &[(2, 3), (0, 9), (0, 3)],
+        events: &[
+            Event::Gone(B),
+            Event::Cover(1),
+            Event::Cut(0, 0),
+            Event::By(1),
+            Event::Cut(0, 1),
+            Event::By(1),
+            Event::Cut(0, 2),
+            Event::By(1),
+            Event::By(2),
+            Event::EndCovers,
+        ],
+        wanted: &[
+            Event::Gone(B),
+            Event::Cover(1),
+            Event::Cut(0, 2),
+            Event::By(1),
+            Event::By(2),
+            Event::EndCovers,
+        ],
+    },
+    // the same from the other end
+    Row {
+        ranges: &[(2, 3), (0, 9), (0, 3)],
+        events: &[
+            Event::Gone(B),
+            Event::Cover(1),
+            Event::CutFrom(0, 9),
+            Event::By(2),
+            Event::CutFrom(0, 4),
+            Event::By(2),
+            Event::CutFrom(0, 3),
+            Event::By(2),
+            Event::By(1),
+            Event::EndCovers,
+        ],
+        wanted: &[
+            Event::Gone(B),
+            Event::Cover(1),
+            Event::CutFrom(0, 3),
+            Event::By(2),
+            Event::By(1),
+            Event::EndCovers,
+        ],
+    },
+    // a cut outside the box leaves one part empty, and what is dropped stands in the last list
+    Row {
+        ranges: &[(0, 1), (0, 2), (0, 1)],
+        events: &[
+            Event::Drop(B, 1),
+            Event::CutFrom(0, 5),
+            Event::By(1),
+            Event::CutFrom(0, 1),
+            Event::By(2),
+            Event::By(1),
+            Event::Gone(B),
+            Event::EndCovers,
+        ],
+        wanted: &[
+            Event::Gone(B),
+            Event::Cover(1),
+            Event::CutFrom(0, 1),
+            Event::By(2),
+            Event::By(1),
+            Event::EndCovers,
+        ],
+    },
+    // what is no derivation stays as it is
+    Row {
+        ranges: &[(0, 1), (0, 1), (0, 1)],
+        events: NO_DERIVATION,
+        wanted: NO_DERIVATION,
+    },
+];
+
+#[test]
+fn what_no_step_leans_on_is_left_out(rt: HostRuntime) -> Result<(), Fail> {
+    for (i, row) in ROWS.iter().enumerate() {
+        let log = record(rt.alloc(), row.events)?;
+        let (shorter, are_derivations) = trimmed(rt.alloc(), row.ranges, &log)?;
+        assert!(rt; are_same(shorter.events(), row.wanted), "row {i}");
+        assert!(rt; are_derivations == (i + 1 < ROWS.len()), "row {i}");
+    }
+    Ok(())
+}
+
+/// A hundred thousand splits inside each other, each with an end for its first part, and the end of
+/// the last second part.
+fn many_splits(alloc: Global) -> Result<Log, AllocError> {
+    let mut log = Log::new(alloc);
+    for i in 0..200_001u32 {
+        log.add(if i < 100_000 {
+            Event::SplitUpto(A, 0, 0)
+        } else {
+            Event::Dead(3)
+        })?;
+    }
+    Ok(log)
+}
+
+#[test]
+fn a_derivation_may_be_as_deep_as_it_is_long(rt: HostRuntime) -> Result<(), Fail> {
+    let log = many_splits(rt.alloc())?;
+    let (shorter, are_derivations) = trimmed(rt.alloc(), &[(0, 1); 3], &log)?;
+    assert!(rt; are_derivations && are_same(shorter.events(), &[Event::Dead(3)]));
+    Ok(())
+}

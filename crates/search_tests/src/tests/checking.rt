@@ -1,7 +1,6 @@
 //! Derivations, and what the check says of them.
 
-use super::lines::Rules::{Chain, False, Free, TwoApart};
-use super::lines::{A, B, C, Rules, conditions, line};
+use super::lines::{A, B, C, CHAIN, FALSE, FREE, Rules, TWO_APART, conditions, line};
 use derivation::{Event, Log, Recorder};
 use derivation_check::{Checked, all_fit as events_fit, check};
 use geo_conditions::all_fit;
@@ -14,64 +13,67 @@ fn checked(
     alloc: Global,
     ranges: &[(i64, i64)],
     rules: Rules,
-    events: &[Event],
+    log: &Log,
 ) -> Result<Option<u64>, AllocError> {
     let s = line(alloc, ranges)?;
     let list = conditions(alloc, rules)?;
-    let mut log = Log::new(alloc);
-    for event in events {
-        log.add(*event)?;
-    }
-    let can_be_given = all_fit(&list, &s)
-        && events_fit::<1>(log.events(), s.objects())
-        && log.events().len() < 1_000_000_000;
-    if !can_be_given {
+    let few = log.events().len() < 1_000_000_000;
+    if !few || !all_fit(&list, &s) || !events_fit::<1>(log.events(), s.objects()) {
         return Ok(None);
     }
-    match check(alloc, &list, &s, &log)? {
+    match check(alloc, &list, &s, log)? {
         Checked::Yes => Ok(Some(0)),
         Checked::No(n) => Ok(Some(n)),
     }
 }
 
+/// A record of the events.
+fn record(alloc: Global, events: &[Event]) -> Result<Log, AllocError> {
+    let mut log = Log::new(alloc);
+    for event in events {
+        log.add(*event)?;
+    }
+    Ok(log)
+}
+
 /// Each row: the ranges of the objects, what has to hold of them, the events, and the answer.
 const DERIVATIONS: &[(&[(i64, i64)], Rules, &[Event], u64)] = &[
     // a condition that never holds, and none
-    (&[(0, 4)], False, &[Event::Dead(1)], 0),
-    (&[(0, 4)], Free, &[Event::Dead(1)], 1),
-    (&[(0, 4)], False, &[Event::Dead(2)], 1),
+    (&[(0, 4)], FALSE, &[Event::Dead(1)], 0),
+    (&[(0, 4)], FREE, &[Event::Dead(1)], 1),
+    (&[(0, 4)], FALSE, &[Event::Dead(2)], 1),
     // both parts of a split, and the first node that fails
     (
         &[(0, 4)],
-        False,
+        FALSE,
         &[Event::SplitUpto(A, 0, 2), Event::Dead(1), Event::Dead(1)],
         0,
     ),
     (
         &[(0, 4)],
-        False,
+        FALSE,
         &[Event::SplitUpto(A, 0, 2), Event::Dead(1), Event::Dead(2)],
         3,
     ),
     (
         &[(0, 4)],
-        False,
+        FALSE,
         &[Event::SplitUpto(A, 0, 2), Event::Dead(2), Event::Dead(2)],
         2,
     ),
     // two boxes of length 2 have no room where both begin at 0 or 1; where the first may begin at 2 they have
-    (&[(0, 1), (0, 1)], TwoApart, &[Event::Dead(1)], 0),
-    (&[(0, 2), (0, 1)], TwoApart, &[Event::Dead(1)], 1),
+    (&[(0, 1), (0, 1)], TWO_APART, &[Event::Dead(1)], 0),
+    (&[(0, 2), (0, 1)], TWO_APART, &[Event::Dead(1)], 1),
     (
         &[(0, 2), (0, 1)],
-        TwoApart,
+        TWO_APART,
         &[Event::SplitUpto(A, 0, 1), Event::Dead(1), Event::Dead(1)],
         3,
     ),
     // what a first part cut is put back for the second one, of another object too
     (
         &[(0, 2), (0, 1)],
-        TwoApart,
+        TWO_APART,
         &[
             Event::SplitFrom(A, 0, 2),
             Event::SplitUpto(B, 0, 0),
@@ -84,7 +86,7 @@ const DERIVATIONS: &[(&[(i64, i64)], Rules, &[Event], u64)] = &[
     // one behind the other in 0 to 2: the second begins at 1 or later, as a cover of what is below it shows
     (
         &[(0, 2), (0, 2), (0, 2)],
-        Chain,
+        CHAIN,
         &[
             Event::Raise(B, 0, 1),
             Event::Cover(1),
@@ -97,13 +99,13 @@ const DERIVATIONS: &[(&[(i64, i64)], Rules, &[Event], u64)] = &[
     // the cover is missing, names another place, or names a condition that is not refuted there
     (
         &[(0, 2), (0, 2), (0, 2)],
-        Chain,
+        CHAIN,
         &[Event::Raise(B, 0, 1), Event::EndCovers, Event::Dead(1)],
         1,
     ),
     (
         &[(0, 2), (0, 2), (0, 2)],
-        Chain,
+        CHAIN,
         &[
             Event::Raise(B, 0, 1),
             Event::Cover(2),
@@ -115,7 +117,7 @@ const DERIVATIONS: &[(&[(i64, i64)], Rules, &[Event], u64)] = &[
     ),
     (
         &[(0, 2), (0, 2), (0, 2)],
-        Chain,
+        CHAIN,
         &[
             Event::Raise(B, 0, 1),
             Event::Cover(1),
@@ -128,7 +130,7 @@ const DERIVATIONS: &[(&[(i64, i64)], Rules, &[Event], u64)] = &[
     // three in 0 to 1 do not fit one behind the other: the second and then the third move up, and the third has no point left
     (
         &[(0, 1), (0, 1), (0, 1)],
-        Chain,
+        CHAIN,
         &[
             Event::Raise(B, 0, 1),
             Event::Cover(1),
@@ -146,7 +148,7 @@ const DERIVATIONS: &[(&[(i64, i64)], Rules, &[Event], u64)] = &[
     // a place is dropped with a cover of two boxes; with the leaves exchanged neither is refuted
     (
         &[(0, 1), (0, 2), (0, 1)],
-        Chain,
+        CHAIN,
         &[
             Event::Drop(B, 1),
             Event::CutFrom(0, 1),
@@ -159,7 +161,7 @@ const DERIVATIONS: &[(&[(i64, i64)], Rules, &[Event], u64)] = &[
     ),
     (
         &[(0, 1), (0, 2), (0, 1)],
-        Chain,
+        CHAIN,
         &[
             Event::Drop(B, 1),
             Event::CutFrom(0, 1),
@@ -176,20 +178,21 @@ const DERIVATIONS: &[(&[(i64, i64)], Rules, &[Event], u64)] = &[
 fn the_first_node_that_fails_is_named(rt: HostRuntime) -> Result<(), Fail> {
     let alloc = rt.alloc();
     for (ranges, rules, events, wanted) in DERIVATIONS {
-        let answer = checked(alloc, ranges, *rules, events)?;
-        assert!(rt; answer == Some(*wanted));
+        let log = record(alloc, events)?;
+        assert!(rt; checked(alloc, ranges, rules, &log)? == Some(*wanted));
     }
     Ok(())
 }
 
-/// So many splits inside each other, each with an end for its first part, and the end of the last second part.
-fn many_splits(alloc: Global, number: usize, last: u32) -> Result<Log, AllocError> {
+/// A hundred thousand splits inside each other, each with an end for its first part, and the end of the last second part.
+fn many_splits(alloc: Global, last: u32) -> Result<Log, AllocError> {
     let mut log = Log::new(alloc);
-    for _ in 0..number {
-        log.add(Event::SplitUpto(A, 0, 9))?;
-    }
-    for _ in 0..number {
-        log.add(Event::Dead(1))?;
+    for i in 0..200_000u32 {
+        log.add(if i < 100_000 {
+            Event::SplitUpto(A, 0, 9)
+        } else {
+            Event::Dead(1)
+        })?;
     }
     log.add(Event::Dead(last))?;
     Ok(log)
@@ -197,20 +200,9 @@ fn many_splits(alloc: Global, number: usize, last: u32) -> Result<Log, AllocErro
 
 #[test]
 fn a_derivation_may_be_as_deep_as_it_is_long(rt: HostRuntime) -> Result<(), Fail> {
-    let alloc = rt.alloc();
-    let s = line(alloc, &[(0, 9)])?;
-    let list = conditions(alloc, False)?;
-    for (last, wanted) in [(1, None), (2, Some(200_001))] {
-        let log = many_splits(alloc, 100_000, last)?;
-        let can_be_given = all_fit(&list, &s)
-            && events_fit::<1>(log.events(), s.objects())
-            && log.events().len() < 1_000_000_000;
-        assert!(rt; can_be_given);
-        let found = match check(alloc, &list, &s, &log)? {
-            Checked::Yes => None,
-            Checked::No(n) => Some(n),
-        };
-        assert!(rt; found == wanted);
+    for (last, wanted) in [(1, 0), (2, 200_001)] {
+        let log = many_splits(rt.alloc(), last)?;
+        assert!(rt; checked(rt.alloc(), &[(0, 9)], FALSE, &log)? == Some(wanted));
     }
     Ok(())
 }

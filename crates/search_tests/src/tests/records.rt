@@ -1,13 +1,44 @@
 //! What the queue records while it settles.
 
-use super::lines::Rules::{False, ThreeApart};
-use super::lines::{B, C, Rules, conditions, indexicals, line};
+ghost use Rattle.std.specs.Prelude.{◌≡◌, ◌≤◌, IfOk, length, map};
+ghost use Rattle.geo_conditions.specs.Conditions.{AllFit};
+ghost use Rattle.geo_state.specs.Trail.{IsSmall};
+
+use super::lines::{B, C, FALSE, Rules, THREE_APART, conditions, line, parts};
 use derivation::{Event, Log};
 use fixpoint::Fixpoint;
-use geo_conditions::all_fit;
+use geo_conditions::{Cond, State, all_fit};
 use geo_state::{Propagate, Settled, Trailed, is_small};
+use indexical::AnyIndexical;
 use std::alloc::{AllocError, Global};
 use std::test::Fail;
+
+/// The indexicals of the conditions.
+fn indexicals(alloc: Global, conditions: Vec<Cond>) -> Result<Vec<AnyIndexical<1>>, AllocError>
+    ensures { IfOk result (λ v. map (λ x. x.cond) v.items ≡ conditions.items) }
+{
+    let mut list = Vec::new(alloc);
+    for c in conditions {
+        list.push(AnyIndexical::from_cond(c))?;
+    }
+    Ok(list)
+}
+
+/// Whether the queue leaves something of the state, with its events.
+fn settles(
+    alloc: Global,
+    s: State<1>,
+    list: Vec<AnyIndexical<1>>,
+    rec: &mut Log,
+) -> Result<bool, AllocError>
+    requires few { length list.items ≤ 1000000000 }
+    requires fits { AllFit (map (λ x. x.cond) list.items) s }
+    requires small { IsSmall s }
+{
+    let mut queue = Fixpoint::<1>::start(alloc, list, s.objects())?;
+    let mut t = Trailed::start(alloc, s, 0)?;
+    Ok(matches!(queue.settle(&mut t, rec)?, Settled::Kept))
+}
 
 /// Whether the queue leaves something of objects in those ranges, with its events; none where they cannot be settled.
 fn recorded(
@@ -18,61 +49,31 @@ fn recorded(
 ) -> Result<Option<bool>, AllocError> {
     let s = line(alloc, ranges)?;
     let list = conditions(alloc, rules)?;
-    if !is_small(&s) || !all_fit(&list, &s) {
+    if !is_small(&s) || !all_fit(&list, &s) || list.len() > 1_000_000_000 {
         return Ok(None);
     }
-    let objects = s.objects();
-    let indexicals = indexicals(alloc, list)?;
-    if indexicals.len() > 1_000_000_000 {
-        return Ok(None);
-    }
-    let mut queue = Fixpoint::<1>::start(alloc, indexicals, objects)?;
-    let mut t = Trailed::start(alloc, s, 0)?;
-    match queue.settle(&mut t, rec)? {
-        Settled::Kept => Ok(Some(true)),
-        Settled::Dead => Ok(Some(false)),
-    }
-}
-
-/// Whether both are the same event of those that stand in the tests.
-fn is_same(a: &Event, b: &Event) -> bool {
-    match (*a, *b) {
-        (Event::Drop(o, s), Event::Drop(u, r)) => o == u && s == r,
-        (Event::Raise(o, d, v), Event::Raise(u, e, w)) => o == u && d == e && v == w,
-        (Event::Gone(o), Event::Gone(u)) => o == u,
-        (Event::Cover(s), Event::Cover(r)) => s == r,
-        (Event::EndCovers, Event::EndCovers) => true,
-        (Event::By(i), Event::By(j)) => i == j,
-        (Event::Cut(d, v), Event::Cut(e, w)) => d == e && v == w,
-        (Event::CutFrom(d, v), Event::CutFrom(e, w)) => d == e && v == w,
-        (Event::Dead(i), Event::Dead(j)) => i == j,
-        _ => false,
-    }
+    let list = indexicals(alloc, list)?;
+    Ok(Some(settles(alloc, s, list, rec)?))
 }
 
 /// Whether a record has so many events, and these at their places.
-fn has(rec: &Log, number: usize, rows: &[(usize, Event)]) -> bool {
+fn has(events: &[Event], number: usize, rows: &[(usize, Event)]) -> bool {
+    let mut same = events.len() == number;
     for (i, wanted) in rows {
-        match rec.events().get(*i) {
-            Some(event) if is_same(event, wanted) => {}
-            _ => return false,
-        }
+        same &= *i < events.len() && parts(&events[*i]) == parts(wanted);
     }
-    rec.events().len() == number
+    same
 }
 
-/// Whether the queue leaves something of objects in those ranges, just where that is wanted, with these events.
-fn records(
-    alloc: Global,
-    ranges: &[(i64, i64)],
-    rules: Rules,
-    wanted: bool,
-    (number, rows): (usize, &[(usize, Event)]),
-) -> Result<bool, AllocError> {
-    let mut rec = Log::new(alloc);
-    let kept = recorded(alloc, ranges, rules, &mut rec)?;
-    Ok(kept == Some(wanted) && has(&rec, number, rows))
-}
+/// The ranges of objects, what has to hold of them, whether the queue leaves something, how many events it records, and some of
+/// them with their numbers.
+type Row = (
+    &'static [(i64, i64)],
+    Rules,
+    bool,
+    usize,
+    &'static [(usize, Event)],
+);
 
 /// The first condition names A and C, and the third one A and B. First B goes behind A, then C.
 const MOVES: &[(usize, Event)] = &[
@@ -97,14 +98,18 @@ const DEAD_END: &[(usize, Event)] = &[
     (13, Event::EndCovers),
 ];
 
+const ROWS: &[Row] = &[
+    (&[(0, 0), (0, 4), (0, 4)], THREE_APART, true, 12, MOVES),
+    (&[(0, 0), (0, 2), (0, 3)], THREE_APART, false, 14, DEAD_END),
+    (&[(0, 4)], FALSE, false, 1, &[(0, Event::Dead(1))]),
+];
+
 #[test]
 fn a_settle_is_recorded(rt: HostRuntime) -> Result<(), Fail> {
-    let alloc = rt.alloc();
-    let room = [(0, 0), (0, 4), (0, 4)];
-    assert!(rt; records(alloc, &room, ThreeApart, true, (12, MOVES))?);
-    let narrow = [(0, 0), (0, 2), (0, 3)];
-    assert!(rt; records(alloc, &narrow, ThreeApart, false, (14, DEAD_END))?);
-    let dead = [(0, Event::Dead(1))];
-    assert!(rt; records(alloc, &[(0, 4)], False, false, (1, &dead))?);
+    for (ranges, rules, wanted, number, rows) in ROWS {
+        let mut rec = Log::new(rt.alloc());
+        let kept = recorded(rt.alloc(), ranges, rules, &mut rec)?;
+        assert!(rt; kept == Some(*wanted) && has(rec.events(), *number, rows));
+    }
     Ok(())
 }

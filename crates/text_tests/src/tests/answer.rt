@@ -4,15 +4,12 @@ use geo_chan::CleanSink;
 use geo_tokens::fault::TextFault;
 use geo_tokens::first_end::first_text_end;
 use geo_tokens::lexer::tokens;
-use layout_text::read_layout;
 use problem_syntax::syntax::read_statements;
-use problem_text::names::names;
 use problem_text::print::print_problem;
 use problem_text::read::read_problem;
 use rule_names::check::check_names;
-use rule_print::print_formula;
-use rule_reading::read::{read_expr, read_formula};
-use std::alloc::Global;
+use rule_reading::read::read_formula;
+use std::alloc::{AllocError, Global};
 use std::process::Abort;
 use std::test::Fail;
 
@@ -25,29 +22,26 @@ pub enum Part {
     End,
     /// The formula that begins with the first token, and the number of the token behind it.
     Formula,
-    /// The expression that begins there, and the number of the token behind it.
-    Expression,
-    /// The canonical text of the formula that it is.
-    Canonical,
     /// Its statements.
     Statements,
-    /// The dimensions of the problem, its search order, its sides, and the shapes of each object.
-    Problem,
-    /// The table of names of the problem.
-    Names,
     /// The canonical text of the problem.
-    ProblemText,
+    Problem,
     /// What is wrong with the names of these statements, in a problem of a shape `s` and an object `a`.
     Mistake,
-    /// Of how many objects the layout is, for two boxes on a line and at the place 100 of an input.
-    Layout,
-    /// The same for a problem without objects.
-    EmptyLayout,
 }
 
-/// Two boxes on a line, of which the second one also has a shape of two cells.
-const TWO_BOXES: &[u8] =
-    b"geost 1 dims 1 shape u box 0 size 1 ; shape w box 0 size 2 ; object a as u at 0..9 ; object b as u, w at -5..5 ; end";
+/// `n` times the piece between a front and an end.
+fn joined(
+    alloc: Global,
+    (front, n, piece, end): (&[u8], usize, &[u8], &[u8]),
+) -> Result<Vec<u8>, AllocError> {
+    let mut text = Vec::from_slice(alloc, front)?;
+    for _ in 0..n {
+        text.extend_from_slice(piece)?;
+    }
+    text.extend_from_slice(end)?;
+    Ok(text)
+}
 
 fn cut(alloc: Global, text: &[u8]) -> Result<String, TextFault> {
     let list = tokens(alloc, text)?;
@@ -65,10 +59,10 @@ fn formula(alloc: Global, text: &[u8]) -> Result<String, TextFault> {
     Ok(format!(in alloc; "{formula:?} {behind}")?)
 }
 
-fn expression(alloc: Global, text: &[u8]) -> Result<String, TextFault> {
+fn statements(alloc: Global, text: &[u8]) -> Result<String, TextFault> {
     let list = tokens(alloc, text)?;
-    let (expression, behind) = read_expr(alloc, text, list.as_slice(), 0)?;
-    Ok(format!(in alloc; "{expression:?} {behind}")?)
+    let said = read_statements(alloc, text, list.as_slice())?;
+    Ok(format!(in alloc; "{:?}", said.statements)?)
 }
 
 /// A text of bytes that are all ASCII.
@@ -80,72 +74,19 @@ fn text_of(alloc: Global, bytes: &[u8]) -> Result<String, TextFault> {
     Ok(text)
 }
 
-fn canonical(alloc: Global, text: &[u8]) -> Result<String, TextFault> {
-    let list = tokens(alloc, text)?;
-    let (formula, behind) = read_formula(alloc, text, list.as_slice(), 0)?;
-    let mut out = Vec::new(alloc);
-    if behind == list.len() {
-        print_formula(alloc, &formula, &mut out)?;
-    }
-    text_of(alloc, out.as_slice())
-}
-
-fn statements(alloc: Global, text: &[u8]) -> Result<String, TextFault> {
-    let list = tokens(alloc, text)?;
-    let said = read_statements(alloc, text, list.as_slice())?;
-    Ok(format!(in alloc; "{:?}", said.statements)?)
-}
-
 fn problem(alloc: Global, text: &[u8]) -> Result<String, TextFault> {
     let problem = read_problem(alloc, text)?;
-    let mut shown = format!(in alloc;
-        "{} {:?} {:?}",
-        problem.dims(),
-        problem.search_order(),
-        problem.sides()
-    )?;
-    for object in problem.objects() {
-        let shapes = format!(in alloc; " {:?}", object.shapes())?;
-        shown.push_str(shapes.as_str())?;
-    }
-    Ok(shown)
-}
-
-fn table(alloc: Global, text: &[u8]) -> Result<String, TextFault> {
-    let problem = read_problem(alloc, text)?;
-    let table = names(alloc, &problem)?;
-    Ok(format!(in alloc;
-        "{} {:?} {:?}",
-        table.dims(),
-        table.shapes(),
-        table.objects()
-    )?)
-}
-
-fn problem_text(alloc: Global, text: &[u8]) -> Result<String, TextFault> {
-    let problem = read_problem(alloc, text)?;
     let mut sink = CleanSink::new(alloc);
-    if print_problem(alloc, &problem, &mut sink).is_err() {
-        return Ok(String::new(alloc));
-    }
+    let _done = print_problem(alloc, &problem, &mut sink);
     text_of(alloc, sink.bytes())
 }
 
 /// The statements stand at place 62.
 fn mistake(alloc: Global, statements: &[u8]) -> Result<String, TextFault> {
     let front = b"geost 1 dims 1 shape s box 0 size 1 ; object a as s at 0..9 ; ";
-    let mut text = Vec::from_slice(alloc, front)?;
-    text.extend_from_slice(statements)?;
-    text.extend_from_slice(b" end")?;
-    let problem = read_problem(alloc, text.as_slice())?;
-    check_names(alloc, &problem)?;
+    let text = joined(alloc, (front, 1, statements, b" end"))?;
+    check_names(alloc, &read_problem(alloc, &text)?)?;
     Ok(String::from_str(alloc, "none")?)
-}
-
-fn layout(alloc: Global, problem: &[u8], text: &[u8]) -> Result<String, TextFault> {
-    let problem = read_problem(alloc, problem)?;
-    let layout = read_layout(alloc, &problem, text, 100)?;
-    Ok(format!(in alloc; "{}", layout.len())?)
 }
 
 fn answer(alloc: Global, part: Part, text: &[u8]) -> Result<String, TextFault> {
@@ -153,54 +94,47 @@ fn answer(alloc: Global, part: Part, text: &[u8]) -> Result<String, TextFault> {
         Part::Tokens => cut(alloc, text),
         Part::End => Ok(format!(in alloc; "{:?}", first_text_end(text))?),
         Part::Formula => formula(alloc, text),
-        Part::Expression => expression(alloc, text),
-        Part::Canonical => canonical(alloc, text),
         Part::Statements => statements(alloc, text),
         Part::Problem => problem(alloc, text),
-        Part::Names => table(alloc, text),
-        Part::ProblemText => problem_text(alloc, text),
         Part::Mistake => mistake(alloc, text),
-        Part::Layout => layout(alloc, TWO_BOXES, text),
-        Part::EmptyLayout => layout(alloc, b"geost 1 dims 1 end", text),
     }
 }
 
-/// The text says what is wanted, or has that fault.
-pub fn says(
-    rt: &impl Abort,
-    alloc: Global,
-    part: Part,
-    text: &[u8],
-    wanted: &str,
-) -> Result<(), Fail> {
-    let found = match answer(alloc, part, text) {
-        Ok(shown) => shown,
-        Err(fault) => format!(in alloc; "{fault:?}")?,
-    };
-    assert_eq!(rt; found.as_str(), wanted);
-    Ok(())
+/// What the text says, or its fault.
+fn said(alloc: Global, part: Part, text: &[u8]) -> Result<String, AllocError> {
+    match answer(alloc, part, text) {
+        Ok(shown) => Ok(shown),
+        Err(fault) => format!(in alloc; "{fault:?}"),
+    }
 }
 
-/// Each row has a text and what it says, or its fault.
-pub fn say(rt: &impl Abort, alloc: Global, part: Part, rows: &[(&[u8], &str)]) -> Result<(), Fail> {
-    for (text, wanted) in rows {
-        says(rt, alloc, part, text, wanted)?;
+/// What is asked, and rows of a text and what it says, or its fault.
+pub type Table = (Part, &'static [(&'static [u8], &'static str)]);
+
+/// Each text says what its row wants.
+pub fn say(rt: &impl Abort, alloc: Global, tables: &[Table]) -> Result<(), Fail> {
+    for (part, rows) in tables {
+        for (text, wanted) in *rows {
+            let found = said(alloc, *part, text)?;
+            assert!(rt; found.as_str() == *wanted, "{}", found.as_str());
+        }
     }
     Ok(())
 }
 
-/// The text of `n` times `piece` between `front` and `end` has that fault.
-pub fn repeated(
+/// A front, how often which piece comes, and an end.
+pub type Repeated = (&'static [u8], usize, &'static [u8], &'static [u8]);
+
+/// Each text says what its row wants.
+pub fn say_repeated(
     rt: &impl Abort,
     alloc: Global,
     part: Part,
-    (front, n, piece, end): (&[u8], usize, &[u8], &[u8]),
-    wanted: &str,
+    rows: &[(Repeated, &str)],
 ) -> Result<(), Fail> {
-    let mut text = Vec::from_slice(alloc, front)?;
-    for _ in 0..n {
-        text.extend_from_slice(piece)?;
+    for (pieces, wanted) in rows {
+        let text = joined(alloc, *pieces)?;
+        assert!(rt; said(alloc, part, &text)?.as_str() == *wanted);
     }
-    text.extend_from_slice(end)?;
-    says(rt, alloc, part, text.as_slice(), wanted)
+    Ok(())
 }

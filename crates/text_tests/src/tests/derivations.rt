@@ -8,7 +8,6 @@ use geo_tokens::fault::FaultWord::{self, Byte, Name, Number, Syntax, Unknown};
 use geo_tokens::fault::TextFault;
 use geo_tokens::names::Names;
 use std::alloc::{AllocError, Global};
-use std::process::Abort;
 use std::test::Fail;
 
 /// Two dimensions, and two objects, of which one has the name of a word of derivations.
@@ -46,22 +45,6 @@ const LINES: &[u8] =
 const SPELLED: &[u8] =
     b" none split a shape s # the first case\nsplit a 01 upto 4 split a 2 from - 3 drop a t by 001 raise a 1 2[s cut 1 3 by 1 by 2]lower split 2 7[s from 2 -1 by 3 by 4]\tdead 5 gone a[s by 1 t by 2]dead 2\r\ndead 0003 qed ? not looked at";
 
-#[test]
-fn derivations_are_read_in_any_pieces(rt: HostRuntime) -> Result<(), Fail> {
-    let alloc = rt.alloc();
-    let names = table(alloc)?;
-    for size in SIZES {
-        for text in [LINES, SPELLED] {
-            let Ok(read) = lines(alloc, &names, text, *size) else {
-                assert!(rt; false, "pieces of {size}");
-                continue;
-            };
-            assert!(rt; read.as_slice() == LINES, "pieces of {size}");
-        }
-    }
-    Ok(())
-}
-
 /// Texts with their first fault, and its place in the text.
 const FAULTS: &[(&[u8], u64, FaultWord)] = &[
     (b" by 1 qed", 1, Syntax),
@@ -89,21 +72,28 @@ const FAULTS: &[(&[u8], u64, FaultWord)] = &[
     (b"dead 1 qed1 qed", 7, Syntax),
 ];
 
+/// Whether a text has the lines of the two above, or its first fault.
+fn is_right(read: Result<Vec<u8>, TextFault>, fault: Option<(u64, FaultWord)>) -> bool {
+    match (read, fault) {
+        (Ok(text), None) => text.as_slice() == LINES,
+        (Err(TextFault::At(found, word)), Some((place, wanted))) => {
+            found == place.saturating_add(100) && word == wanted
+        }
+        _ => false,
+    }
+}
+
 #[test]
-fn the_first_fault_is_found_in_any_pieces(rt: HostRuntime) -> Result<(), Fail> {
-    let alloc = rt.alloc();
-    let names = table(alloc)?;
+fn derivations_are_read_in_any_pieces(rt: HostRuntime) -> Result<(), Fail> {
+    let names = table(rt.alloc())?;
     for size in SIZES {
+        for text in [LINES, SPELLED] {
+            let read = lines(rt.alloc(), &names, text, *size);
+            assert!(rt; is_right(read, None), "pieces of {size}");
+        }
         for (text, place, word) in FAULTS {
-            let fault = match lines(alloc, &names, text, *size) {
-                Ok(_) => None,
-                Err(fault) => Some(fault),
-            };
-            let wanted = TextFault::At(place.saturating_add(100), *word);
-            assert!(rt;
-                fault == Some(wanted),
-                "{text:?} in pieces of {size}: {fault:?}"
-            );
+            let read = lines(rt.alloc(), &names, text, *size);
+            assert!(rt; is_right(read, Some((*place, *word))), "pieces of {size}");
         }
     }
     Ok(())
@@ -152,7 +142,7 @@ fn answers_come_with_the_piece_that_completes_them(rt: HostRuntime) -> Result<()
     let names = table(alloc)?;
     for (pieces, wanted) in PIECES {
         let shown = answers(alloc, &names, pieces)?;
-        assert!(rt; shown.as_str() == *wanted, "{}", shown.as_str());
+        assert!(rt; shown.as_str() == *wanted);
     }
     Ok(())
 }

@@ -1,15 +1,14 @@
-//! Drawings of layouts, drawn by hand.
+//! Layout texts that are read and drawn, by hand, and their first faults.
 
-use geo_chan::{CleanSink, MemSink, PutFault};
+use geo_chan::{MemSink, PutFault};
 use geo_tokens::fault::TextFault;
-use layout_drawing::{Drawn, draw};
+use layout_drawing::{draw, drawing};
 use layout_text::read_layout;
 use problem_text::read::read_problem;
-use std::alloc::Global;
-use std::process::Abort;
+use std::alloc::{AllocError, Global};
 use std::test::Fail;
 
-/// A problem, a layout text of it, and the drawing.
+/// A problem, a layout text of it, and the drawing or the first fault.
 type Row = (&'static [u8], &'static [u8], &'static [u8]);
 
 /// Two objects of two cells on a line.
@@ -23,6 +22,10 @@ const LONG: &[u8] = b"geost 1 dims 1 shape u box 0 size 1 ; \
 /// Single cells in the plane.
 const WIDE: &[u8] = b"geost 1 dims 2 shape u box 0 0 size 1 1 ; \
     object a as u at 0..9999 0..9999 ; object b as u at 0..9999 0..9999 ; end";
+
+/// Two boxes on a line, of which the second one also has a shape of two cells.
+const TWO_BOXES: &[u8] = b"geost 1 dims 1 shape u box 0 size 1 ; shape w box 0 size 2 ; \
+    object a as u at 0..9 ; object b as u, w at -5..5 ; end";
 
 const ROWS: &[Row] = &[
     (LINE, b"layout a as s at 0 b as s at 2", b"box 0..3\naabb\n"),
@@ -76,76 +79,160 @@ const ROWS: &[Row] = &[
         b"layout a as u at 0 0 0 0",
         b"large",
     ),
+    // the first faults of layouts, of which the texts stand at the place 100
+    (
+        TWO_BOXES,
+        b"layout\na as u at 3\nb as w at -5\ntoken 1,3/2,-5\n",
+        b"box -5..3\nbb......a\n",
+    ),
+    (
+        TWO_BOXES,
+        b"layout a as u at 9 b as u at - 0",
+        b"box 0..9\nb........a\n",
+    ),
+    (
+        TWO_BOXES,
+        b"layout\nb as u at 3\na as w at -5\n",
+        b"At(107, Order)",
+    ),
+    (TWO_BOXES, b"layout\na as u at 3\n", b"At(119, Order)"),
+    (
+        TWO_BOXES,
+        b"layout\na as u at 3\ntoken 1,3\n",
+        b"At(119, Order)",
+    ),
+    (
+        TWO_BOXES,
+        b"layout\na as u at 3\nb as w at -5\nc as u at 0\n",
+        b"At(132, Order)",
+    ),
+    (
+        TWO_BOXES,
+        b"layout\na as w at 3\nb as w at -5\n",
+        b"At(112, Unknown)",
+    ),
+    (
+        TWO_BOXES,
+        b"layout\na as u at 10 4\nb as w at -5\n",
+        b"At(117, Limit)",
+    ),
+    (
+        TWO_BOXES,
+        b"layout\na as u at 10\nb as w at -6\n",
+        b"At(117, Range)",
+    ),
+    (
+        TWO_BOXES,
+        b"layout\na as u at 3\nb as w at -6\n",
+        b"At(129, Range)",
+    ),
+    (
+        TWO_BOXES,
+        b"layout\na as u at 3\nb as w at -5\ntoken 1,3/2,5\n",
+        b"At(132, Token)",
+    ),
+    (
+        TWO_BOXES,
+        b"layout\na as u at 3\nb as w at -5\ntoken -\n",
+        b"At(132, Token)",
+    ),
+    (
+        TWO_BOXES,
+        b"layout\na as u at\nb as w at -5\n",
+        b"At(117, Syntax)",
+    ),
+    (TWO_BOXES, b"", b"At(100, Syntax)"),
+    (TWO_BOXES, b"layout ?", b"At(107, Byte)"),
 ];
 
-/// The drawing, or `large`.
-fn drawing(alloc: Global, problem: &[u8], layout: &[u8]) -> Result<Vec<u8>, TextFault> {
+/// The drawing of a layout text at the place 100 of an input, or `large`.
+fn drawn(alloc: Global, problem: &[u8], layout: &[u8]) -> Result<Vec<u8>, TextFault> {
     let problem = read_problem(alloc, problem)?;
-    let layout = read_layout(alloc, &problem, layout, 0)?;
-    let mut sink = CleanSink::new(alloc);
-    match draw(alloc, &problem, &layout, &mut sink) {
-        Ok(Drawn::Done) => Ok(Vec::from_slice(alloc, sink.bytes())?),
-        Ok(Drawn::Large) => {
-            let mut text = Vec::from_slice(alloc, sink.bytes())?;
-            text.extend_from_slice(b"large")?;
-            Ok(text)
-        }
-        Err(_) => Err(TextFault::Memory),
+    let layout = read_layout(alloc, &problem, layout, 100)?;
+    match drawing(alloc, &problem, &layout)? {
+        Some(text) => Ok(text),
+        None => Ok(Vec::from_slice(alloc, b"large")?),
     }
 }
 
-fn is_drawn(rt: &impl Abort, alloc: Global, (problem, layout, wanted): Row) -> Result<(), Fail> {
-    let found = drawing(alloc, problem, layout)?;
-    assert_eq!(rt; found.as_slice(), wanted);
-    Ok(())
+/// The drawing, or the fault.
+fn answer(alloc: Global, problem: &[u8], layout: &[u8]) -> Result<Vec<u8>, AllocError> {
+    match drawn(alloc, problem, layout) {
+        Ok(text) => Ok(text),
+        Err(fault) => Ok(format!(in alloc; "{fault:?}")?.into_bytes()),
+    }
 }
 
 #[test]
-fn layouts_are_drawn(rt: HostRuntime) -> Result<(), Fail> {
-    for row in ROWS {
-        is_drawn(&rt, rt.alloc(), *row)?;
+fn layouts_are_read_and_drawn(rt: HostRuntime) -> Result<(), Fail> {
+    for (problem, layout, wanted) in ROWS {
+        assert!(rt; answer(rt.alloc(), problem, layout)?.as_slice() == *wanted);
     }
     Ok(())
 }
 
-/// The last sign and what stands in front of the million cells.
+/// A problem, a layout text of it, how many bytes the drawing has, its front and its end.
+type Long = (
+    &'static [u8],
+    &'static [u8],
+    usize,
+    &'static [u8],
+    &'static [u8],
+);
+
+/// What stands in front of about a million cells, and the last sign.
+const LONG_ROWS: &[Long] = &[
+    (
+        LONG,
+        b"layout a as u at 0 b as u at 999999",
+        14 + 1_000_000 + 1,
+        b"box 0..999999\na.........",
+        b".........b\n",
+    ),
+    (
+        WIDE,
+        b"layout a as u at 0 0 b as u at 999 999",
+        18 + 1_001_000,
+        b"box 0..999 0..999\n.........",
+        b".........\n",
+    ),
+];
+
 #[test]
 fn a_million_cells_are_drawn(rt: HostRuntime) -> Result<(), Fail> {
-    let long = drawing(rt.alloc(), LONG, b"layout a as u at 0 b as u at 999999")?;
-    assert_eq!(rt; long.len(), 14 + 1_000_000 + 1);
-    assert!(rt;
-        long.as_slice()
-            .starts_with(b"box 0..999999\na.........".as_slice())
-    );
-    assert!(rt; long.as_slice().ends_with(b".........b\n".as_slice()));
-    let wide = drawing(rt.alloc(), WIDE, b"layout a as u at 0 0 b as u at 999 999")?;
-    assert_eq!(rt; wide.len(), 18 + 1_001_000);
-    assert!(rt;
-        wide.as_slice()
-            .starts_with(b"box 0..999 0..999\n.........".as_slice())
-    );
-    assert!(rt; wide.as_slice().ends_with(b".........\n".as_slice()));
+    for (problem, layout, length, front, end) in LONG_ROWS {
+        let long = drawn(rt.alloc(), problem, layout)?;
+        let is_right = long.len() == *length && long.starts_with(front) && long.ends_with(end);
+        assert!(rt; is_right);
+    }
     Ok(())
 }
 
-/// A problem of so many single cells on a line, and the layout text that puts each at its number.
-fn in_a_row(alloc: Global, count: u8) -> Result<(String, String), Fail> {
-    let mut problem = String::from_str(alloc, "geost 1 dims 1 shape u box 0 size 1 ; ")?;
-    let mut layout = String::from_str(alloc, "layout")?;
-    for o in 0..count {
-        problem.push_str(format!(in alloc; "object o{o} as u at 0..99 ; ")?.as_str())?;
-        layout.push_str(format!(in alloc; " o{o} as u at {o}")?.as_str())?;
+/// A front, a piece for each of 64 objects with its number, and an end.
+fn numbered(
+    alloc: Global,
+    front: &str,
+    (piece, behind): (&str, &str),
+    end: &str,
+) -> Result<String, AllocError> {
+    let mut text = String::from_str(alloc, front)?;
+    for o in 0..64u8 {
+        let one = format!(in alloc; "{piece}{o} as u at {o}{behind}")?;
+        text.push_str(one.as_str())?;
     }
-    problem.push_str("end")?;
-    Ok((problem, layout))
+    text.push_str(end)?;
+    Ok(text)
 }
 
+/// Single cells on a line, each at its number.
 #[test]
 fn signs_begin_again_behind_the_digits(rt: HostRuntime) -> Result<(), Fail> {
-    let (problem, layout) = in_a_row(rt.alloc(), 64)?;
-    let found = drawing(rt.alloc(), problem.as_bytes(), layout.as_bytes())?;
+    let front = "geost 1 dims 1 shape u box 0 size 1 ; ";
+    let problem = numbered(rt.alloc(), front, ("object o", "..99 ; "), "end")?;
+    let layout = numbered(rt.alloc(), "layout", (" o", ""), "")?;
+    let found = drawn(rt.alloc(), problem.as_bytes(), layout.as_bytes())?;
     let wanted = b"box 0..63\nabcdefghijklmnopqrstuvwxyzABCDEFGHIJKLMNOPQRSTUVWXYZ0123456789ab\n";
-    assert_eq!(rt; found.as_slice(), wanted.as_slice());
+    assert!(rt; found.as_slice() == wanted.as_slice());
     Ok(())
 }
 
@@ -155,8 +242,10 @@ fn a_fault_leaves_the_front_of_a_drawing(rt: HostRuntime) -> Result<(), Fail> {
     let problem = read_problem(rt.alloc(), LINE)?;
     let layout = read_layout(rt.alloc(), &problem, b"layout a as s at 0 b as s at 2", 0)?;
     let mut sink = MemSink::new(rt.alloc(), 5, vec![in rt.alloc(); 2]?);
-    let answer = draw(rt.alloc(), &problem, &layout, &mut sink);
-    assert_eq!(rt; answer, Err(PutFault::Failed));
-    assert_eq!(rt; sink.bytes(), b"box 0".as_slice());
+    let failed = matches!(
+        draw(rt.alloc(), &problem, &layout, &mut sink),
+        Err(PutFault::Failed)
+    );
+    assert!(rt; failed && sink.bytes() == b"box 0".as_slice());
     Ok(())
 }

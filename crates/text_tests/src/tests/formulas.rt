@@ -1,6 +1,6 @@
-//! Formulas and expressions with the trees, the faults and the places that the format says, and their canonical texts.
+//! Formulas and their expressions with the trees, the faults and the places that the format says.
 
-use super::answer::{Part, repeated, say, says};
+use super::answer::{Part, Repeated, say, say_repeated};
 use std::test::Fail;
 
 /// Texts with their formula and the number of the token behind it, or the first wrong token.
@@ -32,37 +32,23 @@ const FORMULAS: &[(&[u8], &str)] = &[
     (b"forall p in objects true", "At(20, Syntax)"),
     (b"a div b = 0", "At(6, Syntax)"),
     (b"", "At(0, Syntax)"),
-];
-
-/// The same of expressions.
-const EXPRESSIONS: &[(&[u8], &str)] = &[
     (
-        b"1 - (2 + 3) * -4 mod 05 ]",
-        "Sum(0, Num(0, 1), [Minus(Prod(4, Sum(5, Num(5, 2), [Plus(Num(9, 3))]), [Times(Neg(14, Num(15, 4))), Mod(21, 5)]))]) 12",
+        b"1 - (2 + 3) * -4 mod 05 = 0 ]",
+        "Compare(0, Sum(0, Num(0, 1), [Minus(Prod(4, Sum(5, Num(5, 2), [Plus(Num(9, 3))]), [Times(Neg(14, Num(15, 4))), Mod(21, 5)]))]), Eq, Num(26, 0)) 14",
     ),
     (
-        b"max(6 div 2, min(7, 8)) div 9",
-        "Prod(0, Max(0, Prod(4, Num(4, 6), [Div(10, 2)]), Min(13, Num(17, 7), Num(20, 8))), [Div(28, 9)]) 15",
+        b"max(6 div 2, min(7, 8)) div 9 = 0",
+        "Compare(0, Prod(0, Max(0, Prod(4, Num(4, 6), [Div(10, 2)]), Min(13, Num(17, 7), Num(20, 8))), [Div(28, 9)]), Eq, Num(32, 0)) 17",
     ),
     (
-        b"a.x1 < 3",
-        "Field(PlacedName { place: 0, name: Name { bytes: [97] } }, 1, PlacedName { place: 2, name: Name { bytes: [120, 49] } }) 3",
-    ),
-    (
-        b"$m((1), shape s)",
-        "CallValue(0, PlacedName { place: 1, name: Name { bytes: [109] } }, [Argument { place: 3, value: Num(4, 1) }, Argument { place: 8, value: ShapeNum(8, PlacedName { place: 14, name: Name { bytes: [115] } }) }]) 10",
+        b"$m((1), shape s) = 0",
+        "Compare(0, CallValue(0, PlacedName { place: 1, name: Name { bytes: [109] } }, [Argument { place: 3, value: Num(4, 1) }, Argument { place: 8, value: ShapeNum(8, PlacedName { place: 14, name: Name { bytes: [115] } }) }]), Eq, Num(19, 0)) 12",
     ),
     (b"a.x1 + ;", "At(7, Syntax)"),
 ];
 
-#[test]
-fn formulas_and_expressions_are_read(rt: HostRuntime) -> Result<(), Fail> {
-    say(&rt, rt.alloc(), Part::Formula, FORMULAS)?;
-    say(&rt, rt.alloc(), Part::Expression, EXPRESSIONS)
-}
-
 /// What stands before, how often which piece comes, and what stands behind.
-const LEVELS: &[((&[u8], usize, &[u8], &[u8]), &str)] = &[
+const LEVELS: &[(Repeated, &str)] = &[
     ((b"", 65, b"[", b";"), "At(64, Deep)"),
     ((b"", 64, b"[", b";"), "At(64, Syntax)"),
     ((b"", 64, b"[", b"@f("), "At(66, Deep)"),
@@ -76,42 +62,11 @@ const LEVELS: &[((&[u8], usize, &[u8], &[u8]), &str)] = &[
 ];
 
 #[test]
-fn sixty_four_levels_may_be_open(rt: HostRuntime) -> Result<(), Fail> {
-    for (text, wanted) in LEVELS {
-        repeated(&rt, rt.alloc(), Part::Formula, *text, wanted)?;
-    }
-    Ok(())
+fn formulas_are_read(rt: HostRuntime) -> Result<(), Fail> {
+    say(&rt, rt.alloc(), &[(Part::Formula, FORMULAS)])
 }
 
-/// Texts of formulas, each with its canonical one.
-const CANONICAL: &[(&[u8], &str)] = &[
-    (
-        b"[[a<1]] and [b<2 and [true]] or [[false or true]]",
-        "a < 1 and [ b < 2 and true ] or [ false or true ]",
-    ),
-    (
-        b"[true iff false] implies [not [true]] iff [true implies true]",
-        "[ true iff false ] implies not true iff true implies true",
-    ),
-    (
-        b"((1+2)+3)-((4*5)*(6)) mod 07 <= -(-(8+a.x1))",
-        "((1 + 2) + 3) - ((4 * 5) * 6) mod 7 <= - - (8 + a.x1)",
-    ),
-    (
-        b"forall p in objects(a,b):exists t in boxes of p:[@ m( p , -1 )or $v ( )!=min( (1),max(2,shape s) )]",
-        "forall p in objects (a, b) : exists t in boxes of p : [ @m(p, - 1) or $v() != min(1, max(2, shape s)) ]",
-    ),
-    (
-        b"atleast 002 p in objects : not atmost 1 q in objects : p . x1>=(q.x1)",
-        "atleast 2 p in objects : not atmost 1 q in objects : p.x1 >= q.x1",
-    ),
-];
-
 #[test]
-fn formulas_have_one_canonical_text(rt: HostRuntime) -> Result<(), Fail> {
-    say(&rt, rt.alloc(), Part::Canonical, CANONICAL)?;
-    for (_, wanted) in CANONICAL {
-        says(&rt, rt.alloc(), Part::Canonical, wanted.as_bytes(), wanted)?;
-    }
-    Ok(())
+fn sixty_four_levels_may_be_open(rt: HostRuntime) -> Result<(), Fail> {
+    say_repeated(&rt, rt.alloc(), Part::Formula, LEVELS)
 }

@@ -93,7 +93,10 @@ const RIGHT: &[(&[u8], &str)] = &[
 
 #[test]
 fn names_and_kinds_are_checked(rt: HostRuntime) -> Result<(), Fail> {
-    say(&rt, rt.alloc(), Part::Mistake, NAMES)?;
-    say(&rt, rt.alloc(), Part::Mistake, KINDS)?;
-    say(&rt, rt.alloc(), Part::Mistake, RIGHT)
+    let tables = [
+        (Part::Mistake, NAMES),
+        (Part::Mistake, KINDS),
+        (Part::Mistake, RIGHT),
+    ];
+    say(&rt, rt.alloc(), &tables)
 }

@@ -3,11 +3,11 @@
 use super::answer::{Part, say};
 use std::test::Fail;
 
-/// Texts with what the problem has, or the first fault.
+/// Texts with the canonical one, or the first fault.
 const PROBLEMS: &[(&[u8], &str)] = &[
     (
         b"geost 01 dims 1 object a as t, s at 0..3 ; shape s box 0 size 2 ; object b as s at 0..3 ; shape t box -1 size 1 ; order b, a ; sides high ; end",
-        "1 [1, 0] [High] [1, 0] [0]",
+        "geost 1 dims 1\nshape s box 0 size 2 ;\nshape t box -1 size 1 ;\nobject a as t, s at 0..3 ;\nobject b as s at 0..3 ;\norder b, a ;\nsides high ;\nend\n",
     ),
     (b"", "At(0, Syntax)"),
     (
@@ -50,23 +50,62 @@ const PROBLEMS: &[(&[u8], &str)] = &[
         b"geost 1 dims 1 shape s box 0 size 2 ; object a as s at 0..3 ; object b as s at 0..3 ; order a, b ; order b ; end",
         "At(99, Twice)",
     ),
+    (
+        b"geost 01 dims 1 object a as t,s at -3..4 with w=-2; shape s box 0 size 2; shape t box -1 size 1; end",
+        "geost 1 dims 1\nshape s box 0 size 2 ;\nshape t box -1 size 1 ;\nobject a as t, s at -3..4 with w = -2 ;\nend\n",
+    ),
+    (
+        b"geost 1 dims 1 shape f box 0 size 2 ; object b as t, f at 0..1 ; shape t box 0 size 1 ; object a as t at 0..1 ; end",
+        "geost 1 dims 1\nshape f box 0 size 2 ;\nshape t box 0 size 1 ;\nobject b as t, f at 0..1 ;\nobject a as t at 0..1 ;\nend\n",
+    ),
 ];
 
-/// A text with its names, in file order.
-const NAMES: &[(&[u8], &str)] = &[(
-    b"geost 1 dims 1 shape f box 0 size 2 ; object b as t, f at 0..1 ; shape t box 0 size 1 ; object a as t at 0..1 ; end",
-    "1 [Name { bytes: [102] }, Name { bytes: [116] }] [NamedObject { name: Name { bytes: [98] }, shapes: [1, 0] }, NamedObject { name: Name { bytes: [97] }, shapes: [1] }]",
-)];
-
-/// A text with the canonical one.
-const CANONICAL: &[(&[u8], &str)] = &[(
-    b"geost 01 dims 1 object a as t,s at -3..4 with w=-2; shape s box 0 size 2; shape t box -1 size 1; end",
-    "geost 1 dims 1\nshape s box 0 size 2 ;\nshape t box -1 size 1 ;\nobject a as t, s at -3..4 with w = -2 ;\nend\n",
-)];
+/// Texts of problems whose rules are formulas, each with its canonical one, which is its own.
+const FORMULAS: &[(&[u8], &str)] = &[
+    (
+        b"geost 1 dims 1 rule r:[[a<1]] and [b<2 and [true]] or [[false or true]];end",
+        "geost 1 dims 1\nrule r : a < 1 and [ b < 2 and true ] or [ false or true ] ;\nend\n",
+    ),
+    (
+        b"geost 1 dims 1\nrule r : a < 1 and [ b < 2 and true ] or [ false or true ] ;\nend\n",
+        "geost 1 dims 1\nrule r : a < 1 and [ b < 2 and true ] or [ false or true ] ;\nend\n",
+    ),
+    (
+        b"geost 1 dims 1 rule r:[true iff false] implies [not [true]] iff [true implies true];end",
+        "geost 1 dims 1\nrule r : [ true iff false ] implies not true iff true implies true ;\nend\n",
+    ),
+    (
+        b"geost 1 dims 1\nrule r : [ true iff false ] implies not true iff true implies true ;\nend\n",
+        "geost 1 dims 1\nrule r : [ true iff false ] implies not true iff true implies true ;\nend\n",
+    ),
+    (
+        b"geost 1 dims 1 rule r:((1+2)+3)-((4*5)*(6)) mod 07 <= -(-(8+a.x1));end",
+        "geost 1 dims 1\nrule r : ((1 + 2) + 3) - ((4 * 5) * 6) mod 7 <= - - (8 + a.x1) ;\nend\n",
+    ),
+    (
+        b"geost 1 dims 1\nrule r : ((1 + 2) + 3) - ((4 * 5) * 6) mod 7 <= - - (8 + a.x1) ;\nend\n",
+        "geost 1 dims 1\nrule r : ((1 + 2) + 3) - ((4 * 5) * 6) mod 7 <= - - (8 + a.x1) ;\nend\n",
+    ),
+    (
+        b"geost 1 dims 1 rule r:forall p in objects(a,b):exists t in boxes of p:[@ m( p , -1 )or $v ( )!=min( (1),max(2,shape s) )];end",
+        "geost 1 dims 1\nrule r : forall p in objects (a, b) : exists t in boxes of p : [ @m(p, - 1) or $v() != min(1, max(2, shape s)) ] ;\nend\n",
+    ),
+    (
+        b"geost 1 dims 1\nrule r : forall p in objects (a, b) : exists t in boxes of p : [ @m(p, - 1) or $v() != min(1, max(2, shape s)) ] ;\nend\n",
+        "geost 1 dims 1\nrule r : forall p in objects (a, b) : exists t in boxes of p : [ @m(p, - 1) or $v() != min(1, max(2, shape s)) ] ;\nend\n",
+    ),
+    (
+        b"geost 1 dims 1 rule r:atleast 002 p in objects : not atmost 1 q in objects : p . x1>=(q.x1);end",
+        "geost 1 dims 1\nrule r : atleast 2 p in objects : not atmost 1 q in objects : p.x1 >= q.x1 ;\nend\n",
+    ),
+    (
+        b"geost 1 dims 1\nrule r : atleast 2 p in objects : not atmost 1 q in objects : p.x1 >= q.x1 ;\nend\n",
+        "geost 1 dims 1\nrule r : atleast 2 p in objects : not atmost 1 q in objects : p.x1 >= q.x1 ;\nend\n",
+    ),
+];
 
 #[test]
 fn problems_are_read(rt: HostRuntime) -> Result<(), Fail> {
-    say(&rt, rt.alloc(), Part::Problem, PROBLEMS)?;
-    say(&rt, rt.alloc(), Part::Names, NAMES)?;
-    say(&rt, rt.alloc(), Part::ProblemText, CANONICAL)
+    let tables = [(Part::Problem, PROBLEMS), (Part::Problem, FORMULAS)];
+    say(&rt, rt.alloc(), &tables)
 }

@@ -1,6 +1,6 @@
 //! Statements with the trees and the places that the format says, and the places of first faults.
 
-use super::answer::{Part, repeated, say};
+use super::answer::{Part, Repeated, say, say_repeated};
 use std::test::Fail;
 
 /// Texts with their statements, of which the first begins at place 15, or the first wrong token.
@@ -58,19 +58,34 @@ const STATEMENTS: &[(&[u8], &str)] = &[
     (b"geost 1 dims 1 end end", "At(19, Syntax)"),
 ];
 
+/// The text of a rule has minus signs in front of its first number, the first at place 24.
+const LEVELS: &[(Repeated, &str)] = &[
+    (
+        (
+            b"geost 1 dims 1 rule r : ",
+            64,
+            b"- ",
+            b"1 <= a.x1 ; end end",
+        ),
+        "At(168, Syntax)",
+    ),
+    (
+        (
+            b"geost 1 dims 1 rule r : ",
+            65,
+            b"- ",
+            b"1 <= a.x1 ; end end",
+        ),
+        "At(152, Deep)",
+    ),
+];
+
 #[test]
 fn statements_are_read(rt: HostRuntime) -> Result<(), Fail> {
-    say(&rt, rt.alloc(), Part::Statements, STATEMENTS)
+    say(&rt, rt.alloc(), &[(Part::Statements, STATEMENTS)])
 }
 
-/// The text of a rule has minus signs in front of its first number, the first at place 24.
 #[test]
 fn sixty_four_levels_may_be_open(rt: HostRuntime) -> Result<(), Fail> {
-    let front = b"geost 1 dims 1 rule r : ".as_slice();
-    let end = b"1 <= a.x1 ; end end".as_slice();
-    for (n, wanted) in [(64, "At(168, Syntax)"), (65, "At(152, Deep)")] {
-        let text = (front, n, b"- ".as_slice(), end);
-        repeated(&rt, rt.alloc(), Part::Statements, text, wanted)?;
-    }
-    Ok(())
+    say_repeated(&rt, rt.alloc(), Part::Statements, LEVELS)
 }

@@ -1,10 +1,6 @@
-//! Tokens and faults that the format says of texts, the spellings of words, and a table of names.
+//! Tokens and faults that the format says of texts.
 
 use super::answer::{Part, say};
-use geo_tokens::fault::{FaultWord, fault_text};
-use geo_tokens::names::Names;
-use geo_tokens::token::{Keyword, Sym, symbol_text, word_text};
-use std::alloc::{AllocError, Global};
 use std::test::Fail;
 
 /// Texts with their tokens, or the first wrong one.
@@ -70,37 +66,6 @@ const ENDS: &[(&[u8], &str)] = &[
 
 #[test]
 fn texts_are_cut_into_tokens(rt: HostRuntime) -> Result<(), Fail> {
-    say(&rt, rt.alloc(), Part::Tokens, TOKENS)?;
-    say(&rt, rt.alloc(), Part::End, ENDS)
-}
-
-/// Two shapes, and an object that has both.
-fn table(alloc: Global) -> Result<Names, AllocError> {
-    let mut names = Names::new(alloc, 3);
-    names.add_shape(b"s")?;
-    names.add_shape(b"t")?;
-    names.add_object(b"a", &[1, 0])?;
-    Ok(names)
-}
-
-#[test]
-fn shapes_of_an_object_are_named_by_their_numbers(rt: HostRuntime) -> Result<(), Fail> {
-    let alloc = rt.alloc();
-    let names = table(alloc)?;
-    let shown = format!(in alloc;
-        "{} {} {:?}",
-        names.dims(),
-        names.shapes().len(),
-        names.objects()
-    )?;
-    let wanted = "3 2 [NamedObject { name: Name { bytes: [97] }, shapes: [1, 0] }]";
-    assert!(rt; shown.as_str() == wanted);
-    Ok(())
-}
-
-#[test]
-fn words_are_spelled_as_the_format_says(rt: HostRuntime) {
-    assert!(rt; word_text(Keyword::ForAll) == b"forall".as_slice());
-    assert!(rt; symbol_text(Sym::NotEqual) == b"!=".as_slice());
-    assert!(rt; fault_text(FaultWord::Overflow) == b"overflow".as_slice());
+    let tables = [(Part::Tokens, TOKENS), (Part::End, ENDS)];
+    say(&rt, rt.alloc(), &tables)
 }
