@@ -46,8 +46,9 @@ pub fn carry_out_all<S: Source, W: Sink>(
     source: &mut S,
     sink: &mut W,
 ) -> Status
-    ensures ends { let answer = AllAnswer page.entry.most page.entry.budget (option_copied page.entry.token) in
-        Ends answer (FrontOf answer)
+    ensures ends { Ends
+        (AllAnswer page.entry.most page.entry.budget (option_copied page.entry.token))
+        (FrontOf (AllAnswer page.entry.most page.entry.budget (option_copied page.entry.token)))
         (S.left source.old) (S.faults source.old) (S.faults source.new)
         (W.written sink.old) (W.written sink.new) (W.faults sink.old) (W.faults sink.new) result }
     ensures most { TakesAtMost 1048577 (S.left source.old) (S.left source.new) }
