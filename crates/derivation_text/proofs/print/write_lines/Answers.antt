@@ -13,8 +13,12 @@ returns-in_err-gather_line g c =
     let p = err_from_is_err_and c.from_residual.result c.from_residual.ensures.1 in
     let done = c.loop-e.invariant.done in
     let page = c.loop-e.page in
-    let next = lines_step c.args.names.now c.loop-e.o.0 c.args.events.now c.loop-e.e-index (SplitShape (record { 0 = 0 }) 0) (omega arith) in
-    rw (p.1, p.2) (wrote_err _ _ _ _ _ _ _ _ _ _ _ _ _ _ done.2 c.in_err-gather_line.ensures (done.1 ∙ ap (λ (z : List ℕ). done.0 ++ z) (ap (λ (z : List ℕ). page ++ z) next ∙ sym (append_assoc page _ _))))
+    let n = c.args.names.now in
+    let o = c.loop-e.o.0 in
+    let some : Event = SplitShape (record { 0 = 0 }) 0 in
+    let e : Event = get_or c.args.events.now c.loop-e.e-index some in
+    let next = lines_step n o c.args.events.now c.loop-e.e-index some (omega arith) in
+    rw (p.1, p.2) (wrote_err _ _ _ _ _ _ _ _ _ _ _ _ _ _ done.2 c.in_err-gather_line.ensures (done.1 ∙ ap (λ (z : List ℕ). done.0 ++ z) (ap (λ (z : List ℕ). page ++ z) next ∙ sym (append_assoc page (line_of n o e) (lines_of n (listed o e) (drop (c.loop-e.e-index + 1) c.args.events.now))))))
 
 pub loop-e-preserved : goal.loop-e-preserved
 loop-e-preserved g c =
