@@ -2,6 +2,7 @@
 #![tactic(auto)]
 
 mod naming;
+mod page;
 mod print;
 
 pub use naming::all_named;

@@ -2,8 +2,10 @@
 
 ghost use Rattle.std.specs.Prelude.{◌≡◌, ◌+◌, ◌≤◌, ◌<◌, ℤ, pos, codes, length};
 ghost use Rattle.derivation_text.specs.Lines.{object_name as object_name_of, shape_name as shape_name_of, coordinate_line, shape_line, cut_line, number_line, gone_line, cover_line, line_of, lines_of, listed, derivation_text, HasShape, IsNamed, AreNamed};
+ghost use Rattle.derivation_text.specs.Gathering.{Gathers};
 ghost use Rattle.geo_chan.specs.Written.{Prints};
 
+use crate::page::Page;
 use derivation::{Event, Log};
 use geo_chan::{Piece, PutFault, Sink, write_all_bytes, write_pieces};
 use geo_conditions::ObjId;
@@ -215,10 +217,32 @@ fn write_lines<W: Sink>(names: &Names, events: &[Event], sink: &mut W) -> Result
     ensures { Prints W.written W.faults W.quiet sink.old sink.new result
         (lines_of names.now 0 events.now) }
 {
+    let mut page = Page::new();
     let mut o = ObjId(0);
     for e in events {
-        write_line(names, o, *e, sink)?;
+        gather_line(names, o, *e, &mut page, sink)?;
         o = listed(o, *e);
     }
-    Ok(())
+    write_all_bytes(sink, page.bytes())
+}
+
+// Puts the line of an event behind what the page holds. Where it has no room for the whole line, both are written.
+fn gather_line<W: Sink>(
+    names: &Names,
+    o: ObjId,
+    e: Event,
+    page: &mut Page,
+    sink: &mut W,
+) -> Result<(), PutFault>
+    requires named { IsNamed names.now o.0 e }
+    ensures { Gathers W.written W.faults W.quiet sink.old sink.new page.old page.new result
+        (line_of names.now o.0 e) }
+{
+    let held = page.bytes().len();
+    if write_line(names, o, e, page).is_ok() {
+        return Ok(());
+    }
+    write_all_bytes(sink, &page.bytes()[..held])?;
+    page.clear();
+    write_line(names, o, e, sink)
 }
