@@ -2,7 +2,6 @@
 #![tactic(auto)]
 
 mod naming;
-mod page;
 mod print;
 
 pub use naming::all_named;

@@ -5,9 +5,8 @@ ghost use Rattle.derivation_text.specs.Lines.{object_name as object_name_of, sha
 ghost use Rattle.derivation_text.specs.Gathering.{Gathers};
 ghost use Rattle.geo_chan.specs.Written.{Prints};
 
-use crate::page::Page;
 use derivation::{Event, Log};
-use geo_chan::{Piece, PutFault, Sink, write_all_bytes, write_pieces};
+use geo_chan::{Page, Piece, PutFault, Sink, write_all_bytes, write_pieces};
 use geo_conditions::ObjId;
 use geo_tokens::names::Names;
 

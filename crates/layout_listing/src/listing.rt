@@ -2,14 +2,16 @@
 
 ghost use Rattle.std.specs.Prelude.{◌≡◌, ◌≤◌, ◌<◌, ◌^◌, IfSome, None};
 ghost use Rattle.std.specs.Option.{option_copied};
-ghost use Rattle.problem_data.specs.Cells.{IsTuple};
+ghost use Rattle.geo_chan.specs.Written.{Prints};
+ghost use Rattle.layout_text.specs.Block.{block_of};
+ghost use Rattle.problem_data.specs.Cells.{IsShaped, IsTuple};
 ghost use Rattle.layout_search.specs.FirstLayout.{AreConditionsOf, walk_after};
 ghost use Rattle.layout_listing.specs.Page.{IsWalkOf, WritesPage};
 
 use derivation::NoRecord;
 use fixpoint::Fixpoint;
 use geo_base::MAX_DIMS;
-use geo_chan::{PutFault, Sink};
+use geo_chan::{Page, PutFault, Sink, write_all_bytes};
 use geo_conditions::{Cond, Layout};
 use layout_search::{found_layout, start_search};
 use layout_text::print_layout;
@@ -101,7 +103,7 @@ fn write_layouts<const K: usize, W: Sink>(
         match search.next() {
             Step::Found => {
                 let layout = found_layout(alloc, problem, search)?;
-                print_layout(problem, &layout, sink)?;
+                write_block(problem, &layout, sink)?;
             }
             Step::Ended => return Ok(Ending::End),
             Step::Budget => return Ok(Ending::OutOfBudget),
@@ -109,4 +111,17 @@ fn write_layouts<const K: usize, W: Sink>(
         }
     }
     Ok(Ending::More)
+}
+
+// Writes the block of a layout: in one piece, where a page has room for it.
+fn write_block<W: Sink>(problem: &Problem, layout: &Layout, sink: &mut W) -> Result<(), PutFault>
+    requires { IsShaped problem.now layout.now }
+    ensures { Prints W.written W.faults W.quiet sink.old sink.new result
+        (block_of problem.now layout.now) }
+{
+    let mut page = Page::new();
+    match print_layout(problem, layout, &mut page) {
+        Ok(()) => write_all_bytes(sink, page.bytes()),
+        Err(_) => print_layout(problem, layout, sink),
+    }
 }

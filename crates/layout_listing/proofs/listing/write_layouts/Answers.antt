@@ -29,8 +29,8 @@ found_layout-requires g c =
     let same = c.in-Found.ensures.steps.0 in
     (omega arith, (omega arith, (c.requires.k, (c.requires.dims, (ap (λ (V : Tree). V.first) (same ∙ h.walk ∙ e), found-tuple c.args.problem.now cs past c.is_said.ensures.formed are.fit a b (h.walk ∙ e) same step)))))
 
-pub print_layout-requires : goal.print_layout-requires
-print_layout-requires g c = record { layout = shaped-tuple c.args.problem.now c.in_ok-layout-in-Found.layout c.in_ok-layout-in-Found.ensures.1 }
+pub write_block-requires : goal.write_block-requires
+write_block-requires g c = shaped-tuple c.args.problem.now c.in_ok-layout-in-Found.layout c.in_ok-layout-in-Found.ensures.1
 
 pub returns-in_err-layout-in-Found : goal.returns-in_err-layout-in-Found
 returns-in_err-layout-in-Found g c =
@@ -42,8 +42,8 @@ returns-in_err-layout-in-Found g c =
     let x = err_from_is_err_and c.from_residual.result c.from_residual.ensures.1 in
     rw (x.1, x.2) (page-wanting p a.walk c.args.most a.budget _ _ _ _ _ _ ts c.listing.invariant.3 r.0 r.1 r.2)
 
-pub returns-in_err-print_layout-in-Found : goal.returns-in_err-print_layout-in-Found
-returns-in_err-print_layout-in-Found g c =
+pub returns-in_err-write_block-in-Found : goal.returns-in_err-write_block-in-Found
+returns-in_err-write_block-in-Found g c =
     let p = c.args.problem.now in
     let a = c.args.search.now in
     let b = c.next.new.self in
@@ -55,8 +55,8 @@ returns-in_err-print_layout-in-Found g c =
     let m = one-more p a.walk a.budget c.is_said.ensures.formed c.requires.walk c.listing.search b ts t h steps.0 steps.1 (answered c.listing.search b _ h.over steps) c.in_ok-layout-in-Found.ensures.1 c.in_ok-layout-in-Found.ensures.0 in
     let r = listed-on p a.walk a.budget c.is_said.ensures.formed c.requires.walk c.args.most b (ts ++ t ∷ []) m (omega (arith, size, c.listing-test.true, length-append ts (t ∷ []))) in
     let page : IsPage p a.walk c.args.most a.budget (ts ++ t ∷ r.0) r.1 = subst (λ (us : List Tuple). IsPage p a.walk c.args.most a.budget us r.1) (append_assoc ts (t ∷ []) r.0) r.2 in
-    let x = err_from_is_err_and c.from_residual-in_err-print_layout-in-Found.result c.from_residual-in_err-print_layout-in-Found.ensures.1 in
-    rw (x.1, x.2) (page-cut p a.walk c.args.most a.budget _ _ _ _ _ _ ts c.listing.invariant.3 _ _ _ _ t r.0 r.1 c.in_err-print_layout-in-Found.ensures page)
+    let x = err_from_is_err_and c.from_residual-in_err-write_block-in-Found.result c.from_residual-in_err-write_block-in-Found.ensures.1 in
+    rw (x.1, x.2) (page-cut p a.walk c.args.most a.budget _ _ _ _ _ _ ts c.listing.invariant.3 _ _ _ _ t r.0 r.1 c.in_err-write_block-in-Found.ensures page)
 
 pub returns-in-Ended : goal.returns-in-Ended
 returns-in-Ended g c =
@@ -95,7 +95,7 @@ listing-preserved g c =
       ts ++ t ∷ [],
       omega (arith, size, length-append ts (t ∷ [])),
       one-more p a.walk a.budget c.is_said.ensures.formed c.requires.walk c.listing.search b ts t h steps.0 steps.1 (answered c.listing.search b _ h.over steps) c.in_ok-layout-in-Found.ensures.1 c.in_ok-layout-in-Found.ensures.0,
-      wrote_ok _ _ _ _ _ _ _ _ _ _ _ _ _ c.listing.invariant.3 c.in_ok-print_layout-in-Found.ensures (flat_map-append (block_of p) ts (t ∷ []) ∙ ap (λ (x : List _). blocks_of p ts ++ x) (append-nil (block_of p t))),
+      wrote_ok _ _ _ _ _ _ _ _ _ _ _ _ _ c.listing.invariant.3 c.in_ok-write_block-in-Found.ensures (flat_map-append (block_of p) ts (t ∷ []) ∙ ap (λ (x : List _). blocks_of p ts ++ x) (append-nil (block_of p t))),
     )
 
 pub returns : goal.returns

@@ -1,14 +1,14 @@
-// A page that lines are gathered on before they are put.
+//! A page that bytes are gathered on before they are put.
 
 ghost use Rattle.std.specs.Prelude.{◌≡◌, [], length};
 
-use geo_chan::{PutFault, Sink};
+use crate::{PutFault, Sink};
 use std::marker::Model;
 
-// How many bytes a page has room for.
+/// How many bytes a page has room for.
 const PAGE: usize = 4096;
 
-// Bytes that are held on the stack. A full page takes no more.
+/// Bytes that are held on the stack, 4,096 at most. It is a sink without faults; where it has no room left, it answers want of memory.
 #[derive(Drop)]
 pub struct Page {
     bytes: [u8; PAGE],
@@ -26,7 +26,7 @@ impl Model for Page {
 }
 
 impl Page {
-    // A page that holds nothing.
+    /// A page that holds nothing.
     pub fn new() -> Page
         ensures { result ≡ [] }
     {
@@ -36,14 +36,14 @@ impl Page {
         }
     }
 
-    // What it holds.
+    /// What it holds.
     pub fn bytes(&self) -> &[u8]
         ensures { result.now ≡ self.now }
     {
         &self.bytes[..self.len]
     }
 
-    // Lets go of what it holds.
+    /// Lets go of what it holds.
     pub fn clear(&mut self)
         ensures { self.new ≡ [] }
     {
