@@ -1,18 +1,20 @@
 -- A page after the last layout of another goes on where that one ends.
-use Rattle.std.proofs.Common.{◌≡◌, ◌≢◌, ◌+◌, ℕ, zero, suc, ℤ, Bool, true, false, Contains, AllPairs, List, [], ◌∷◌, ◌++◌, length, take, drop, get_or, refl, sym, ap, ◌∙◌, subst, inl, inr, arith}
+use Rattle.std.proofs.Common.{◌≡◌, ◌≢◌, ◌+◌, ◌-◌, ◌<◌, ◌≤◌, ℕ, zero, suc, ℤ, Bool, true, false, Contains, AllPairs, List, [], ◌∷◌, ◌++◌, length, take, drop, get_or, refl, sym, ap, ◌∙◌, subst, inl, inr, IfSome, arith}
 use Rattle.std.specs.Prelude.{◌⊎◌, filter, if◌then◌else◌}
 use Rattle.std.specs.List.{All}
 use Rattle.std.proofs.lemmas.Bool.Decides.{nat_tests}
 use Rattle.std.proofs.lemmas.Bool.{cases_Bool}
 use Rattle.std.proofs.lemmas.Int.{ints}
-use Rattle.std.proofs.lemmas.List.{take_all, take-append-drop, take-append-le, length-take, length-append, append_assoc}
-use Rattle.std.proofs.lemmas.List.Elements.{All-filter, All-head, All-tail, filter-append, filter_passes}
+use Rattle.std.proofs.lemmas.List.{take_all, take-take, take-append-drop, take-append-le, length-take, length-append, append_assoc, get_or_append_left}
+use Rattle.std.proofs.lemmas.List.Elements.{All-filter, All-head, All-tail, Contains-append_cases, filter-append, filter_passes}
 use Rattle.std.proofs.lemmas.List.Kept.{AllPairs-filter}
 use Rattle.std.proofs.lemmas.Option.{IfSome_then}
 use Rattle.std.proofs.Math.Seq.{take-append-add}
-use Rattle.geo_conditions.specs.Walk.{Variable, PlaceOf, CoordinateOf, IsBefore, Tree, Precedes, IsIn, IsWalk, is_full, EndWord, More, End, OutOfBudget, IsListing, IsEndWord, Lists}
+use Rattle.geo_conditions.specs.declared.cond.Cond.{Cond}
+use Rattle.geo_conditions.specs.Reach.{State}
+use Rattle.geo_conditions.specs.Walk.{Variable, PlaceOf, CoordinateOf, IsBefore, Begins, IsMember, IsAfter, Tree, Precedes, IsIn, IsWalk, is_full, EndWord, More, End, OutOfBudget, IsListing, IsEndWord, Lists}
 use Rattle.geo_conditions.proofs.Beginnings.{listing_follows}
-use Rattle.geo_conditions.proofs.Fronts.{precedes_once}
+use Rattle.geo_conditions.proofs.Fronts.{before_once, precedes_once}
 use Rattle.walk_listings.specs.Laws.{past}
 use Rattle.walk_listings.proofs.Listings.{lists_listing}
 
@@ -40,6 +42,15 @@ precedes_then (x ∷ xs) (u ∷ q) (v ∷ r) (w ∷ s) (inr h) (inr k) = inr (h.
 all_back : {X : Type 0} (P : X → Type 0) (xs ys : List X) → All P (xs ++ ys) → All P ys
 all_back P [] ys h = h
 all_back P (x ∷ xs) ys h = all_back P xs ys (All-tail P x (xs ++ ys) h)
+
+pairs_back : {X : Type 0} (R : X → X → Type 0) (xs ys : List X) → AllPairs R (xs ++ ys) → AllPairs R ys
+pairs_back R [] ys h = h
+pairs_back R (x ∷ xs) ys h = pairs_back R xs ys (λ i j d l b. h (suc i) (suc j) d (omega arith) (omega arith))
+
+pairs_front : {X : Type 0} (R : X → X → Type 0) (xs ys : List X) → AllPairs R (xs ++ ys) → AllPairs R xs
+pairs_front R xs ys h i j d l b =
+    let at : (k : ℕ) → k < length xs → get_or (xs ++ ys) k d ≡ get_or xs k d = λ k c. get_or_append_left xs ys d k c in
+    subst (λ (z : _). R z (get_or xs j d)) (at i (omega (arith, l, b))) (subst (R (get_or (xs ++ ys) i d)) (at j b) (h i j d l (omega (arith, b, length-append xs ys))))
 
 in_filter : {X : Type 0} (p : X → Bool) (xs : List X) (q : X) → Contains xs q → p q ≡ true → Contains (filter p xs) q
 in_filter p [] q (k, b, e) h = absurd (omega arith)
@@ -158,15 +169,250 @@ first_of W w most n found More other l =
 first_of W w most n found End other l = l.full ∙ ap (λ (u : List (List ℤ)). take most (filter (is_full W) u)) (take_all n w l.ends.1)
 first_of W w most n found OutOfBudget other l = absurd (other refl)
 
+-- ---- a second page that runs out of budget
+
+-- where the elements that are kept are some, then t, and then others, so is the list
+record Splits {X : Type 0} (p : X → Bool) (w front : List X) (t : X) (rest : List X) : Type 0 where
+  before : List X
+  behind : List X
+  whole : w ≡ before ++ t ∷ behind
+  kept : filter p before ≡ front
+  others : filter p behind ≡ rest
+
+abbrev first_or : {X : Type 0} → X → List X → X
+first_or d [] = d
+first_or d (x ∷ u) = x
+
+abbrev after_first : {X : Type 0} → List X → List X
+after_first [] = []
+after_first (x ∷ u) = u
+
+splits : {X : Type 0} (p : X → Bool) (w front : List X) (t : X) (rest : List X) → filter p w ≡ front ++ t ∷ rest → Splits p w front t rest
+splits p [] [] t rest e = absurd (omega (arith, ap length e))
+splits p [] (a ∷ front) t rest e = absurd (omega (arith, ap length e))
+splits p (x ∷ w) [] t rest e = elim (cases_Bool (p x)) [
+  | inr c ↦
+      let left : (u : List _) → filter p (x ∷ u) ≡ filter p u = λ u. subst (λ (b : Bool). (if b then x ∷ filter p u else filter p u) ≡ filter p u) (sym c) refl in
+      let r = splits p w [] t rest (sym (left w) ∙ e) in
+      record { before = x ∷ r.before; behind = r.behind; whole = ap (λ u. x ∷ u) r.whole; kept = left r.before ∙ r.kept; others = r.others }
+  | inl c ↦
+      let kept : filter p (x ∷ w) ≡ x ∷ filter p w = subst (λ (b : Bool). (if b then x ∷ filter p w else filter p w) ≡ x ∷ filter p w) (sym c) refl in
+      record { before = []; behind = w; whole = ap (λ (z : _). z ∷ w) (ap (first_or x) (sym kept ∙ e)); kept = refl; others = ap after_first (sym kept ∙ e) }
+]
+splits p (x ∷ w) (a ∷ front) t rest e = elim (cases_Bool (p x)) [
+  | inr c ↦
+      let left : (u : List _) → filter p (x ∷ u) ≡ filter p u = λ u. subst (λ (b : Bool). (if b then x ∷ filter p u else filter p u) ≡ filter p u) (sym c) refl in
+      let r = splits p w (a ∷ front) t rest (sym (left w) ∙ e) in
+      record { before = x ∷ r.before; behind = r.behind; whole = ap (λ u. x ∷ u) r.whole; kept = left r.before ∙ r.kept; others = r.others }
+  | inl c ↦
+      let kept : (u : List _) → filter p (x ∷ u) ≡ x ∷ filter p u = λ u. subst (λ (b : Bool). (if b then x ∷ filter p u else filter p u) ≡ x ∷ filter p u) (sym c) refl in
+      let r = splits p w front t rest (ap after_first (sym (kept w) ∙ e)) in
+      record {
+        before = x ∷ r.before;
+        behind = r.behind;
+        whole = ap (λ u. x ∷ u) r.whole;
+        kept = kept r.before ∙ ap (λ u. x ∷ u) r.kept ∙ ap (λ (z : _). z ∷ front) (ap (first_or x) (sym (kept w) ∙ e));
+        others = r.others;
+      }
+]
+
+-- where elements of the one kind never come behind those of the other, they come first
+record Parts {X : Type 0} (P Q : X → Type 0) (v : List X) : Type 0 where
+  ones : List X
+  others : List X
+  whole : v ≡ ones ++ others
+  each : All P ones
+  each_other : All Q others
+
+all_cons : {X : Type 0} (P : X → Type 0) (x : X) (u : List X) → P x → All P u → All P (x ∷ u)
+all_cons P x u h k zero d b = h
+all_cons P x u h k (suc i) d b = k i d (omega arith)
+
+parts_of : {X : Type 0} (R : X → X → Type 0) (P Q : X → Type 0) (apart : (a b : X) → R a b → Q a → P b → ⊥) (v : List X) → All (λ q. P q ⊎ Q q) v → AllPairs R v → Parts P Q v
+parts_of R P Q apart [] h k = record { ones = []; others = []; whole = refl; each = λ i d b. absurd (omega arith); each_other = λ i d b. absurd (omega arith) }
+parts_of R P Q apart (a ∷ v) h k = elim (All-head (λ q. P q ⊎ Q q) a v h) [
+  | inl p ↦
+      let r = parts_of R P Q apart v (All-tail (λ q. P q ⊎ Q q) a v h) (λ i j d l b. k (suc i) (suc j) d (omega arith) (omega arith)) in
+      record { ones = a ∷ r.ones; others = r.others; whole = ap (λ u. a ∷ u) r.whole; each = all_cons P a r.ones p r.each; each_other = r.each_other }
+  | inr q ↦
+      record {
+        ones = [];
+        others = a ∷ v;
+        whole = refl;
+        each = λ i d b. absurd (omega arith);
+        each_other = all_cons Q a v q (λ i d b. elim (h (suc i) d (omega arith)) [
+          | inr o ↦ o
+          | inl p ↦ absurd (apart a (get_or v i d) (k 0 (suc i) d (omega arith) (omega arith)) q p)
+        ]);
+      }
+]
+
+-- lengths that rise stay within as many lists as there are numbers
+few_rising : {X : Type 0} (u : List (List X)) (lo n : ℕ) → lo ≤ n → All (λ q. (lo ≤ length q) × (length q < n)) u → AllPairs (λ q r. length q < length r) u → length u + lo ≤ n
+few_rising [] lo n h k l = omega (arith, h)
+few_rising (a ∷ u) lo n h k l =
+    let own = All-head (λ q. (lo ≤ length q) × (length q < n)) a u k in
+    let rest = few_rising u (suc (length a)) n (omega (arith, own.1))
+    (λ i d b. (omega (arith, l 0 (suc i) d (omega arith) (omega arith)), (k (suc i) d (omega arith)).1))
+    (λ i j d c b. l (suc i) (suc j) d (omega arith) (omega arith)) in
+    omega (arith, rest, own.0)
+
+-- ---- beginnings of t, and what comes behind it
+
+begins_short : (S : State) (xs : List Variable) (q : List ℤ) → Begins S xs q → length q ≤ length xs
+begins_short S [] [] h = absurd h
+begins_short S (x ∷ xs) [] h = absurd h
+begins_short S [] (v ∷ q) h = absurd h
+begins_short S (x ∷ xs) (v ∷ []) h = omega arith
+begins_short S (x ∷ xs) (v ∷ w ∷ q) h = omega (arith, begins_short S xs (w ∷ q) h.1)
+
+member_short : (cs : List Cond) (S : State) (xs : List Variable) (q : List ℤ) → IsMember cs S xs q → length q ≤ length xs
+member_short cs S [] [] h = omega arith
+member_short cs S [] (v ∷ q) h = absurd h
+member_short cs S (x ∷ xs) q h = begins_short h.0 (x ∷ xs) q h.3
+
+-- the order of two lists tells that of their fronts, and that of a front that of the list
+fronts_precede : (xs : List Variable) (a t : List ℤ) (k : ℕ) → Precedes xs a t → Precedes xs (take k a) (take k t) ⊎ (take k a ≡ take k t)
+fronts_precede xs a t zero h = inr refl
+fronts_precede xs a [] (suc k) h = absurd h
+fronts_precede [] [] (w ∷ t) (suc k) h = inl tt
+fronts_precede (x ∷ xs) [] (w ∷ t) (suc k) h = inl tt
+fronts_precede [] (v ∷ a) (w ∷ t) (suc k) h = absurd h
+fronts_precede (x ∷ xs) (v ∷ a) (w ∷ t) (suc k) (inl h) = inl (inl h)
+fronts_precede (x ∷ xs) (v ∷ a) (w ∷ t) (suc k) (inr h) = elim (fronts_precede xs a t k h.1) [
+  | inl p ↦ inl (inr (h.0, p))
+  | inr e ↦ inr (λ i. h.0 i ∷ e i)
+]
+
+front_precedes : (xs : List Variable) (t q : List ℤ) → Precedes xs (take (length q) t) q → Precedes xs t q
+front_precedes xs t [] h = absurd h
+front_precedes xs [] (w ∷ q) h = h
+front_precedes [] (v ∷ t) (w ∷ q) h = absurd h
+front_precedes (x ∷ xs) (v ∷ t) (w ∷ q) (inl h) = inl h
+front_precedes (x ∷ xs) (v ∷ t) (w ∷ q) (inr h) = inr (h.0, front_precedes xs t q h.1)
+
+precedes_front : (xs : List Variable) (t q : List ℤ) → length q ≤ length t → Precedes xs t q → Precedes xs (take (length q) t) q
+precedes_front xs t [] b h = absurd h
+precedes_front xs [] (w ∷ q) b h = absurd (omega (arith, b))
+precedes_front [] (v ∷ t) (w ∷ q) b h = absurd h
+precedes_front (x ∷ xs) (v ∷ t) (w ∷ q) b (inl h) = inl h
+precedes_front (x ∷ xs) (v ∷ t) (w ∷ q) b (inr h) = inr (h.0, precedes_front xs t q (omega (arith, b)) h.1)
+
+-- a shorter front of t comes before t, and of two fronts the first in order is the shorter one
+short_precedes : (xs : List Variable) (t : List ℤ) (k : ℕ) → k < length t → length t ≤ length xs → Precedes xs (take k t) t
+short_precedes xs [] k b l = absurd (omega (arith, b))
+short_precedes [] (v ∷ t) k b l = absurd (omega (arith, l))
+short_precedes (x ∷ xs) (v ∷ t) zero b l = tt
+short_precedes (x ∷ xs) (v ∷ t) (suc k) b l = inr (refl, short_precedes xs t k (omega (arith, b)) (omega (arith, l)))
+
+shorter_first : (xs : List Variable) (t : List ℤ) (i j : ℕ) → Precedes xs (take i t) (take j t) → i < j
+shorter_first xs t i zero h = absurd h
+shorter_first xs t zero (suc j) h = omega arith
+shorter_first xs [] (suc i) (suc j) h = absurd h
+shorter_first [] (v ∷ t) (suc i) (suc j) h = absurd h
+shorter_first (x ∷ xs) (v ∷ t) (suc i) (suc j) (inl h) = absurd (before_once x v v h h)
+shorter_first (x ∷ xs) (v ∷ t) (suc i) (suc j) (inr h) = omega (arith, shorter_first xs t i j h.1)
+
+-- what the later walk has: beginnings of t, and behind them the members after t
+module _ (W : Tree) (t : List ℤ) (own : IsIn W t) (long : length t ≡ length W.variables) where
+  abbrev IsBeginning : List ℤ → Type 0
+  IsBeginning q = (q ≡ take (length q) t) × (length q < length t)
+
+  abbrev IsBehind : List ℤ → Type 0
+  IsBehind q = IsIn W q × Precedes W.variables t q
+
+  -- after the tuple that the walk comes after, if any, since t is
+  after_first_tuple : (q : List ℤ) → length q ≤ length t → Precedes W.variables (take (length q) t) q → IfSome W.after (λ a. IsAfter W.variables a q)
+  after_first_tuple q b p = IfSome_then W.after own.1 (λ a h.
+      let short : take (length q) (take (length t) a) ≡ take (length q) a = take-take (length q) (length t) a b in
+      let same : take (length q) t ≡ take (length q) a → IsAfter W.variables a q = λ e. inl (subst (λ (z : List ℤ). Precedes W.variables z q) e p) in
+      elim h [
+        | inr e ↦ same (ap (take (length q)) e.0 ∙ short)
+        | inl before ↦ elim (fronts_precede W.variables (take (length t) a) t (length q) before) [
+          | inr e ↦ same (sym e ∙ short)
+          | inl k ↦ inl (precedes_then W.variables (take (length q) a) (take (length q) t) q (subst (λ (z : List ℤ). Precedes W.variables z (take (length q) t)) short k) p)
+        ]
+      ])
+
+  either : (q : List ℤ) → IsIn (past W t) q → IsBeginning q ⊎ IsBehind q
+  either q (m, after) =
+      let b : length q ≤ length t = omega (arith, member_short W.conditions W.first W.variables q m, long) in
+      elim after [
+        | inl p ↦ inr ((m, after_first_tuple q b p), front_precedes W.variables t q p)
+        | inr e ↦ inl e
+      ]
+
+  beginning_first : (q : List ℤ) → IsBeginning q → Precedes W.variables q t
+  beginning_first q (e, b) = subst (λ (z : List ℤ). Precedes W.variables z t) (sym e) (short_precedes W.variables t (length q) b (omega (arith, long)))
+
+  apart : (q r : List ℤ) → Precedes W.variables q r → IsBehind q → IsBeginning r → ⊥
+  apart q r h behind begins = precedes_once W.variables t r (precedes_then W.variables t q r behind.1 h) (beginning_first r begins)
+
+  not_both : (q : List ℤ) → IsBehind q → IsBeginning q → ⊥
+  not_both q behind begins = precedes_once W.variables t q behind.1 (beginning_first q begins)
+
+  rising : (q r : List ℤ) → IsBeginning q → IsBeginning r → Precedes W.variables q r → length q < length r
+  rising q r a b h = shorter_first W.variables t (length q) (length r)
+      (subst (λ (z : List ℤ). Precedes W.variables (take (length q) t) z) b.0 (subst (λ (z : List ℤ). Precedes W.variables z r) a.0 h))
+
+  is_after : (q : List ℤ) → IsBehind q → IsIn (past W t) q
+  is_after q (m, p) = (m.0, inl (precedes_front W.variables t q (omega (arith, member_short W.conditions W.first W.variables q m.0, long)) p))
+
+  not_full : (q : List ℤ) → IsBeginning q → is_full W q ≡ false
+  not_full q (e, b) = elim (cases_Bool (is_full W q)) [
+    | inr c ↦ c
+    | inl c ↦ absurd (let same : length q ≡ length W.variables = grind (arith, nat_tests, c) in omega (arith, same, b, long))
+  ]
+
+  -- the parts of the later walk
+  record Later (v rest : List (List ℤ)) : Type 0 where
+    ones : List (List ℤ)
+    whole : v ≡ ones ++ rest
+    few : length ones ≤ length t
+    none : filter (is_full W) ones ≡ []
+
+  none_kept : {X : Type 0} (p : X → Bool) (u : List X) → All (λ q. p q ≡ false) u → filter p u ≡ []
+  none_kept p [] h = refl
+  none_kept p (x ∷ u) h =
+      subst (λ (b : Bool). (if b then x ∷ filter p u else filter p u) ≡ []) (sym (All-head (λ q. p q ≡ false) x u h)) (none_kept p u (All-tail (λ q. p q ≡ false) x u h))
+
+  later : (v before rest : List (List ℤ)) → IsWalk W (before ++ t ∷ rest) → IsWalk (past W t) v → Later v rest
+  later v before rest h k =
+      let R = Precedes W.variables in
+      let once = precedes_once W.variables in
+      let next = precedes_then W.variables in
+      let parts = parts_of R IsBeginning IsBehind apart v (λ i d b. either (get_or v i d) (k.members i d b)) k.in_order in
+      let cut = subst (λ (u : List (List ℤ)). IsWalk (past W t) u) parts.whole k in
+      let mine : HasAll R once next IsBehind parts.others = record {
+        each = parts.each_other;
+        in_order = pairs_back R parts.ones parts.others cut.in_order;
+        all = λ q m. elim (Contains-append_cases parts.ones parts.others q (cut.whole q (is_after q m))) [
+          | inr c ↦ c
+          | inl c ↦ absurd (not_both q m (subst IsBeginning c.2 (parts.each c.0 q c.1)))
+        ];
+      } in
+      let theirs : HasAll R once next IsBehind rest = behind R once next (IsIn W) before t rest (record { each = h.members; in_order = h.in_order; all = h.whole }) in
+      let e : parts.others ≡ rest = same_list R once next IsBehind IsBehind parts.others rest (λ q m. m) (λ q m. m) mine theirs in
+      record {
+        ones = parts.ones;
+        whole = parts.whole ∙ ap (λ u. parts.ones ++ u) e;
+        few = omega (
+          arith,
+          few_rising parts.ones 0 (length t) (omega arith) (λ i d b. (omega arith, (parts.each i d b).1))
+              (λ i j d l b. rising (get_or parts.ones i d) (get_or parts.ones j d) (parts.each i d (omega (arith, l, b))) (parts.each j d b) (pairs_front R parts.ones parts.others cut.in_order i j d l b)),
+        );
+        none = none_kept (is_full W) parts.ones (λ i d b. not_full (get_or parts.ones i d) (parts.each i d b));
+      }
+
 -- the end word of both pages
 joined_word : (W : Tree) (w v : List (List ℤ)) (most more m : ℕ) (found others : List (List ℤ)) (word : EndWord) → word ≢ OutOfBudget → length found ≡ most → IsEndWord W more m v others word → IsEndWord W (most + more) (length w) w (found ++ others) word
 joined_word W w v most more m found others More other e h = omega (arith, e, h, length-append found others)
 joined_word W w v most more m found others End other e h = (omega (arith, e, h.0, length-append found others), omega arith)
 joined_word W w v most more m found others OutOfBudget other e h = absurd (other refl)
 
-pub pages_join : (W : Tree) (w v : List (List ℤ)) (t : List ℤ) (most n more m : ℕ) (front others : List (List ℤ)) (word : EndWord) → IsWalk W w → IsWalk (past W t) v → word ≢ OutOfBudget
+page_in_budget : (W : Tree) (w v : List (List ℤ)) (t : List ℤ) (most n more m : ℕ) (front others : List (List ℤ)) (word : EndWord) → IsWalk W w → IsWalk (past W t) v → word ≢ OutOfBudget
     → IsListing W most n (front ++ t ∷ []) More → IsListing (past W t) more m others word → (j : ℕ) × IsListing W (most + more) j ((front ++ t ∷ []) ++ others) word
-pages_join W w v t most n more m front others word h k other first second =
+page_in_budget W w v t most n more m front others word h k other first second =
     let found = front ++ t ∷ [] in
     let a = listing_follows W w most n found More h first in
     let b = listing_follows (past W t) v more m others word k second in
@@ -186,3 +432,51 @@ pages_join W w v t most n more m front others word h k other first second =
         ends = joined_word W w v most more m found others word other a.ends b.ends;
       }),
     )
+
+-- where the second page runs out of budget behind the beginnings of t
+page_out_of_budget : (W : Tree) (w v : List (List ℤ)) (t : List ℤ) (most n more m : ℕ) (front others : List (List ℤ)) → IsWalk W w → IsWalk (past W t) v → length t ≤ m
+    → IsListing W most n (front ++ t ∷ []) More → IsListing (past W t) more m others OutOfBudget → (j : ℕ) × IsListing W (most + more) j ((front ++ t ∷ []) ++ others) OutOfBudget
+page_out_of_budget W w v t most n more m front others h k enough first second =
+    let found = front ++ t ∷ [] in
+    let a = listing_follows W w most n found More h first in
+    let b = listing_follows (past W t) v more m others OutOfBudget k second in
+    let kept = filter (is_full W) in
+    let rest = drop most (kept w) in
+    let own : found ≡ take most (kept w) = first_of W w most n found More (λ e. absurd cc) a in
+    let cut : kept w ≡ front ++ t ∷ rest = sym (ap (λ u. u ++ rest) own ∙ take-append-drop most (kept w)) ∙ append_assoc front (t ∷ []) rest in
+    let each = subst (HasAll (Precedes W.variables) (precedes_once W.variables) (precedes_then W.variables) (Full W t W)) cut (full_list W t W w h) in
+    let is : Full W t W t = all_back (Full W t W) front (t ∷ rest) each.each 0 t (omega arith) in
+    let s = splits (is_full W) w front t rest cut in
+    let l = later W t is.0 (long W t t is.1) v s.before s.behind (subst (IsWalk W) s.whole h) k in
+    let r = m - length l.ones in
+    let m_is : m ≡ length l.ones + r = omega (arith, l.few, enough) in
+    let j = length s.before + suc r in
+    let last = kept (take r s.behind) in
+    let theirs : kept (take m v) ≡ last =
+    ap kept (ap (take m) l.whole ∙ ap (λ (z : ℕ). take z (l.ones ++ s.behind)) m_is ∙ take-append-add l.ones s.behind r)
+    ∙ filter-append (is_full W) l.ones (take r s.behind) ∙ ap (λ u. u ++ last) l.none in
+    let with_t : kept (t ∷ take r s.behind) ≡ t ∷ last = subst (λ (b : Bool). (if b then t ∷ last else last) ≡ t ∷ last) (sym is.1) (refl {a = t ∷ last}) in
+    let ours : kept (take j w) ≡ found ++ last =
+    ap kept (ap (take j) s.whole ∙ take-append-add s.before (t ∷ s.behind) (suc r))
+    ∙ filter-append (is_full W) s.before (t ∷ take r s.behind) ∙ ap (λ u. u ++ kept (t ∷ take r s.behind)) s.kept ∙ ap (λ u. front ++ u) with_t ∙ sym (append_assoc front (t ∷ []) last) in
+    let size : most + more ≡ length found + more = ap (λ (x : ℕ). x + more) (sym a.ends) in
+    let e : found ++ others ≡ take (most + more) (kept (take j w)) =
+    ap (λ u. found ++ u) (b.full ∙ ap (take more) theirs) ∙ sym (ap (take (most + more)) ours ∙ ap (λ (x : ℕ). take x (found ++ last)) size ∙ take-append-add found last more) in
+    let in_w = ap length s.whole in
+    let in_v = ap length l.whole in (
+      j,
+      lists_listing W w h (most + more) j (found ++ others) OutOfBudget (record {
+        full = e;
+        ends = (
+          omega (arith, a.ends, b.ends.0, length-append found others),
+          omega (arith, b.ends.1, m_is, in_w, in_v, length-append s.before (t ∷ s.behind), length-append l.ones s.behind),
+        );
+      }),
+    )
+
+pub pages_join : (W : Tree) (w v : List (List ℤ)) (t : List ℤ) (most n more m : ℕ) (front others : List (List ℤ)) (word : EndWord) → IsWalk W w → IsWalk (past W t) v
+    → (word ≡ OutOfBudget → length t ≤ m) → IsListing W most n (front ++ t ∷ []) More → IsListing (past W t) more m others word
+    → (j : ℕ) × IsListing W (most + more) j ((front ++ t ∷ []) ++ others) word
+pages_join W w v t most n more m front others More h k enough first second = page_in_budget W w v t most n more m front others More h k (λ e. absurd cc) first second
+pages_join W w v t most n more m front others End h k enough first second = page_in_budget W w v t most n more m front others End h k (λ e. absurd cc) first second
+pages_join W w v t most n more m front others OutOfBudget h k enough first second = page_out_of_budget W w v t most n more m front others h k (enough refl) first second

@@ -1,5 +1,5 @@
 -- The laws of listings, as statements.
-use Rattle.std.specs.Prelude.{◌≡◌, ◌≢◌, ◌≤◌, ◌+◌, ◌++◌, ℕ, ℤ, List, [], ◌∷◌, Some, filter, length}
+use Rattle.std.specs.Prelude.{◌≡◌, ◌≤◌, ◌+◌, ◌++◌, ℕ, ℤ, List, [], ◌∷◌, Some, filter, length}
 use Rattle.geo_conditions.specs.Walk.{Tree, EndWord, IsFront, IsListing, IsWalk, Lists, More, OutOfBudget, is_full}
 
 -- what the whole walk w lists is a listing by a front
@@ -20,8 +20,10 @@ ListingsAreOne = (W : Tree) (w : List (List ℤ)) (most n : ℕ) (found other : 
 abbrev pub past : Tree → List ℤ → Tree
 past W t = record W { after = Some t }
 
--- Pages join. Where a listing ends in `more` with t, and the listing after t does not run out of budget, then among some number of members both one
--- behind the other are the listing of as many as both, and it ends as the second one does.
+-- Pages join. Where a listing ends in `more` with t, then among some number of members it and the listing after t one behind the other are the listing
+-- of as many as both, and it ends as the second one does. A second page that runs out of budget has to be allowed as many members as t has values, since
+-- the beginnings of t are members of its walk too: with fewer it may stop where nothing comes after t.
 abbrev pub PagesJoin : Type 0
-PagesJoin = (W : Tree) (w v : List (List ℤ)) (t : List ℤ) (most n more m : ℕ) (front others : List (List ℤ)) (word : EndWord) → IsWalk W w → IsWalk (past W t) v → word ≢ OutOfBudget
-    → IsListing W most n (front ++ t ∷ []) More → IsListing (past W t) more m others word → (j : ℕ) × IsListing W (most + more) j ((front ++ t ∷ []) ++ others) word
+PagesJoin = (W : Tree) (w v : List (List ℤ)) (t : List ℤ) (most n more m : ℕ) (front others : List (List ℤ)) (word : EndWord) → IsWalk W w → IsWalk (past W t) v
+    → (word ≡ OutOfBudget → length t ≤ m) → IsListing W most n (front ++ t ∷ []) More → IsListing (past W t) more m others word
+    → (j : ℕ) × IsListing W (most + more) j ((front ++ t ∷ []) ++ others) word
