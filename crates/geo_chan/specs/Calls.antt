@@ -1,11 +1,12 @@
 -- How a source or a sink in memory goes on: how much it moves in a call, and at which calls it fails.
-use Rattle.std.specs.Prelude.{◌≡◌, ◌+◌, ◌-◌, ◌^◌, ◌<◌, ℕ, min, List, Bool, true, false, nat_eq, if◌then◌else◌}
+use Rattle.std.specs.Prelude.{◌≡◌, ◌+◌, ◌-◌, ◌^◌, ◌<◌, ℕ, length, min, List, Bool, true, false, nat_eq, if◌then◌else◌}
 use Rattle.std.specs.List.{list_any}
 use Rattle.std.specs.Prelude.{Result, Ok, Err}
 use Rattle.geo_chan.specs.declared.outside.PutFault.{PutFault}
 use Rattle.geo_chan.specs.declared.outside.PutFault.TheVariants as faults
 use Rattle.geo_chan.specs.declared.memory.MemSource.{MemSource}
 use Rattle.geo_chan.specs.declared.memory.MemSink.{MemSink}
+use Rattle.geo_chan.specs.declared.room.RoomSink.{RoomSink}
 
 -- At most `piece` bytes a call; the numbers, from 1, of the calls that fail; the calls and the faults so far.
 pub record Plan : Type 0 where
@@ -36,3 +37,7 @@ after_call failed p = record { piece = p.piece; fails = p.fails; calls = counted
 abbrev pub IsPlanAfter : Result ℕ PutFault → Plan → Plan → Type 0
 IsPlanAfter (Err faults.Failed) old new = new ≡ after_call true old
 IsPlanAfter answer old new = new ≡ after_call false old
+
+-- how many more bytes a sink with room takes
+abbrev pub room_left : RoomSink → ℕ
+room_left s = length s.bytes.items - s.len
