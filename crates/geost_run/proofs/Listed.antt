@@ -1,8 +1,7 @@
 -- What `all` writes is an answer, or a front part of one.
 use Rattle.std.proofs.Common.{◌≡◌, ◌++◌, ℕ, List, inr, refl, ap, ◌∙◌, append_assoc, Option, Ok, Err, None, Some}
 use Rattle.std.specs.Io.KnownBytes.{Appends}
-use Rattle.std.specs.Prelude.{Bool, false, IfSome}
-use Rattle.std.proofs.lemmas.Bool.{false≢true}
+use Rattle.std.specs.Prelude.{Bool, IfSome}
 use Rattle.geo_base.specs.Tuple.{Tuple}
 use Rattle.geo_chan.specs.Written.{Writes, Wrote}
 use Rattle.geo_chan.specs.declared.outside.PutFault.{PutFault}
@@ -53,30 +52,38 @@ from_tuple p None (Some t) h = absurd h
 from_tuple p (Some word) None h = absurd h
 from_tuple p (Some word) (Some t) h = h.tuple
 
-module _ (p : ProblemData) (W : Tree) (most n : ℕ) (w0 w1 : Option (List ℕ)) (f0 f1 : ℕ) where
+module _ (p : ProblemData) (W : Tree) (most n : ℕ) (w0 w1 : Option (List ℕ)) (f0 f1 : ℕ) (q0 q1 : Bool) where
   -- the listing was cut off
-  pub page_cut : (e : PutFault) → WritesPage p W most n w0 w1 f0 f1 (Err e) → WritesAll p W most n w0 w1 f0 f1 (Err e)
+  pub page_cut : (e : PutFault) → WritesPage p W most n w0 w1 f0 f1 q0 q1 (Err e) → WritesAll p W most n w0 w1 f0 f1 q0 q1 (Err e)
   page_cut e h =
       let (ts, word, page, (front, back, is, bytes)) = h.bytes in
-      record { bytes = (ts, word, page, (front, back ++ last_line n word, ap (λ u. u ++ last_line n word) is ∙ append_assoc front back (last_line n word), bytes)); cause = h.cause }
+      record { bytes = (ts, word, page, (front, back ++ last_line n word, ap (λ u. u ++ last_line n word) is ∙ append_assoc front back (last_line n word), bytes)); cause = h.cause; quiet = h.quiet }
 
-  module _ (w2 : Option (List ℕ)) (f2 : ℕ) (q1 q2 : Bool) (e : Ending) (h : WritesPage p W most n w0 w1 f0 f1 (Ok e)) where
-    wrote : Wrote w0 w1 f0 f1 false q1 (blocks_of p h.bytes.0)
-    wrote = record { bytes = h.bytes.2; same = h.cause.stays; quiet = λ q. absurd (false≢true q) }
+  module _ (w2 : Option (List ℕ)) (f2 : ℕ) (q2 : Bool) (e : Ending) (h : WritesPage p W most n w0 w1 f0 f1 q0 q1 (Ok e)) where
+    wrote : Wrote w0 w1 f0 f1 q0 q1 (blocks_of p h.bytes.0)
+    wrote = record { bytes = h.bytes.2; same = h.cause.stays; quiet = λ q. (h.quiet q).0 }
 
     -- the line behind it was written
-    pub line_written : {T : Type 0} (u : T) → Writes w1 w2 f1 f2 q1 q2 (Ok u) (last_line n (word_of e)) → WritesAll p W most n w0 w2 f0 f2 (Ok e)
+    pub line_written : {T : Type 0} (u : T) → Writes w1 w2 f1 f2 q1 q2 (Ok u) (last_line n (word_of e)) → WritesAll p W most n w0 w2 f0 f2 q0 q2 (Ok e)
     line_written {T} u k =
-        let all = wrote_then w0 w1 w2 f0 f1 f2 false q1 q2 (Ok u) (blocks_of p h.bytes.0) (last_line n (word_of e)) (blocks_of p h.bytes.0 ++ last_line n (word_of e)) wrote k refl in
-        record { bytes = (h.bytes.0, h.bytes.1, all.bytes); cause = record { later = all.cause.later; failed = λ x. absurd (cc (x)); stays = all.cause.stays } }
+        let all = wrote_then w0 w1 w2 f0 f1 f2 q0 q1 q2 (Ok u) (blocks_of p h.bytes.0) (last_line n (word_of e)) (blocks_of p h.bytes.0 ++ last_line n (word_of e)) wrote k refl in
+        record {
+          bytes = (h.bytes.0, h.bytes.1, all.bytes);
+          cause = record { later = all.cause.later; failed = λ x. absurd (cc (x)); stays = all.cause.stays };
+          quiet = λ q. ((all.quiet q).0, λ x. absurd (cc (x)));
+        }
 
     -- the line behind it was cut off
-    pub line_cut : {T : Type 0} (x : PutFault) → Writes {T = T} w1 w2 f1 f2 q1 q2 (Err x) (last_line n (word_of e)) → WritesAll p W most n w0 w2 f0 f2 (Err x)
+    pub line_cut : {T : Type 0} (x : PutFault) → Writes {T = T} w1 w2 f1 f2 q1 q2 (Err x) (last_line n (word_of e)) → WritesAll p W most n w0 w2 f0 f2 q0 q2 (Err x)
     line_cut {T} x k =
-        let all = wrote_then {T = T} w0 w1 w2 f0 f1 f2 false q1 q2 (Err x) (blocks_of p h.bytes.0) (last_line n (word_of e)) (blocks_of p h.bytes.0 ++ last_line n (word_of e)) wrote k refl in
-        record { bytes = (h.bytes.0, word_of e, h.bytes.1, all.bytes); cause = cause_of {T = T} {U = Ending} f0 f2 x all.cause }
+        let all = wrote_then {T = T} w0 w1 w2 f0 f1 f2 q0 q1 q2 (Err x) (blocks_of p h.bytes.0) (last_line n (word_of e)) (blocks_of p h.bytes.0 ++ last_line n (word_of e)) wrote k refl in
+        record {
+          bytes = (h.bytes.0, word_of e, h.bytes.1, all.bytes);
+          cause = cause_of {T = T} {U = Ending} f0 f2 x all.cause;
+          quiet = λ q. ((all.quiet q).0, λ m. absurd ((all.quiet q).1 (err_same T Ending x Memory m)));
+        }
 
-module _ (token : Option (List ℕ)) (input : List ℕ) (s : Start) (most n : ℕ) (starts : Starts token input s) (w0 w1 : Option (List ℕ)) (f0 f1 : ℕ) where
+module _ (token : Option (List ℕ)) (input : List ℕ) (s : Start) (most n : ℕ) (starts : Starts token input s) (w0 w1 : Option (List ℕ)) (f0 f1 : ℕ) (q0 q1 : Bool) where
   abbrev walk : Tree
   walk = walk_after s.accepted.problem s.accepted.conditions.items s.after
 
@@ -101,16 +108,16 @@ module _ (token : Option (List ℕ)) (input : List ℕ) (s : Start) (most n : �
   answers ts walks.OutOfBudget page = lists ts walks.OutOfBudget page
 
   -- what was written is the answer
-  pub page_answered : (e : Ending) → WritesAll s.accepted.problem walk most n w0 w1 f0 f1 (Ok e) → WroteFor (AllAnswer most n token) input w0 w1 f0 f1 (last_status (word_of e))
+  pub page_answered : (e : Ending) → WritesAll s.accepted.problem walk most n w0 w1 f0 f1 q0 q1 (Ok e) → WroteFor (AllAnswer most n token) input w0 w1 f0 f1 (last_status (word_of e))
   page_answered More h = (h.cause.stays, _, answers h.bytes.0 (word_of More) h.bytes.1, h.bytes.2)
   page_answered End h = (h.cause.stays, _, answers h.bytes.0 (word_of End) h.bytes.1, h.bytes.2)
   page_answered OutOfBudget h = (h.cause.stays, _, answers h.bytes.0 (word_of OutOfBudget) h.bytes.1, h.bytes.2)
 
-  front_of : (e : PutFault) → WritesAll s.accepted.problem walk most n w0 w1 f0 f1 (Err e) → (front : List ℕ) × FrontOf (AllAnswer most n token) input front × Appends w0 w1 front
+  front_of : (e : PutFault) → WritesAll s.accepted.problem walk most n w0 w1 f0 f1 q0 q1 (Err e) → (front : List ℕ) × FrontOf (AllAnswer most n token) input front × Appends w0 w1 front
   front_of e h = let (ts, word, page, (front, back, is, bytes)) = h.bytes in (front, (blocks_of s.accepted.problem ts ++ last_line n word, last_status word, back, answers ts word page, is), bytes)
 
-  pub page_failed : WritesAll s.accepted.problem walk most n w0 w1 f0 f1 (Err Failed) → WroteFor (AllAnswer most n token) input w0 w1 f0 f1 statuses.WriteFault
+  pub page_failed : WritesAll s.accepted.problem walk most n w0 w1 f0 f1 q0 q1 (Err Failed) → WroteFor (AllAnswer most n token) input w0 w1 f0 f1 statuses.WriteFault
   page_failed h = let f = front_of Failed h in (h.cause.failed refl, f.0, f.1, f.2)
 
-  pub page_wanting : WritesAll s.accepted.problem walk most n w0 w1 f0 f1 (Err Memory) → WroteFor (AllAnswer most n token) input w0 w1 f0 f1 statuses.Memory
+  pub page_wanting : WritesAll s.accepted.problem walk most n w0 w1 f0 f1 q0 q1 (Err Memory) → WroteFor (AllAnswer most n token) input w0 w1 f0 f1 statuses.Memory
   page_wanting h = let f = front_of Memory h in (h.cause.stays, f.0, f.1, f.2)

@@ -1,10 +1,10 @@
 -- What `all` begins with, and what it writes.
-use Rattle.std.specs.Prelude.{◌≡◌, ◌++◌, ℕ, List, Option, Result, MatchResult}
+use Rattle.std.specs.Prelude.{◌≡◌, ◌++◌, ℕ, List, Option, Result, MatchResult, Bool}
 use Rattle.std.specs.Io.KnownBytes.{Appends}
 use Rattle.geo_base.specs.Tuple.{Tuple}
 use Rattle.geo_chan.specs.declared.outside.PutFault.{PutFault}
 use Rattle.geo_chan.specs.Causes.{PutCause, Rose}
-use Rattle.geo_chan.specs.Written.{AppendsFront}
+use Rattle.geo_chan.specs.Written.{AppendsFront, WantsUnwritten}
 use Rattle.geo_conditions.specs.Walk.{Tree, EndWord}
 use Rattle.layout_listing.specs.declared.listing.Ending.{Ending}
 use Rattle.layout_listing.specs.Page.{IsPage, blocks_of, word_of}
@@ -39,10 +39,12 @@ WroteAll p W most n old new e = (ts : List Tuple) × IsPage p W most n ts (word_
 abbrev pub WroteFrontOfAll : ProblemData → Tree → ℕ → ℕ → Option (List ℕ) → Option (List ℕ) → Type 0
 WroteFrontOfAll p W most n old new = (ts : List Tuple) × (word : EndWord) × IsPage p W most n ts word × AppendsFront old new (blocks_of p ts ++ last_line n word)
 
--- Ok: the listing was written, and it ends so. Else a front part of it was, and Failed exactly where the count of faults rose
-pub record WritesAll (p : ProblemData) (W : Tree) (most n : ℕ) (old new : Option (List ℕ)) (faults_old faults_new : ℕ) (result : Result Ending PutFault) : Type 0 where
+-- Ok: the listing was written, and it ends so. Else a front part of it was, and Failed exactly where the count of faults rose. Over a quiet
+-- sink memory is wanted only where nothing was written
+pub record WritesAll (p : ProblemData) (W : Tree) (most n : ℕ) (old new : Option (List ℕ)) (faults_old faults_new : ℕ) (quiet_old quiet_new : Bool) (result : Result Ending PutFault) : Type 0 where
   pub bytes : MatchResult result (WroteAll p W most n old new) (λ _. WroteFrontOfAll p W most n old new)
   pub cause : PutCause faults_old faults_new result
+  pub quiet : WantsUnwritten quiet_old quiet_new old new result
 
 -- what was written of an answer to the input, and the status with it
 abbrev pub WroteFor : (List ℕ → List ℕ → Status → Type 0) → List ℕ → Option (List ℕ) → Option (List ℕ) → ℕ → ℕ → Status → Type 0

@@ -9,7 +9,7 @@ ghost use Rattle.problem_data.specs.Cells.{IsTuple};
 ghost use Rattle.geost_run.specs.declared.command.Command.TheVariants.{All};
 ghost use Rattle.geost_run.specs.All.{BeginsAs, Starts, WritesAll, WroteFor};
 ghost use Rattle.geost_run.specs.Answer.{AllAnswer, FrontOf, last_line};
-ghost use Rattle.geost_run.specs.Ends.{Ends};
+ghost use Rattle.geost_run.specs.Ends.{Ends, WantsFirst};
 ghost use Rattle.geost_run.specs.Reading.{ReadCause, TakesAtMost, Tells};
 
 use crate::accepted::{Accepted, read_accepted};
@@ -52,6 +52,8 @@ pub fn carry_out_all<S: Source, W: Sink>(
         (S.left source.old) (S.faults source.old) (S.faults source.new)
         (W.written sink.old) (W.written sink.new) (W.faults sink.old) (W.faults sink.new) result }
     ensures most { TakesAtMost 1048577 (S.left source.old) (S.left source.new) }
+    ensures quiet { WantsFirst (W.quiet sink.old) (W.written sink.old) (W.written sink.new)
+        result }
 {
     match begin(alloc, page.token, source) {
         Ok(Begun::Listing(start)) => write_page(alloc, start, page, sink),
@@ -100,9 +102,11 @@ fn begin_with(alloc: Global, token: Option<&str>, text: &[u8]) -> Result<Begun, 
 fn write_page<W: Sink>(alloc: Global, start: Start, page: Page<'_>, sink: &mut W) -> Status
     requires conditions { AreConditionsOf start.accepted.problem start.accepted.conditions.items }
     requires after { IfSome start.after (IsTuple start.accepted.problem) }
-    ensures { (input : List ℕ) → Starts (option_copied page.entry.token) input start
+    ensures wrote { (input : List ℕ) → Starts (option_copied page.entry.token) input start
         → WroteFor (AllAnswer page.entry.most page.entry.budget (option_copied page.entry.token))
         input (W.written sink.old) (W.written sink.new) (W.faults sink.old) (W.faults sink.new)
+        result }
+    ensures quiet { WantsFirst (W.quiet sink.old) (W.written sink.old) (W.written sink.new)
         result }
 {
     match write_layouts(alloc, start, page.most, page.budget, sink) {
@@ -125,7 +129,8 @@ fn write_layouts<W: Sink>(
     requires after { IfSome start.after (IsTuple start.accepted.problem) }
     ensures { WritesAll start.accepted.problem
         (walk_after start.accepted.problem start.accepted.conditions.items start.after) most budget
-        (W.written sink.old) (W.written sink.new) (W.faults sink.old) (W.faults sink.new) result }
+        (W.written sink.old) (W.written sink.new) (W.faults sink.old) (W.faults sink.new)
+        (W.quiet sink.old) (W.quiet sink.new) result }
 {
     let Start { accepted, after } = start;
     let Accepted {

@@ -2,7 +2,7 @@
 ghost use Rattle.std.specs.Prelude.{◌≡◌, Err, IfOk};
 ghost use Rattle.geost_run.specs.Answer.{AnswerTo, BeginsOf};
 ghost use Rattle.geost_run.specs.Decision.{decision_text, decision_status, Decides, IsDecided, IsDecidedFirst};
-ghost use Rattle.geost_run.specs.Ends.{Ends, Finishes};
+ghost use Rattle.geost_run.specs.Ends.{Ends, Finishes, WantsFirst};
 ghost use Rattle.geost_run.specs.Reading.{ReadCause, ReadsNothing, TakesAtMost, most_taken};
 ghost use Rattle.geost_run.specs.Words.{IsInRange};
 
@@ -30,6 +30,8 @@ pub fn carry_out<S: Source, W: Sink>(
         (S.left source.old) (S.left source.new) }
     ensures unread { ReadsNothing command.entry
         → (source.new ≡ source.old) × (result ≡ Status.ReadFault → ⊥) }
+    ensures quiet { WantsFirst (W.quiet sink.old) (W.written sink.old) (W.written sink.new)
+        result }
 {
     if let Command::All(page) = command {
         return carry_out_all(alloc, page, source, sink);
@@ -83,8 +85,10 @@ fn decide_input<S: Source>(
 // Writes what was decided, and says how that ended.
 pub fn finish<W: Sink>(alloc: Global, sink: &mut W, decision: &Decision) -> Status
     requires { IsDecided decision.now }
-    ensures { Finishes (decision_text decision.now) (decision_status decision.now)
+    ensures finishes { Finishes (decision_text decision.now) (decision_status decision.now)
         (W.written sink.old) (W.written sink.new) (W.faults sink.old) (W.faults sink.new) result }
+    ensures quiet { WantsFirst (W.quiet sink.old) (W.written sink.old) (W.written sink.new)
+        result }
 {
     match write_decision(alloc, sink, decision) {
         Ok(()) => decision.status(),

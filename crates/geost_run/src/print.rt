@@ -28,7 +28,8 @@ pub fn write_decision<W: Sink>(
 ) -> Result<(), PutFault>
     requires { IsDecided decision.now }
     ensures { WritesAnswer (W.written sink.old) (W.written sink.new)
-        (W.faults sink.old) (W.faults sink.new) result (decision_text decision.now) }
+        (W.faults sink.old) (W.faults sink.new) (W.quiet sink.old) (W.quiet sink.new) result
+        (decision_text decision.now) }
 {
     match decision {
         Decision::Refuse(place, word) => write_refusal(sink, *place, *word),

@@ -1,10 +1,10 @@
 -- The layouts of a listing, and what is written of it.
-use Rattle.std.specs.Prelude.{◌≡◌, ℕ, ℤ, List, map, flat_map, All, Option, Result, MatchResult}
+use Rattle.std.specs.Prelude.{◌≡◌, ℕ, ℤ, List, map, flat_map, All, Option, Result, MatchResult, Bool}
 use Rattle.std.specs.Io.KnownBytes.{Appends}
 use Rattle.geo_base.specs.Tuple.{Tuple}
 use Rattle.geo_chan.specs.declared.outside.PutFault.{PutFault}
 use Rattle.geo_chan.specs.Causes.{PutCause}
-use Rattle.geo_chan.specs.Written.{AppendsFront}
+use Rattle.geo_chan.specs.Written.{AppendsFront, WantsUnwritten}
 use Rattle.geo_conditions.specs.declared.cond.Cond.{Cond}
 use Rattle.geo_conditions.specs.Walk.{Tree, values, IsListing, EndWord}
 use Rattle.geo_conditions.specs.Walk as walk
@@ -43,7 +43,8 @@ abbrev pub WrotePagesFront : ProblemData → Tree → ℕ → ℕ → Option (Li
 WrotePagesFront p W most n old new = (ts : List Tuple) × (word : EndWord) × IsPage p W most n ts word × AppendsFront old new (blocks_of p ts)
 
 -- Ok: the blocks of the listing were written, whole, and it ends so. Else a front part of them was, and Failed exactly where the count of
--- faults rose
-pub record WritesPage (p : ProblemData) (W : Tree) (most n : ℕ) (written_old written_new : Option (List ℕ)) (faults_old faults_new : ℕ) (result : Result Ending PutFault) : Type 0 where
+-- faults rose. Over a quiet sink memory is wanted only before the first block
+pub record WritesPage (p : ProblemData) (W : Tree) (most n : ℕ) (written_old written_new : Option (List ℕ)) (faults_old faults_new : ℕ) (quiet_old quiet_new : Bool) (result : Result Ending PutFault) : Type 0 where
   pub bytes : MatchResult result (WrotePage p W most n written_old written_new) (λ _. WrotePagesFront p W most n written_old written_new)
   pub cause : PutCause faults_old faults_new result
+  pub quiet : WantsUnwritten quiet_old quiet_new written_old written_new result

@@ -13,7 +13,7 @@ use fixpoint::Fixpoint;
 use geo_base::MAX_DIMS;
 use geo_chan::{Page, PutFault, Sink, write_all_bytes};
 use geo_conditions::{Cond, Layout};
-use layout_search::{found_layout, start_search};
+use layout_search::{room_for_layout, start_search, take_layout};
 use layout_text::print_layout;
 use problem_data::problem::Problem;
 use std::alloc::Global;
@@ -32,7 +32,8 @@ pub enum Ending {
 
 /// Writes the blocks of the first `most` layouts of the problem, where these are its conditions, among the first `budget`
 /// members of its walk, behind the tuple `after` where one is given; each block as soon as it is found. Says how the listing
-/// ends. After a fault a front part of the listing was written.
+/// ends. After a fault a front part of the listing was written. All memory is taken before the first block: where the sink wants
+/// none, memory is wanted only where nothing was written.
 pub fn write_listing<W: Sink>(
     alloc: Global,
     problem: &Problem,
@@ -46,7 +47,8 @@ pub fn write_listing<W: Sink>(
     requires after { IfSome (option_copied after) (IsTuple problem.now) }
     ensures { WritesPage problem.now
         (walk_after problem.now conditions.items (option_copied after.entry)) most budget
-        (W.written sink.old) (W.written sink.new) (W.faults sink.old) (W.faults sink.new) result }
+        (W.written sink.old) (W.written sink.new) (W.faults sink.old) (W.faults sink.new)
+        (W.quiet sink.old) (W.quiet sink.new) result }
 {
     problem.is_said();
     match problem.dims() {
@@ -74,19 +76,22 @@ fn write_in<const K: usize, W: Sink>(
     requires after { IfSome (option_copied after) (IsTuple problem.now) }
     ensures { WritesPage problem.now
         (walk_after problem.now conditions.items (option_copied after.entry)) most budget
-        (W.written sink.old) (W.written sink.new) (W.faults sink.old) (W.faults sink.new) result }
+        (W.written sink.old) (W.written sink.new) (W.faults sink.old) (W.faults sink.new)
+        (W.quiet sink.old) (W.quiet sink.new) result }
 {
     problem.is_said();
     let none = NoRecord::new();
     let mut search = start_search::<K, NoRecord>(alloc, problem, conditions, after, budget, none)?;
-    write_layouts(alloc, problem, &mut search, most, sink)
+    let mut layout = room_for_layout(alloc, problem)?;
+    write_layouts(problem, &mut search, &mut layout, most, sink)
 }
 
-// Writes the blocks of the next `most` layouts of a search that has not set off.
+// Writes the blocks of the next `most` layouts of a search that has not set off. It takes no memory: each layout is put into
+// the one that is handed in.
 fn write_layouts<const K: usize, W: Sink>(
-    alloc: Global,
     problem: &Problem,
     search: &mut Search<K, Fixpoint<K>, NoRecord>,
+    layout: &mut Layout,
     most: u64,
     sink: &mut W,
 ) -> Result<Ending, PutFault>
@@ -95,15 +100,17 @@ fn write_layouts<const K: usize, W: Sink>(
     requires walk { IsWalkOf problem.now search.old.walk }
     requires walked { search.old.walked ≡ 0 }
     requires over { search.old.over ≡ None }
+    requires room { IsShaped problem.now layout.old }
     ensures { WritesPage problem.now search.old.walk most search.old.budget
-        (W.written sink.old) (W.written sink.new) (W.faults sink.old) (W.faults sink.new) result }
+        (W.written sink.old) (W.written sink.new) (W.faults sink.old) (W.faults sink.new)
+        (W.quiet sink.old) (W.quiet sink.new) result }
 {
     problem.is_said();
     'listing: for listed in 0..most {
         match search.next() {
             Step::Found => {
-                let layout = found_layout(alloc, problem, search)?;
-                write_block(problem, &layout, sink)?;
+                take_layout(problem, search, layout);
+                write_block(problem, layout, sink)?;
             }
             Step::Ended => return Ok(Ending::End),
             Step::Budget => return Ok(Ending::OutOfBudget),

@@ -5,4 +5,4 @@ mod first;
 mod start;
 
 pub use first::{Outcome, search_first, search_first_unrecorded};
-pub use start::{found_layout, start_search};
+pub use start::{found_layout, room_for_layout, start_search, take_layout};

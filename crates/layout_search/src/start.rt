@@ -1,10 +1,10 @@
 //! A search over conditions of a problem, and the layouts that it finds.
 
-ghost use Rattle.std.specs.Prelude.{◌≡◌, ◌==◌, ◌^◌, ◌<◌, ◌≤◌, ◌++◌, [], ◌∷◌, IfOk, IfSome, IsSome, None, OnOk, false, length, map, true};
+ghost use Rattle.std.specs.Prelude.{◌≡◌, ◌==◌, ◌^◌, ◌<◌, ◌≤◌, IfOk, IfSome, IsSome, None, false, length, map, slice_set, true};
 ghost use Rattle.std.specs.Option.{option_copied};
 ghost use Rattle.geo_base.specs.Tuple.{Tuple, spot};
 ghost use Rattle.geo_conditions.specs.Conditions.{AllFit};
-ghost use Rattle.problem_data.specs.Cells.{IsTuple};
+ghost use Rattle.problem_data.specs.Cells.{IsShaped, IsTuple};
 ghost use Rattle.rule_ground.specs.Start.{first_state};
 ghost use Rattle.trail_search.specs.Next.{HasFound};
 ghost use Rattle.layout_search.specs.FirstLayout.{walk_after};
@@ -95,6 +95,53 @@ fn propagator_of<const K: usize>(
     Fixpoint::start(alloc, list, objects)
 }
 
+/// A layout with room for those of the problem: each object at its first place, with the origin at zero.
+pub fn room_for_layout(alloc: Global, problem: &Problem) -> Result<Layout, AllocError>
+    ensures { IfOk result (IsShaped problem.now) }
+{
+    problem.is_said();
+    Layout::with_room(alloc, problem.objects().len(), problem.dims())
+}
+
+/// Puts the layout that the search has found into one that has room for it. It takes no memory.
+pub fn take_layout<const K: usize, R: Recorder + Drop>(
+    problem: &Problem,
+    search: &Search<K, Fixpoint<K>, R>,
+    layout: &mut Layout,
+)
+    requires k { K ≤ MAX_DIMS }
+    requires dims { problem.now.dims ≡ K }
+    requires first { search.now.walk.first ≡ first_state problem.now }
+    requires found { HasFoundIn problem.now search.now }
+    requires room { IsShaped problem.now layout.old }
+    ensures found { HasFound search.now layout.new }
+    ensures tuple { IsTuple problem.now layout.new }
+{
+    problem.is_said();
+    for i in 0..problem.objects().len() {
+        put_spot(search, ObjId(i as u16), layout);
+    }
+}
+
+// Puts one object where the search has put it.
+fn put_spot<const K: usize, R: Recorder + Drop>(
+    search: &Search<K, Fixpoint<K>, R>,
+    o: ObjId,
+    layout: &mut Layout,
+)
+    requires k { K ≤ MAX_DIMS }
+    requires found { IsSome search.now.layout }
+    requires object { o.0 < length search.now.walk.first }
+    requires room { (o.0 < length layout.old) × (length (spot layout.old o.0).origin ≡ K) }
+    ensures { (t : Tuple) → HasFound search.now t → length (spot t o.0).origin ≡ K
+        → layout.new ≡ slice_set layout.old o.0 (spot t o.0) }
+{
+    layout.set_place(o, search.place(o));
+    for d in 0..K {
+        layout.set_value(o, d, search.value(o, d));
+    }
+}
+
 /// The layout that the search has found.
 pub fn found_layout<const K: usize, R: Recorder + Drop>(
     alloc: Global,
@@ -107,29 +154,7 @@ pub fn found_layout<const K: usize, R: Recorder + Drop>(
     requires found { HasFoundIn problem.now search.now }
     ensures { IfOk result (λ l. HasFound search.now l × IsTuple problem.now l) }
 {
-    problem.is_said();
-    let mut layout = Layout::new(alloc);
-    for i in 0..problem.objects().len() {
-        push_spot(search, ObjId(i as u16), &mut layout)?;
-    }
+    let mut layout = room_for_layout(alloc, problem)?;
+    take_layout(problem, search, &mut layout);
     Ok(layout)
-}
-
-// Appends where the search has put the object.
-fn push_spot<const K: usize, R: Recorder + Drop>(
-    search: &Search<K, Fixpoint<K>, R>,
-    o: ObjId,
-    layout: &mut Layout,
-) -> Result<(), AllocError>
-    requires k { K ≤ MAX_DIMS }
-    requires found { IsSome search.now.layout }
-    requires object { o.0 < length search.now.walk.first }
-    ensures { OnOk result ((t : Tuple) → HasFound search.now t → length (spot t o.0).origin ≡ K
-        → layout.new ≡ layout.old ++ spot t o.0 ∷ []) }
-{
-    let mut origin = [0; MAX_DIMS];
-    for d in 0..K {
-        origin[d] = search.value(o, d);
-    }
-    layout.push(search.place(o), &origin[..K])
 }

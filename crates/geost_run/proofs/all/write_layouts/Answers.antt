@@ -12,8 +12,8 @@ returns-in_err-ending g c =
     let p = s.accepted.problem in
     let cs = s.accepted.conditions.items in
     let x = err_from_is_err_and c.from_residual.result c.from_residual.ensures.1 in
-    let h = subst (λ (o : Option Tuple). WritesPage p (walk_after p cs o) c.args.most c.args.budget (g.W.Sink.written c.args.sink.now) (g.W.Sink.written c.write_listing.new.sink) (g.W.Sink.faults c.args.sink.now) (g.W.Sink.faults c.write_listing.new.sink) (Err c.in_err-ending.field-0.0)) c.as_ref-after.ensures.value c.in_err-ending.ensures in
-    rw (x.1, x.2) (page_cut p (walk_after p cs s.after) c.args.most c.args.budget _ _ _ _ c.in_err-ending.field-0.0 h)
+    let h = subst (λ (o : Option Tuple). WritesPage p (walk_after p cs o) c.args.most c.args.budget (g.W.Sink.written c.args.sink.now) (g.W.Sink.written c.write_listing.new.sink) (g.W.Sink.faults c.args.sink.now) (g.W.Sink.faults c.write_listing.new.sink) (g.W.Sink.quiet c.args.sink.now) (g.W.Sink.quiet c.write_listing.new.sink) (Err c.in_err-ending.field-0.0)) c.as_ref-after.ensures.value c.in_err-ending.ensures in
+    rw (x.1, x.2) (page_cut p (walk_after p cs s.after) c.args.most c.args.budget _ _ _ _ _ _ c.in_err-ending.field-0.0 h)
 
 pub returns-in_err-write_last_line : goal.returns-in_err-write_last_line
 returns-in_err-write_last_line g c =
@@ -21,13 +21,13 @@ returns-in_err-write_last_line g c =
     let p = s.accepted.problem in
     let cs = s.accepted.conditions.items in
     let x = err_from_is_err_and c.from_residual-in_err-write_last_line.result c.from_residual-in_err-write_last_line.ensures.1 in
-    let h = subst (λ (o : Option Tuple). WritesPage p (walk_after p cs o) c.args.most c.args.budget (g.W.Sink.written c.args.sink.now) (g.W.Sink.written c.write_listing.new.sink) (g.W.Sink.faults c.args.sink.now) (g.W.Sink.faults c.write_listing.new.sink) (Ok c.in_ok-ending.ending)) c.as_ref-after.ensures.value c.in_ok-ending.ensures in
-    rw (x.1, x.2) (line_cut p (walk_after p cs s.after) c.args.most c.args.budget _ _ _ _ _ _ _ _ c.in_ok-ending.ending h c.in_err-write_last_line.field-0.0 c.in_err-write_last_line.ensures)
+    let h = subst (λ (o : Option Tuple). WritesPage p (walk_after p cs o) c.args.most c.args.budget (g.W.Sink.written c.args.sink.now) (g.W.Sink.written c.write_listing.new.sink) (g.W.Sink.faults c.args.sink.now) (g.W.Sink.faults c.write_listing.new.sink) (g.W.Sink.quiet c.args.sink.now) (g.W.Sink.quiet c.write_listing.new.sink) (Ok c.in_ok-ending.ending)) c.as_ref-after.ensures.value c.in_ok-ending.ensures in
+    rw (x.1, x.2) (line_cut p (walk_after p cs s.after) c.args.most c.args.budget _ _ _ _ _ _ _ _ _ c.in_ok-ending.ending h c.in_err-write_last_line.field-0.0 c.in_err-write_last_line.ensures)
 
 pub returns : goal.returns
 returns g c =
     let s = c.args.start in
     let p = s.accepted.problem in
     let cs = s.accepted.conditions.items in
-    let h = subst (λ (o : Option Tuple). WritesPage p (walk_after p cs o) c.args.most c.args.budget (g.W.Sink.written c.args.sink.now) (g.W.Sink.written c.write_listing.new.sink) (g.W.Sink.faults c.args.sink.now) (g.W.Sink.faults c.write_listing.new.sink) (Ok c.in_ok-ending.ending)) c.as_ref-after.ensures.value c.in_ok-ending.ensures in
-    line_written p (walk_after p cs s.after) c.args.most c.args.budget _ _ _ _ _ _ _ _ c.in_ok-ending.ending h c.in_ok-write_last_line.field-0 c.in_ok-write_last_line.ensures
+    let h = subst (λ (o : Option Tuple). WritesPage p (walk_after p cs o) c.args.most c.args.budget (g.W.Sink.written c.args.sink.now) (g.W.Sink.written c.write_listing.new.sink) (g.W.Sink.faults c.args.sink.now) (g.W.Sink.faults c.write_listing.new.sink) (g.W.Sink.quiet c.args.sink.now) (g.W.Sink.quiet c.write_listing.new.sink) (Ok c.in_ok-ending.ending)) c.as_ref-after.ensures.value c.in_ok-ending.ensures in
+    line_written p (walk_after p cs s.after) c.args.most c.args.budget _ _ _ _ _ _ _ _ _ c.in_ok-ending.ending h c.in_ok-write_last_line.field-0 c.in_ok-write_last_line.ensures

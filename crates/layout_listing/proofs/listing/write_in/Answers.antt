@@ -1,16 +1,19 @@
-use Rattle.std.proofs.Common.{ℕ, [], subst, refl, arith}
+use Rattle.std.proofs.Common.{ℕ, List, Option, [], subst, refl, arith}
 use Rattle.std.specs.Option.{option_copied, option_map}
 use Rattle.std.proofs.lemmas.List.Elements.{All-nil}
 use Rattle.std.proofs.lemmas.Result.{err_from_is_err_and}
-use Rattle.geo_chan.proofs.Appending.{wrote_none}
-use Rattle.geo_conditions.specs.Walk.{Tree, values}
+use Rattle.geo_conditions.specs.Walk.{EndWord, Tree, values}
 use Rattle.geo_conditions.proofs.Steps.{front_none}
-use Rattle.layout_search.specs.FirstLayout.{walk_after}
+use Rattle.geo_base.specs.Tuple.{Tuple}
+use Rattle.geo_conditions.specs.declared.cond.Cond.{Cond}
+use Rattle.layout_search.specs.FirstLayout.{AreConditionsOf, walk_after}
+use Rattle.problem_data.specs.Problem.{ProblemData}
+use Rattle.problem_data.specs.WellFormed.{IsWellFormed}
 use Rattle.problem_data.specs.Layouts.{IsLayout}
 use Rattle.rule_ground.specs.Order.{variables_for}
-use Rattle.layout_listing.specs.Page.{IsWalkOf, WritesPage}
+use Rattle.layout_listing.specs.Page.{IsPage, WritesPage}
 use Rattle.layout_listing.proofs.Listed.{goes-on}
-use Rattle.layout_listing.proofs.Pages.{page-wanting}
+use Rattle.layout_listing.proofs.Pages.{page-unbegun}
 use Rattle.layout_listing.proofs.listing.write_in.Goals as goal
 
 pub write_layouts-requires : goal.write_layouts-requires
@@ -24,25 +27,36 @@ write_layouts-requires g c = (
         c.requires.dims,
         (
           (c.args.conditions.items, option_map (values (variables_for c.args.problem.now)) (option_copied c.args.after), c.requires.conditions, c.in_ok-search.ensures.walk),
-          (c.in_ok-search.ensures.walked, c.in_ok-search.ensures.over),
+          (c.in_ok-search.ensures.walked, (c.in_ok-search.ensures.over, c.in_ok-layout.ensures)),
         ),
       ),
     ),
   ),
 )
 
+-- from nothing on there is a listing
+some-page : (p : ProblemData) (cs : List Cond) (after : Option Tuple) (most n : ℕ) → IsWellFormed p → AreConditionsOf p cs → (ts : List Tuple) × (word : EndWord) × IsPage p (walk_after p cs after) most n ts word
+some-page p cs after most n well are =
+    let W = walk_after p cs after in
+    goes-on p W n well (cs, option_map (values (variables_for p)) after, are, refl) most [] [] (front_none W) refl (omega arith) (omega arith) (All-nil (IsLayout p))
+
 pub returns-in_err-search : goal.returns-in_err-search
 returns-in_err-search g c =
-    let p = c.args.problem.now in
-    let W = walk_after p c.args.conditions.items (option_copied c.args.after) in
-    let of : IsWalkOf p W = (c.args.conditions.items, option_map (values (variables_for p)) (option_copied c.args.after), c.requires.conditions, refl) in
-    let r = goes-on p W c.args.budget c.is_said.ensures.formed of c.args.most [] [] (front_none W) refl (omega arith) (omega arith) (All-nil (IsLayout p)) in
+    let r = some-page c.args.problem.now c.args.conditions.items (option_copied c.args.after) c.args.most c.args.budget c.is_said.ensures.formed c.requires.conditions in
     let x = err_from_is_err_and c.from_residual.result c.from_residual.ensures.1 in
-    rw (x.1, x.2) (page-wanting p W c.args.most c.args.budget _ _ _ _ _ _ [] (wrote_none (g.W.Sink.written c.args.sink.now) (g.W.Sink.faults c.args.sink.now) (g.W.Sink.quiet c.args.sink.now)) r.0 r.1 r.2)
+    rw (x.1, x.2) (page-unbegun c.args.problem.now _ c.args.most c.args.budget _ _ _ r.0 r.1 r.2)
+
+pub returns-in_err-layout : goal.returns-in_err-layout
+returns-in_err-layout g c =
+    let r = some-page c.args.problem.now c.args.conditions.items (option_copied c.args.after) c.args.most c.args.budget c.is_said.ensures.formed c.requires.conditions in
+    let x = err_from_is_err_and c.from_residual-in_err-layout.result c.from_residual-in_err-layout.ensures.1 in
+    rw (x.1, x.2) (page-unbegun c.args.problem.now _ c.args.most c.args.budget _ _ _ r.0 r.1 r.2)
 
 pub returns : goal.returns
 returns g c =
     let p = c.args.problem.now in
     let s = c.in_ok-search.search in
-    subst (λ (V : Tree). WritesPage p V c.args.most c.args.budget (g.W.Sink.written c.args.sink.now) (g.W.Sink.written c.write_layouts.new.sink) (g.W.Sink.faults c.args.sink.now) (g.W.Sink.faults c.write_layouts.new.sink) c.write_layouts.result) c.in_ok-search.ensures.walk
-    (subst (λ (n : ℕ). WritesPage p s.walk c.args.most n (g.W.Sink.written c.args.sink.now) (g.W.Sink.written c.write_layouts.new.sink) (g.W.Sink.faults c.args.sink.now) (g.W.Sink.faults c.write_layouts.new.sink) c.write_layouts.result) c.in_ok-search.ensures.budget c.write_layouts.ensures)
+    let new = c.write_layouts.new.sink in
+    let old = c.args.sink.now in
+    let Writes : Tree → ℕ → Type 0 = λ V n. WritesPage p V c.args.most n (g.W.Sink.written old) (g.W.Sink.written new) (g.W.Sink.faults old) (g.W.Sink.faults new) (g.W.Sink.quiet old) (g.W.Sink.quiet new) c.write_layouts.result in
+    subst (λ (V : Tree). Writes V c.args.budget) c.in_ok-search.ensures.walk (subst (Writes s.walk) c.in_ok-search.ensures.budget c.write_layouts.ensures)

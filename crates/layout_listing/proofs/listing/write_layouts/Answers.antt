@@ -11,16 +11,16 @@ use Rattle.layout_listing.specs.declared.listing.Ending.TheVariants.{More, End, 
 use Rattle.layout_listing.specs.Page.{IsPage, blocks_of}
 use Rattle.layout_listing.proofs.Layouts.{shaped-tuple}
 use Rattle.layout_listing.proofs.Listed.{answered, none-listed, one-more, more-page, end-page, spent-page, listed-on}
-use Rattle.layout_listing.proofs.Pages.{page-written, page-wanting, page-cut}
+use Rattle.layout_listing.proofs.Pages.{page-written, page-cut}
 use Rattle.layout_listing.proofs.listing.write_layouts.Goals as goal
 
 pub listing-init : goal.listing-init
 listing-init g c =
     let a = c.args.search.now in
-    ([], refl, none-listed c.args.problem.now a.walk a.budget c.is_said.ensures.formed c.requires.walk a refl refl c.requires.over c.requires.walked, wrote_none _ _ _)
+    ([], refl, none-listed c.args.problem.now a.walk a.budget c.is_said.ensures.formed c.requires.walk a refl refl c.requires.over c.requires.walked, c.requires.room, wrote_none _ _ _)
 
-pub found_layout-requires : goal.found_layout-requires
-found_layout-requires g c =
+pub take_layout-requires : goal.take_layout-requires
+take_layout-requires g c =
     let a = c.listing.search in
     let b = c.next.new.self in
     let h = c.listing.invariant.2 in
@@ -30,17 +30,7 @@ found_layout-requires g c =
     (omega arith, (omega arith, (c.requires.k, (c.requires.dims, (ap (λ (V : Tree). V.first) (same ∙ h.walk ∙ e), found-tuple c.args.problem.now cs past c.is_said.ensures.formed are.fit a b (h.walk ∙ e) same step)))))
 
 pub write_block-requires : goal.write_block-requires
-write_block-requires g c = shaped-tuple c.args.problem.now c.in_ok-layout-in-Found.layout c.in_ok-layout-in-Found.ensures.1
-
-pub returns-in_err-layout-in-Found : goal.returns-in_err-layout-in-Found
-returns-in_err-layout-in-Found g c =
-    let p = c.args.problem.now in
-    let a = c.args.search.now in
-    let ts = c.listing.invariant.0 in
-    let size = c.listing.invariant.1 in
-    let r = listed-on p a.walk a.budget c.is_said.ensures.formed c.requires.walk c.args.most c.listing.search ts c.listing.invariant.2 (omega (arith, size, c.listing-test.true)) in
-    let x = err_from_is_err_and c.from_residual.result c.from_residual.ensures.1 in
-    rw (x.1, x.2) (page-wanting p a.walk c.args.most a.budget _ _ _ _ _ _ ts c.listing.invariant.3 r.0 r.1 r.2)
+write_block-requires g c = shaped-tuple c.args.problem.now c.take_layout.new.layout c.take_layout.ensures.tuple
 
 pub returns-in_err-write_block-in-Found : goal.returns-in_err-write_block-in-Found
 returns-in_err-write_block-in-Found g c =
@@ -50,13 +40,13 @@ returns-in_err-write_block-in-Found g c =
     let ts = c.listing.invariant.0 in
     let size = c.listing.invariant.1 in
     let h = c.listing.invariant.2 in
-    let t = c.in_ok-layout-in-Found.layout in
+    let t = c.take_layout.new.layout in
     let steps = c.in-Found.ensures.steps in
-    let m = one-more p a.walk a.budget c.is_said.ensures.formed c.requires.walk c.listing.search b ts t h steps.0 steps.1 (answered c.listing.search b _ h.over steps) c.in_ok-layout-in-Found.ensures.1 c.in_ok-layout-in-Found.ensures.0 in
+    let m = one-more p a.walk a.budget c.is_said.ensures.formed c.requires.walk c.listing.search b ts t h steps.0 steps.1 (answered c.listing.search b _ h.over steps) c.take_layout.ensures.tuple c.take_layout.ensures.found in
     let r = listed-on p a.walk a.budget c.is_said.ensures.formed c.requires.walk c.args.most b (ts ++ t ∷ []) m (omega (arith, size, c.listing-test.true, length-append ts (t ∷ []))) in
     let page : IsPage p a.walk c.args.most a.budget (ts ++ t ∷ r.0) r.1 = subst (λ (us : List Tuple). IsPage p a.walk c.args.most a.budget us r.1) (append_assoc ts (t ∷ []) r.0) r.2 in
-    let x = err_from_is_err_and c.from_residual-in_err-write_block-in-Found.result c.from_residual-in_err-write_block-in-Found.ensures.1 in
-    rw (x.1, x.2) (page-cut p a.walk c.args.most a.budget _ _ _ _ _ _ ts c.listing.invariant.3 _ _ _ _ t r.0 r.1 c.in_err-write_block-in-Found.ensures page)
+    let x = err_from_is_err_and c.from_residual.result c.from_residual.ensures.1 in
+    rw (x.1, x.2) (page-cut p a.walk c.args.most a.budget _ _ _ _ _ _ ts c.listing.invariant.4 _ _ _ _ t r.0 r.1 c.in_err-write_block-in-Found.ensures page)
 
 pub returns-in-Ended : goal.returns-in-Ended
 returns-in-Ended g c =
@@ -68,7 +58,7 @@ returns-in-Ended g c =
     let h = c.listing.invariant.2 in
     let steps = c.in-Ended.ensures.steps in
     let page = end-page p a.walk a.budget c.is_said.ensures.formed c.requires.walk c.args.most c.listing.search b ts h steps.0 (answered c.listing.search b _ h.over steps) (omega (arith, size, c.listing-test.true)) in
-    page-written p a.walk c.args.most a.budget _ _ _ _ _ _ ts c.listing.invariant.3 End page
+    page-written p a.walk c.args.most a.budget _ _ _ _ _ _ ts c.listing.invariant.4 End page
 
 pub returns-in-Budget : goal.returns-in-Budget
 returns-in-Budget g c =
@@ -80,7 +70,7 @@ returns-in-Budget g c =
     let h = c.listing.invariant.2 in
     let steps = c.in-Budget.ensures.steps in
     let page = spent-page p a.walk a.budget c.is_said.ensures.formed c.requires.walk c.args.most c.listing.search b ts h steps.0 (answered c.listing.search b _ h.over steps) (omega (arith, size, c.listing-test.true)) in
-    page-written p a.walk c.args.most a.budget _ _ _ _ _ _ ts c.listing.invariant.3 OutOfBudget page
+    page-written p a.walk c.args.most a.budget _ _ _ _ _ _ ts c.listing.invariant.4 OutOfBudget page
 
 pub listing-preserved : goal.listing-preserved
 listing-preserved g c =
@@ -90,12 +80,13 @@ listing-preserved g c =
     let ts = c.listing.invariant.0 in
     let size = c.listing.invariant.1 in
     let h = c.listing.invariant.2 in
-    let t = c.in_ok-layout-in-Found.layout in
+    let t = c.take_layout.new.layout in
     let steps = c.in-Found.ensures.steps in (
       ts ++ t ∷ [],
       omega (arith, size, length-append ts (t ∷ [])),
-      one-more p a.walk a.budget c.is_said.ensures.formed c.requires.walk c.listing.search b ts t h steps.0 steps.1 (answered c.listing.search b _ h.over steps) c.in_ok-layout-in-Found.ensures.1 c.in_ok-layout-in-Found.ensures.0,
-      wrote_ok _ _ _ _ _ _ _ _ _ _ _ _ _ c.listing.invariant.3 c.in_ok-write_block-in-Found.ensures (flat_map-append (block_of p) ts (t ∷ []) ∙ ap (λ (x : List _). blocks_of p ts ++ x) (append-nil (block_of p t))),
+      one-more p a.walk a.budget c.is_said.ensures.formed c.requires.walk c.listing.search b ts t h steps.0 steps.1 (answered c.listing.search b _ h.over steps) c.take_layout.ensures.tuple c.take_layout.ensures.found,
+      shaped-tuple p t c.take_layout.ensures.tuple,
+      wrote_ok _ _ _ _ _ _ _ _ _ _ _ _ _ c.listing.invariant.4 c.in_ok-write_block-in-Found.ensures (flat_map-append (block_of p) ts (t ∷ []) ∙ ap (λ (x : List _). blocks_of p ts ++ x) (append-nil (block_of p t))),
     )
 
 pub returns : goal.returns
@@ -105,4 +96,4 @@ returns g c =
     let ts = c.listing.invariant.0 in
     let size = c.listing.invariant.1 in
     let page = more-page p a.walk a.budget c.is_said.ensures.formed c.requires.walk c.args.most c.listing.search ts c.listing.invariant.2 (omega (arith, size, c.listing-test.false)) in
-    page-written p a.walk c.args.most a.budget _ _ _ _ _ _ ts c.listing.invariant.3 More page
+    page-written p a.walk c.args.most a.budget _ _ _ _ _ _ ts c.listing.invariant.4 More page
