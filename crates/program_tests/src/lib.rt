@@ -13,3 +13,5 @@ mod listing;
 mod making;
 #[cfg(test)]
 mod nothing;
+#[cfg(test)]
+mod room;
