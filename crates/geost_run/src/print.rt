@@ -14,7 +14,7 @@ use derivation_text::print_derivation;
 use geo_chan::{Piece, PutFault, Sink, write_all_bytes, write_pieces};
 use geo_tokens::fault::{FaultWord, fault_text};
 use geo_tokens::names::Names;
-use layout_text::print_layout;
+use layout_listing::write_block;
 use problem_data::problem::Problem;
 use problem_summary::print_summary;
 use problem_text::print::print_problem;
@@ -35,7 +35,7 @@ pub fn write_decision<W: Sink>(
         Decision::Refuse(place, word) => write_refusal(sink, *place, *word),
         Decision::Nothing(names, log) => write_nothing(sink, names, log),
         Decision::Budget(most) => write_budget(sink, *most),
-        Decision::Layout(problem, layout) => print_layout(problem, layout, sink),
+        Decision::Layout(problem, layout) => write_block(problem, layout, sink),
         Decision::Shown(problem) => print_problem(alloc, problem, sink),
         Decision::Good => write_all_bytes(sink, b"good\n"),
         Decision::Broken(problem, number) => write_broken(sink, problem, *number),

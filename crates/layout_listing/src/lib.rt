@@ -5,4 +5,4 @@ mod laws;
 mod listing;
 
 pub use laws::listings_are_of_layouts;
-pub use listing::{Ending, write_listing};
+pub use listing::{Ending, write_block, write_listing};
