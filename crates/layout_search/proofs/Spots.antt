@@ -1,5 +1,5 @@
 -- The layout that was found, spot by spot.
-use Rattle.std.proofs.Common.{◌≡◌, ◌<◌, ◌≤◌, ◌+◌, ℕ, ℤ, zero, suc, pos, List, [], ◌∷◌, length, get_or, set, refl, sym, ap, ◌∙◌, subst, arith}
+use Rattle.std.proofs.Common.{◌≡◌, ◌<◌, ◌≤◌, ◌+◌, ℕ, ℤ, zero, suc, pos, List, [], ◌∷◌, length, get_or, set, refl, sym, ap, ◌∙◌, subst, inl, inr, arith}
 use Rattle.std.proofs.lemmas.List.{ext_get_or, get_or-set_other, get_or-set_same, length-set}
 use Rattle.std.proofs.lemmas.Bool.{cases_lt}
 use Rattle.geo_base.specs.Boxes.{coordinate}
@@ -53,9 +53,9 @@ module _ (Is : Tuple → Type 0) (k o : ℕ) (old now : Tuple) (there : o < leng
         ];
       }
 
-  pub all-put : (t : Tuple) → Is t → length (spot t o).origin ≡ k → IsPut Is k o old now k → now ≡ set old o (spot t o)
-  all-put t is n h =
-      let same : h.origin ≡ (spot t o).origin = ext_get_or (pos 0) h.origin (spot t o).origin (h.long ∙ sym n) (λ e b. h.same t is e (omega (arith, b, h.long))) in
+  pub all-put : (d : ℕ) → k ≤ d → IsPut Is k o old now d → (t : Tuple) → Is t → length (spot t o).origin ≡ k → now ≡ set old o (spot t o)
+  all-put d all h t is n =
+      let same : h.origin ≡ (spot t o).origin = ext_get_or (pos 0) h.origin (spot t o).origin (h.long ∙ sym n) (λ e b. h.same t is e (omega (arith, b, h.long, all))) in
       h.put ∙ ap (set old o) (same-spot h.place (spot t o).place h.origin (spot t o).origin (h.placed t is) same)
 
 -- the first spots are those of the tuple, and the others have the form of one
