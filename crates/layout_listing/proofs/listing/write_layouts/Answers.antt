@@ -27,7 +27,7 @@ take_layout-requires g c =
     let (cs, past, are, e) = c.requires.walk in
     let step = answered a b _ h.over c.in-Found.ensures.steps in
     let same = c.in-Found.ensures.steps.0 in
-    (omega arith, (omega arith, (c.requires.k, (c.requires.dims, (ap (λ (V : Tree). V.first) (same ∙ h.walk ∙ e), found-tuple c.args.problem.now cs past c.is_said.ensures.formed are.fit a b (h.walk ∙ e) same step)))))
+    (omega arith, (omega arith, (c.requires.k, (c.requires.dims, (ap (λ (V : Tree). V.first) (same ∙ h.walk ∙ e), (found-tuple c.args.problem.now cs past c.is_said.ensures.formed are.fit a b (h.walk ∙ e) same step, c.listing.invariant.3))))))
 
 pub write_block-requires : goal.write_block-requires
 write_block-requires g c = shaped-tuple c.args.problem.now c.take_layout.new.layout c.take_layout.ensures.tuple
