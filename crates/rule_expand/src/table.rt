@@ -15,6 +15,15 @@ pub struct Tables<'a> {
     pub handed: Vec<Option<usize>>,
 }
 
+/// A problem whose rules are expanded, with its tables, and where memory is taken from.
+#[derive(Clone, Copy)]
+pub struct Source<'a> {
+    pub alloc: Global,
+    pub problem: &'a Problem,
+    pub tables: &'a Tables<'a>,
+    ghost known: { AreTables problem.now tables.now },
+}
+
 /// The tables of a problem.
 pub fn tables_of(alloc: Global, problem: &Problem) -> Result<Tables<'_>, AllocError>
     ensures { IfOk result (λ t. AreTables problem.now t) }

@@ -4,6 +4,7 @@ use geo_chan::CleanSink;
 use geo_tokens::fault::TextFault;
 use geo_tokens::first_end::first_text_end;
 use geo_tokens::lexer::tokens;
+use geo_tokens::token::{Kind, symbol_text, word_text};
 use problem_syntax::syntax::read_statements;
 use problem_text::print::print_problem;
 use problem_text::read::read_problem;
@@ -20,9 +21,9 @@ pub enum Part {
     Tokens,
     /// Where its first word `end` ends.
     End,
-    /// The formula that begins with the first token, and the number of the token behind it.
+    /// The number of the token behind the formula that begins with the first one.
     Formula,
-    /// Its statements.
+    /// The number of its statements.
     Statements,
     /// The canonical text of the problem.
     Problem,
@@ -43,30 +44,40 @@ fn joined(
     Ok(text)
 }
 
+/// A name's kind is `name`, a number its value, and a word or a symbol is spelled.
+fn kind(alloc: Global, kind: Kind) -> Result<String, AllocError> {
+    match kind {
+        Kind::Name => String::from_str(alloc, "name"),
+        Kind::Number(value) => format!(in alloc; "{value}"),
+        Kind::Word(word) => text_of(alloc, word_text(word)),
+        Kind::Symbol(symbol) => text_of(alloc, symbol_text(symbol)),
+    }
+}
+
 fn cut(alloc: Global, text: &[u8]) -> Result<String, TextFault> {
     let list = tokens(alloc, text)?;
     let mut shown = String::new(alloc);
     for token in list.as_slice() {
-        let one = format!(in alloc; "{:?} {} {}, ", token.kind, token.start, token.end)?;
-        shown.push_str(one.as_str())?;
+        shown.push_str(kind(alloc, token.kind)?.as_str())?;
+        shown.push_str(format!(in alloc; " {} {}, ", token.start, token.end)?.as_str())?;
     }
     Ok(shown)
 }
 
 fn formula(alloc: Global, text: &[u8]) -> Result<String, TextFault> {
     let list = tokens(alloc, text)?;
-    let (formula, behind) = read_formula(alloc, text, list.as_slice(), 0)?;
-    Ok(format!(in alloc; "{formula:?} {behind}")?)
+    let (_formula, behind) = read_formula(alloc, text, list.as_slice(), 0)?;
+    Ok(format!(in alloc; "{behind}")?)
 }
 
 fn statements(alloc: Global, text: &[u8]) -> Result<String, TextFault> {
     let list = tokens(alloc, text)?;
     let said = read_statements(alloc, text, list.as_slice())?;
-    Ok(format!(in alloc; "{:?}", said.statements)?)
+    Ok(format!(in alloc; "{}", said.statements.len())?)
 }
 
 /// A text of bytes that are all ASCII.
-fn text_of(alloc: Global, bytes: &[u8]) -> Result<String, TextFault> {
+fn text_of(alloc: Global, bytes: &[u8]) -> Result<String, AllocError> {
     let mut text = String::new(alloc);
     for byte in bytes {
         text.push(char::from(*byte))?;
@@ -78,7 +89,7 @@ fn problem(alloc: Global, text: &[u8]) -> Result<String, TextFault> {
     let problem = read_problem(alloc, text)?;
     let mut sink = CleanSink::new(alloc);
     let _done = print_problem(alloc, &problem, &mut sink);
-    text_of(alloc, sink.bytes())
+    Ok(text_of(alloc, sink.bytes())?)
 }
 
 /// The statements stand at place 62.
