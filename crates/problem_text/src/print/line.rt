@@ -5,7 +5,9 @@ ghost use Rattle.geo_tokens.specs.declared.token.Sym.TheVariants as syms;
 ghost use Rattle.rule_print.specs.Canonical.{written, name, symbol};
 ghost use Rattle.problem_text.specs.Canonical.{line_text};
 
-@@use rule_print::lexeme::{Lexeme, push_symbol};
+use geo_tokens::name::Name;
+use geo_tokens::token::Sym;
+use rule_print::lexeme::{Lexeme, push_symbol};
 use rule_print::show::shown;
 use std::alloc::{AllocError, Global};
 

@@ -1,5 +1,10 @@
 //! What is said of a text, in a text that rows can give.
 
+use super::formulas::{FORMULA_LEVELS, FORMULAS};
+use super::mistakes::{KINDS, NAMES, RIGHT};
+use super::problems::{CANONICAL_FORMULAS, PROBLEMS};
+use super::statements::{STATEMENT_LEVELS, STATEMENTS};
+use super::tokens::{ENDS, TOKENS};
 use geo_chan::CleanSink;
 use geo_tokens::fault::TextFault;
 use geo_tokens::first_end::first_text_end;
@@ -11,12 +16,11 @@ use problem_text::read::read_problem;
 use rule_names::check::check_names;
 use rule_reading::read::read_formula;
 use std::alloc::{AllocError, Global};
-use std::process::Abort;
 use std::test::Fail;
 
 /// What is asked of a text.
 #[derive(Clone, Copy)]
-pub enum Part {
+enum Part {
     /// The kinds and places of its tokens, one after another.
     Tokens,
     /// Where its first word `end` ends.
@@ -29,19 +33,6 @@ pub enum Part {
     Problem,
     /// What is wrong with the names of these statements, in a problem of a shape `s` and an object `a`.
     Mistake,
-}
-
-/// `n` times the piece between a front and an end.
-fn joined(
-    alloc: Global,
-    (front, n, piece, end): (&[u8], usize, &[u8], &[u8]),
-) -> Result<Vec<u8>, AllocError> {
-    let mut text = Vec::from_slice(alloc, front)?;
-    for _ in 0..n {
-        text.extend_from_slice(piece)?;
-    }
-    text.extend_from_slice(end)?;
-    Ok(text)
 }
 
 /// A name's kind is `name`, a number its value, and a word or a symbol is spelled.
@@ -95,7 +86,9 @@ fn problem(alloc: Global, text: &[u8]) -> Result<String, TextFault> {
 /// The statements stand at place 62.
 fn mistake(alloc: Global, statements: &[u8]) -> Result<String, TextFault> {
     let front = b"geost 1 dims 1 shape s box 0 size 1 ; object a as s at 0..9 ; ";
-    let text = joined(alloc, (front, 1, statements, b" end"))?;
+    let mut text = Vec::from_slice(alloc, front)?;
+    text.extend_from_slice(statements)?;
+    text.extend_from_slice(b" end")?;
     check_names(alloc, &read_problem(alloc, &text)?)?;
     Ok(String::from_str(alloc, "none")?)
 }
@@ -120,32 +113,29 @@ fn said(alloc: Global, part: Part, text: &[u8]) -> Result<String, AllocError> {
 }
 
 /// What is asked, and rows of a text and what it says, or its fault.
-pub type Table = (Part, &'static [(&'static [u8], &'static str)]);
+type Table = (Part, &'static [(&'static [u8], &'static str)]);
 
-/// Each text says what its row wants.
-pub fn say(rt: &impl Abort, alloc: Global, tables: &[Table]) -> Result<(), Fail> {
-    for (part, rows) in tables {
+const TABLES: &[Table] = &[
+    (Part::Tokens, TOKENS),
+    (Part::End, ENDS),
+    (Part::Formula, FORMULAS),
+    (Part::Formula, FORMULA_LEVELS),
+    (Part::Statements, STATEMENTS),
+    (Part::Statements, STATEMENT_LEVELS),
+    (Part::Problem, PROBLEMS),
+    (Part::Problem, CANONICAL_FORMULAS),
+    (Part::Mistake, NAMES),
+    (Part::Mistake, KINDS),
+    (Part::Mistake, RIGHT),
+];
+
+#[test]
+fn each_text_says_what_its_row_wants(rt: HostRuntime) -> Result<(), Fail> {
+    for (part, rows) in TABLES {
         for (text, wanted) in *rows {
-            let found = said(alloc, *part, text)?;
+            let found = said(rt.alloc(), *part, text)?;
             assert!(rt; found.as_str() == *wanted, "{}", found.as_str());
         }
-    }
-    Ok(())
-}
-
-/// A front, how often which piece comes, and an end.
-pub type Repeated = (&'static [u8], usize, &'static [u8], &'static [u8]);
-
-/// Each text says what its row wants.
-pub fn say_repeated(
-    rt: &impl Abort,
-    alloc: Global,
-    part: Part,
-    rows: &[(Repeated, &str)],
-) -> Result<(), Fail> {
-    for (pieces, wanted) in rows {
-        let text = joined(alloc, *pieces)?;
-        assert!(rt; said(alloc, part, &text)?.as_str() == *wanted);
     }
     Ok(())
 }

@@ -1,10 +1,7 @@
 //! Formulas and their expressions with the tokens they end at, the faults and the places that the format says.
 
-use super::answer::{Part, Repeated, say, say_repeated};
-use std::test::Fail;
-
 /// Texts with the number of the token behind their formula, or the first wrong token.
-const FORMULAS: &[(&[u8], &str)] = &[
+pub const FORMULAS: &[(&[u8], &str)] = &[
     (b"true or false and true ;", "5"),
     (
         b"[true or false] and not true implies false iff true )",
@@ -26,26 +23,34 @@ const FORMULAS: &[(&[u8], &str)] = &[
     (b"a.x1 + ;", "At(7, Syntax)"),
 ];
 
-/// What stands before, how often which piece comes, and what stands behind.
-const LEVELS: &[(Repeated, &str)] = &[
-    ((b"", 65, b"[", b";"), "At(64, Deep)"),
-    ((b"", 64, b"[", b";"), "At(64, Syntax)"),
-    ((b"", 64, b"[", b"@f("), "At(66, Deep)"),
-    ((b"", 64, b"[", b"@f["), "At(66, Syntax)"),
-    ((b"", 64, b"[", b"min("), "At(67, Deep)"),
-    ((b"", 65, b"-", b"1 = 1"), "At(64, Deep)"),
+/// Texts in which 64 levels are open, or one more.
+pub const FORMULA_LEVELS: &[(&[u8], &str)] = &[
     (
-        (b"", 63, b"[", b"forall p in objects (a) : ;"),
+        b"[[[[[[[[[[[[[[[[[[[[[[[[[[[[[[[[[[[[[[[[[[[[[[[[[[[[[[[[[[[[[[[[[;",
+        "At(64, Deep)",
+    ),
+    (
+        b"[[[[[[[[[[[[[[[[[[[[[[[[[[[[[[[[[[[[[[[[[[[[[[[[[[[[[[[[[[[[[[[[;",
+        "At(64, Syntax)",
+    ),
+    (
+        b"[[[[[[[[[[[[[[[[[[[[[[[[[[[[[[[[[[[[[[[[[[[[[[[[[[[[[[[[[[[[[[[[@f(",
+        "At(66, Deep)",
+    ),
+    (
+        b"[[[[[[[[[[[[[[[[[[[[[[[[[[[[[[[[[[[[[[[[[[[[[[[[[[[[[[[[[[[[[[[[@f[",
+        "At(66, Syntax)",
+    ),
+    (
+        b"[[[[[[[[[[[[[[[[[[[[[[[[[[[[[[[[[[[[[[[[[[[[[[[[[[[[[[[[[[[[[[[[min(",
+        "At(67, Deep)",
+    ),
+    (
+        b"-----------------------------------------------------------------1 = 1",
+        "At(64, Deep)",
+    ),
+    (
+        b"[[[[[[[[[[[[[[[[[[[[[[[[[[[[[[[[[[[[[[[[[[[[[[[[[[[[[[[[[[[[[[[forall p in objects (a) : ;",
         "At(89, Syntax)",
     ),
 ];
-
-#[test]
-fn formulas_are_read(rt: HostRuntime) -> Result<(), Fail> {
-    say(&rt, rt.alloc(), &[(Part::Formula, FORMULAS)])
-}
-
-#[test]
-fn sixty_four_levels_may_be_open(rt: HostRuntime) -> Result<(), Fail> {
-    say_repeated(&rt, rt.alloc(), Part::Formula, LEVELS)
-}

@@ -1,10 +1,7 @@
 //! How many statements a text has, and the places of first faults.
 
-use super::answer::{Part, Repeated, say, say_repeated};
-use std::test::Fail;
-
 /// Texts with the number of their statements, or the first wrong token.
-const STATEMENTS: &[(&[u8], &str)] = &[
+pub const STATEMENTS: &[(&[u8], &str)] = &[
     (
         b"geost 1 dims 2 shape s box 0 -1 size 2 3 box 4 5 size 6 7 ; end",
         "1",
@@ -43,34 +40,14 @@ const STATEMENTS: &[(&[u8], &str)] = &[
     (b"geost 1 dims 1 end end", "At(19, Syntax)"),
 ];
 
-/// The text of a rule has minus signs in front of its first number, the first at place 24.
-const LEVELS: &[(Repeated, &str)] = &[
+/// A rule with 64 minus signs in front of its first number, the first at place 24, or one more.
+pub const STATEMENT_LEVELS: &[(&[u8], &str)] = &[
     (
-        (
-            b"geost 1 dims 1 rule r : ",
-            64,
-            b"- ",
-            b"1 <= a.x1 ; end end",
-        ),
+        b"geost 1 dims 1 rule r : - - - - - - - - - - - - - - - - - - - - - - - - - - - - - - - - - - - - - - - - - - - - - - - - - - - - - - - - - - - - - - - - 1 <= a.x1 ; end end",
         "At(168, Syntax)",
     ),
     (
-        (
-            b"geost 1 dims 1 rule r : ",
-            65,
-            b"- ",
-            b"1 <= a.x1 ; end end",
-        ),
+        b"geost 1 dims 1 rule r : - - - - - - - - - - - - - - - - - - - - - - - - - - - - - - - - - - - - - - - - - - - - - - - - - - - - - - - - - - - - - - - - - 1 <= a.x1 ; end end",
         "At(152, Deep)",
     ),
 ];
-
-#[test]
-fn statements_are_read(rt: HostRuntime) -> Result<(), Fail> {
-    say(&rt, rt.alloc(), &[(Part::Statements, STATEMENTS)])
-}
-
-#[test]
-fn sixty_four_levels_may_be_open(rt: HostRuntime) -> Result<(), Fail> {
-    say_repeated(&rt, rt.alloc(), Part::Statements, LEVELS)
-}

@@ -1,10 +1,7 @@
 //! Tokens and faults that the format says of texts.
 
-use super::answer::{Part, say};
-use std::test::Fail;
-
 /// Texts with their tokens, or the first wrong one.
-const TOKENS: &[(&[u8], &str)] = &[
+pub const TOKENS: &[(&[u8], &str)] = &[
     (b"", ""),
     (b" \t\r\n", ""),
     (b"# a comment ; \xff", ""),
@@ -37,7 +34,7 @@ const TOKENS: &[(&[u8], &str)] = &[
 ];
 
 /// Where the first word `end` of a text ends.
-const ENDS: &[(&[u8], &str)] = &[
+pub const ENDS: &[(&[u8], &str)] = &[
     (
         b"geost 1 dims 1 shape s box 0 size 2 ; object a as s at 0..3 ; object b as s at 0..3 ; rule r : apart ; end",
         "Some(106)",
@@ -51,9 +48,3 @@ const ENDS: &[(&[u8], &str)] = &[
     (b"# end\n;end; end", "Some(10)"),
     (b"", "None"),
 ];
-
-#[test]
-fn texts_are_cut_into_tokens(rt: HostRuntime) -> Result<(), Fail> {
-    let tables = [(Part::Tokens, TOKENS), (Part::End, ENDS)];
-    say(&rt, rt.alloc(), &tables)
-}
