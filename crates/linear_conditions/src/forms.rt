@@ -8,7 +8,6 @@ ghost use Rattle.linear_conditions.specs.Forms.{fits_expr, product_fits, product
 ghost use Rattle.linear_conditions.specs.Room.{CanAdd};
 ghost use Rattle.linear_conditions.specs.Sums.{add_sums, constant_sum, fits_sum, scale, times_sum};
 ghost use Rattle.linear_conditions.specs.Views.{fixings_view, wide_view};
-ghost use Rattle.rule_expand.specs.Plain as plain;
 ghost use Rattle.rule_expand.specs.PlainView.{plain_expr_view, plain_product_view, plain_products_view, plain_sum_view, plain_sums_view};
 ghost use Rattle.rule_values.specs.View.{env_view};
 
@@ -104,103 +103,29 @@ pub fn sum_of(
             checked(f)
         }
         PlainExpr::ShapeNum(s) => checked(WideSum::constant_of(alloc, *s as i128 + 1)),
-        PlainExpr::Neg(e) => negative(alloc, problem, e, &*env, &*fixings),
-        PlainExpr::Sum(e, steps) => whole_sum(alloc, problem, e, steps, &*env, &*fixings),
-        PlainExpr::Prod(e, steps) => whole_product(alloc, problem, e, steps, &*env, &*fixings),
-        PlainExpr::Min(a, b) => least(alloc, problem, a, b, &*env, &*fixings),
-        PlainExpr::Max(a, b) => greatest(alloc, problem, a, b, &*env, &*fixings),
+        PlainExpr::Neg(e) => {
+            let f = sum_of(alloc, problem, e, &*env, &*fixings)?;
+            checked(f.scaled(alloc, -1)?)
+        }
+        PlainExpr::Sum(e, steps) => {
+            let first = sum_of(alloc, problem, e, &*env, &*fixings)?;
+            sum(alloc, problem, first, steps, &*env, &*fixings)
+        }
+        PlainExpr::Prod(e, steps) => {
+            let first = sum_of(alloc, problem, e, &*env, &*fixings)?;
+            product(alloc, problem, first, steps, &*env, &*fixings)
+        }
+        PlainExpr::Min(a, b) => {
+            let left = sum_of(alloc, problem, a, &*env, &*fixings)?;
+            let right = sum_of(alloc, problem, b, &*env, &*fixings)?;
+            lesser(alloc, &left, &right)
+        }
+        PlainExpr::Max(a, b) => {
+            let left = sum_of(alloc, problem, a, &*env, &*fixings)?;
+            let right = sum_of(alloc, problem, b, &*env, &*fixings)?;
+            greater(alloc, &left, &right)
+        }
     }
-}
-
-/// A minus in front.
-#[cycle(form)]
-fn negative(
-    alloc: Global,
-    problem: &Problem,
-    of: &PlainExpr,
-    env: &Env,
-    fixings: &Fixings,
-) -> Result<WideSum, GroundFault>
-    ensures { let e = plain.negative (plain_expr_view of.now) in
-        Gives result (sum_of_expr problem.now e (env_view env.now) (fixings_view fixings.now))
-        (fits_expr problem.now e (env_view env.now) (fixings_view fixings.now)) }
-{
-    let f = sum_of(alloc, problem, of, &*env, &*fixings)?;
-    checked(f.scaled(alloc, -1)?)
-}
-
-/// A sum.
-#[cycle(form)]
-fn whole_sum(
-    alloc: Global,
-    problem: &Problem,
-    first: &PlainExpr,
-    steps: &[PlainSum],
-    env: &Env,
-    fixings: &Fixings,
-) -> Result<WideSum, GroundFault>
-    ensures { let e = plain.sum (plain_expr_view first.now) (plain_sums_view steps.now) in
-        Gives result (sum_of_expr problem.now e (env_view env.now) (fixings_view fixings.now))
-        (fits_expr problem.now e (env_view env.now) (fixings_view fixings.now)) }
-{
-    let start = sum_of(alloc, problem, first, &*env, &*fixings)?;
-    sum(alloc, problem, start, steps, &*env, &*fixings)
-}
-
-/// A product.
-#[cycle(form)]
-fn whole_product(
-    alloc: Global,
-    problem: &Problem,
-    first: &PlainExpr,
-    steps: &[PlainProd],
-    env: &Env,
-    fixings: &Fixings,
-) -> Result<WideSum, GroundFault>
-    ensures { let e = plain.product (plain_expr_view first.now) (plain_products_view steps.now) in
-        Gives result (sum_of_expr problem.now e (env_view env.now) (fixings_view fixings.now))
-        (fits_expr problem.now e (env_view env.now) (fixings_view fixings.now)) }
-{
-    let start = sum_of(alloc, problem, first, &*env, &*fixings)?;
-    product(alloc, problem, start, steps, &*env, &*fixings)
-}
-
-/// The least of two.
-#[cycle(form)]
-fn least(
-    alloc: Global,
-    problem: &Problem,
-    a: &PlainExpr,
-    b: &PlainExpr,
-    env: &Env,
-    fixings: &Fixings,
-) -> Result<WideSum, GroundFault>
-    ensures { let e = plain.least (plain_expr_view a.now) (plain_expr_view b.now) in
-        Gives result (sum_of_expr problem.now e (env_view env.now) (fixings_view fixings.now))
-        (fits_expr problem.now e (env_view env.now) (fixings_view fixings.now)) }
-{
-    let left = sum_of(alloc, problem, a, &*env, &*fixings)?;
-    let right = sum_of(alloc, problem, b, &*env, &*fixings)?;
-    lesser(alloc, &left, &right)
-}
-
-/// The greatest of two.
-#[cycle(form)]
-fn greatest(
-    alloc: Global,
-    problem: &Problem,
-    a: &PlainExpr,
-    b: &PlainExpr,
-    env: &Env,
-    fixings: &Fixings,
-) -> Result<WideSum, GroundFault>
-    ensures { let e = plain.greatest (plain_expr_view a.now) (plain_expr_view b.now) in
-        Gives result (sum_of_expr problem.now e (env_view env.now) (fixings_view fixings.now))
-        (fits_expr problem.now e (env_view env.now) (fixings_view fixings.now)) }
-{
-    let left = sum_of(alloc, problem, a, &*env, &*fixings)?;
-    let right = sum_of(alloc, problem, b, &*env, &*fixings)?;
-    greater(alloc, &left, &right)
 }
 
 /// One step of a sum.

@@ -1,6 +1,6 @@
 //! The first mistake of an expression.
 
-ghost use Rattle.std.specs.Prelude.{◌≡◌, ◌++◌, List, false, map};
+ghost use Rattle.std.specs.Prelude.{◌≡◌, ◌++◌, List, map};
 ghost use Rattle.rule_syntax.specs.Tree.{sums, products, arguments};
 ghost use Rattle.rule_syntax.specs.View.{expr_view, sum_view, product_view, argument_view};
 ghost use Rattle.rule_names.specs.Mistakes.{first_of};
@@ -48,37 +48,20 @@ pub fn expr_mistake(
             earlier(one, others)
         }
         Expr::Min(_place, first, second) => {
-            numbers_mistake(problem, tables, statement, scope, first, second)
+            let one = expr_mistake(problem, tables, statement, scope, false, first);
+            let other = expr_mistake(problem, tables, statement, scope, false, second);
+            earlier(one, other)
         }
         Expr::Max(_place, first, second) => {
-            numbers_mistake(problem, tables, statement, scope, first, second)
+            let one = expr_mistake(problem, tables, statement, scope, false, first);
+            let other = expr_mistake(problem, tables, statement, scope, false, second);
+            earlier(one, other)
         }
         Expr::CallValue(place, name, given) => {
             let list = given.as_slice();
             whole_call_mistake(problem, tables, statement, scope, false, *place, name, list)
         }
     }
-}
-
-/// The first mistake of two numbers.
-#[cycle(expressions)]
-pub fn numbers_mistake(
-    problem: &Problem,
-    tables: &Tables,
-    statement: u64,
-    scope: &Scope,
-    first: &Expr,
-    second: &Expr,
-) -> Option<Mistake>
-    requires { AreTables problem.now tables.now }
-    ensures { result ≡ first_of
-        (expr_mistakes problem.now statement (scope_view scope.now) false (expr_view first.now)
-        ++ expr_mistakes problem.now statement (scope_view scope.now) false
-        (expr_view second.now)) }
-{
-    let one = expr_mistake(problem, tables, statement, scope, false, first);
-    let other = expr_mistake(problem, tables, statement, scope, false, second);
-    earlier(one, other)
 }
 
 /// The first mistake of a call, its arguments' own mistakes among them.

@@ -1,23 +1,43 @@
 //! The first mistake of a formula.
 
-ghost use Rattle.std.specs.Prelude.{◌≡◌, ◌++◌, List, IfOk, map};
+ghost use Rattle.std.specs.Prelude.{◌≡◌, ◌++◌, List, false, IfOk, map};
 ghost use Rattle.rule_syntax.specs.Tree.{formulas};
-ghost use Rattle.rule_syntax.specs.View.{coll_view, formula_view};
+ghost use Rattle.rule_syntax.specs.View.{expr_view, coll_view, formula_view};
 ghost use Rattle.rule_names.specs.declared.mistake.Mistake.{Mistake};
 ghost use Rattle.rule_names.specs.Mistakes.{first_of};
 ghost use Rattle.rule_names.specs.Sight.{binding};
 ghost use Rattle.rule_names.specs.ScopeView.{scope_view};
-ghost use Rattle.rule_names.specs.Names.{coll_mistakes, element_kind, formula_mistakes, formulas_mistakes};
+ghost use Rattle.rule_names.specs.Names.{expr_mistakes, coll_mistakes, element_kind, formula_mistakes, formulas_mistakes};
 ghost use Rattle.rule_names.specs.Table.{AreTables};
 
 use crate::collections::{coll_mistake, element_kind};
-use crate::expressions::{numbers_mistake, whole_call_mistake};
+use crate::expressions::{expr_mistake, whole_call_mistake};
 use crate::mistake::{Mistake, earlier};
 use crate::scope::Scope;
 use crate::table::Tables;
 use problem_data::problem::Problem;
-use rule_syntax::tree::{Coll, Formula, PlacedName};
+use rule_syntax::tree::{Coll, Expr, Formula, PlacedName};
 use std::alloc::{AllocError, Global};
+
+/// The first mistake of a comparison.
+fn comparison_mistake(
+    problem: &Problem,
+    tables: &Tables,
+    statement: u64,
+    scope: &Scope,
+    left: &Expr,
+    right: &Expr,
+) -> Option<Mistake>
+    requires { AreTables problem.now tables.now }
+    ensures { result ≡ first_of
+        (expr_mistakes problem.now statement (scope_view scope.now) false (expr_view left.now)
+        ++ expr_mistakes problem.now statement (scope_view scope.now) false
+        (expr_view right.now)) }
+{
+    let one = expr_mistake(problem, tables, statement, scope, false, left);
+    let other = expr_mistake(problem, tables, statement, scope, false, right);
+    earlier(one, other)
+}
 
 /// The first mistake of a formula, in a statement whose name stands at this place.
 #[cycle(formulas)]
@@ -46,12 +66,16 @@ pub fn formula_mistake(
             formulas_mistake(alloc, problem, tables, statement, &*scope, parts.as_slice())
         }
         Formula::Implies(_place, first, second) => {
-            pair_mistake(alloc, problem, tables, statement, &*scope, first, second)
+            let one = formula_mistake(alloc, problem, tables, statement, &*scope, first)?;
+            let other = formula_mistake(alloc, problem, tables, statement, &*scope, second)?;
+            Ok(earlier(one, other))
         }
         Formula::Iff(_place, first, second) => {
-            pair_mistake(alloc, problem, tables, statement, &*scope, first, second)
+            let one = formula_mistake(alloc, problem, tables, statement, &*scope, first)?;
+            let other = formula_mistake(alloc, problem, tables, statement, &*scope, second)?;
+            Ok(earlier(one, other))
         }
-        Formula::Compare(_place, left, _rel, right) => Ok(numbers_mistake(
+        Formula::Compare(_place, left, _rel, right) => Ok(comparison_mistake(
             problem, tables, statement, &*scope, left, right,
         )),
         Formula::Quant(_place, _kind, v, coll, body) => {
@@ -68,28 +92,6 @@ pub fn formula_mistake(
             given.as_slice(),
         )),
     }
-}
-
-/// The first mistake of two formulas.
-#[cycle(formulas)]
-fn pair_mistake(
-    alloc: Global,
-    problem: &Problem,
-    tables: &Tables,
-    statement: u64,
-    scope: &Scope,
-    first: &Formula,
-    second: &Formula,
-) -> Result<Option<Mistake>, AllocError>
-    requires { AreTables problem.now tables.now }
-    ensures { IfOk result (λ o. o ≡ first_of
-        (formula_mistakes problem.now statement (scope_view scope.now) (formula_view first.now)
-        ++ formula_mistakes problem.now statement (scope_view scope.now)
-        (formula_view second.now))) }
-{
-    let one = formula_mistake(alloc, problem, tables, statement, &*scope, first)?;
-    let other = formula_mistake(alloc, problem, tables, statement, &*scope, second)?;
-    Ok(earlier(one, other))
 }
 
 /// The first mistake of a quantifier, whose body sees its variable.

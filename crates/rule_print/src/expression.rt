@@ -1,10 +1,10 @@
 //! How an expression is spelled.
 
-ghost use Rattle.std.specs.Prelude.{◌≡◌, ◌++◌, ◌∷◌, [], IfOk, map};
+ghost use Rattle.std.specs.Prelude.{◌≡◌, ◌++◌, ◌∷◌, [], IfOk, map, nat_lt, if◌then◌else◌};
 ghost use Rattle.rule_syntax.specs.Tree.{sums, products, arguments};
 ghost use Rattle.rule_syntax.specs.View.{expr_view, sum_view, product_view, argument_view};
 ghost use Rattle.rule_print.specs.Canonical.{name, symbol, word, written};
-ghost use Rattle.rule_print.specs.Spelled.{in_parens, expr_spelling, sum_spelling, sum_step_spelling, product_spelling, product_step_spelling, in_list, arguments_spelling};
+ghost use Rattle.rule_print.specs.Spelled.{expr_level, expr_spelling, sum_spelling, sum_step_spelling, product_spelling, product_step_spelling, in_list, arguments_spelling};
 
 use crate::lexeme::{
     Lexeme, name_lexeme, number_lexeme, push, push_all, push_if, push_name, push_symbol,
@@ -33,10 +33,24 @@ pub fn spell_expression<'a>(
             into,
         ),
         Expr::Neg(_, inner) => spell_behind(Sym::Minus, inner, ExprRank::Factor, into),
-        Expr::Sum(_, first, steps) => spell_sum(first, steps.as_slice(), rank, into),
-        Expr::Prod(_, first, steps) => spell_product(first, steps.as_slice(), rank, into),
-        Expr::Min(_, first, second) => spell_extreme(Keyword::Min, first, second, into),
-        Expr::Max(_, first, second) => spell_extreme(Keyword::Max, first, second, into),
+        Expr::Sum(_, first, steps) => {
+            spell_opened(first, ExprRank::Sum, ExprRank::Product, rank, into)?;
+            spell_sum_steps(steps.as_slice(), into)?;
+            close(ExprRank::Sum, rank, into)
+        }
+        Expr::Prod(_, first, steps) => {
+            spell_opened(first, ExprRank::Product, ExprRank::Factor, rank, into)?;
+            spell_product_steps(steps.as_slice(), into)?;
+            close(ExprRank::Product, rank, into)
+        }
+        Expr::Min(_, first, second) => {
+            spell_first(Keyword::Min, first, into)?;
+            spell_second(second, into)
+        }
+        Expr::Max(_, first, second) => {
+            spell_first(Keyword::Max, first, into)?;
+            spell_second(second, into)
+        }
         Expr::CallValue(_, name, arguments) => spell_call(
             Sym::Dollar,
             name,
@@ -80,62 +94,55 @@ fn spell_behind<'a>(
     spell_expression(e, rank, into)
 }
 
-/// Spells a sum where an expression of this rank may stand.
+/// Spells a bracket, where an expression of the rank `own` needs one, and behind it its first part.
 #[cycle(spell)]
-fn spell_sum<'a>(
+fn spell_opened<'a>(
     first: &'a Expr,
-    steps: &'a [SumStep],
+    own: ExprRank,
+    inner: ExprRank,
     rank: ExprRank,
     into: &mut Vec<Lexeme<'a>>,
 ) -> Result<(), AllocError>
     ensures { IfOk result (λ _. map written into.new.items ≡ map written into.old.items
-        ++ in_parens ExprRank.Sum rank (expr_spelling ExprRank.Product (expr_view first.now)
-        ++ sum_spelling (sums (map sum_view steps.now)))) }
+        ++ (if nat_lt (expr_level own) (expr_level rank) then symbol Sym.ParenOpen ∷ [] else [])
+        ++ expr_spelling inner (expr_view first.now)) }
 {
-    let needed = ExprRank::Sum.is_looser(rank);
-    push_if(needed, Sym::ParenOpen, into)?;
-    spell_expression(first, ExprRank::Product, into)?;
-    spell_sum_steps(steps, into)?;
-    push_if(needed, Sym::ParenClose, into)
+    push_if(own.is_looser(rank), Sym::ParenOpen, into)?;
+    spell_expression(first, inner, into)
 }
 
-/// Spells a product where an expression of this rank may stand.
-#[cycle(spell)]
-fn spell_product<'a>(
-    first: &'a Expr,
-    steps: &'a [ProdStep],
-    rank: ExprRank,
-    into: &mut Vec<Lexeme<'a>>,
-) -> Result<(), AllocError>
+/// Spells the bracket that closes, where an expression of the rank `own` needs one.
+fn close<'a>(own: ExprRank, rank: ExprRank, into: &mut Vec<Lexeme<'a>>) -> Result<(), AllocError>
     ensures { IfOk result (λ _. map written into.new.items ≡ map written into.old.items
-        ++ in_parens ExprRank.Product rank (expr_spelling ExprRank.Factor (expr_view first.now)
-        ++ product_spelling (products (map product_view steps.now)))) }
+        ++ (if nat_lt (expr_level own) (expr_level rank) then symbol Sym.ParenClose ∷ [] else [])) }
 {
-    let needed = ExprRank::Product.is_looser(rank);
-    push_if(needed, Sym::ParenOpen, into)?;
-    spell_expression(first, ExprRank::Factor, into)?;
-    spell_product_steps(steps, into)?;
-    push_if(needed, Sym::ParenClose, into)
+    push_if(own.is_looser(rank), Sym::ParenClose, into)
 }
 
-/// Spells a word and two expressions in brackets.
+/// Spells a word and the first of two expressions behind it.
 #[cycle(spell)]
-fn spell_extreme<'a>(
+fn spell_first<'a>(
     mark: Keyword,
     first: &'a Expr,
-    second: &'a Expr,
     into: &mut Vec<Lexeme<'a>>,
 ) -> Result<(), AllocError>
     ensures { IfOk result (λ _. map written into.new.items ≡ map written into.old.items
-        ++ word mark ∷ in_list (expr_spelling ExprRank.Sum (expr_view first.now)
-        ++ symbol Sym.Comma ∷ expr_spelling ExprRank.Sum (expr_view second.now))) }
+        ++ word mark ∷ symbol Sym.ParenOpen
+        ∷ expr_spelling ExprRank.Sum (expr_view first.now)) }
 {
-    push_all(
-        &[Lexeme::Word(mark), Lexeme::Symbol(Sym::ParenOpen)],
-        into,
-    )?;
-    spell_expression(first, ExprRank::Sum, into)?;
-    spell_behind(Sym::Comma, second, ExprRank::Sum, into)?;
+    push_all(&[Lexeme::Word(mark), Lexeme::Symbol(Sym::ParenOpen)], into)?;
+    spell_expression(first, ExprRank::Sum, into)
+}
+
+/// Spells the second of two expressions.
+#[cycle(spell)]
+fn spell_second<'a>(second: &'a Expr, into: &mut Vec<Lexeme<'a>>) -> Result<(), AllocError>
+    ensures { IfOk result (λ _. map written into.new.items ≡ map written into.old.items
+        ++ symbol Sym.Comma ∷ (expr_spelling ExprRank.Sum (expr_view second.now)
+        ++ symbol Sym.ParenClose ∷ [])) }
+{
+    push_symbol(Sym::Comma, into)?;
+    spell_expression(second, ExprRank::Sum, into)?;
     push_symbol(Sym::ParenClose, into)
 }
 
@@ -207,10 +214,7 @@ fn spell_product_step<'a>(step: &'a ProdStep, into: &mut Vec<Lexeme<'a>>) -> Res
 
 /// Spells arguments in their brackets.
 #[cycle(spell)]
-fn spell_arguments<'a>(
-    given: &'a [Argument],
-    into: &mut Vec<Lexeme<'a>>,
-) -> Result<(), AllocError>
+fn spell_arguments<'a>(given: &'a [Argument], into: &mut Vec<Lexeme<'a>>) -> Result<(), AllocError>
     ensures { IfOk result (λ _. map written into.new.items ≡ map written into.old.items
         ++ in_list (arguments_spelling (arguments (map argument_view given.now)))) }
 {

@@ -1,10 +1,10 @@
 //! How a formula is spelled.
 
-ghost use Rattle.std.specs.Prelude.{◌≡◌, ◌++◌, ◌∷◌, [], IfOk, map};
+ghost use Rattle.std.specs.Prelude.{◌≡◌, ◌++◌, ◌∷◌, [], IfOk, map, nat_lt, if◌then◌else◌};
 ghost use Rattle.rule_syntax.specs.Tree.{formulas};
 ghost use Rattle.rule_syntax.specs.View.{expr_view, formula_view, coll_view};
 ghost use Rattle.rule_print.specs.Canonical.{name, symbol, word, written};
-ghost use Rattle.rule_print.specs.Spelled.{expr_spelling, formula_spelling, in_brackets, in_list, quantifier_spelling, coll_spelling, names_spelling, rel_symbol, operands_spelling, mark_before};
+ghost use Rattle.rule_print.specs.Spelled.{expr_spelling, formula_level, formula_spelling, in_brackets, in_list, quantifier_spelling, coll_spelling, names_spelling, rel_symbol, operands_spelling, mark_before};
 
 use crate::expression::{spell_call, spell_expression};
 use crate::lexeme::{
@@ -123,35 +123,36 @@ pub fn spell_formula<'a>(
             rank,
             into,
         ),
-        Formula::Implies(_, first, second) => spell_pair(
-            first,
-            second,
-            Keyword::Implies,
-            FormulaRank::Implication,
-            FormulaRank::Disjunction,
-            rank,
-            into,
-        ),
-        Formula::Iff(_, first, second) => spell_pair(
-            first,
-            second,
-            Keyword::Iff,
-            FormulaRank::Equivalence,
-            FormulaRank::Implication,
-            rank,
-            into,
-        ),
+        Formula::Implies(_, first, second) => {
+            let own = FormulaRank::Implication;
+            spell_first(first, own, FormulaRank::Disjunction, rank, into)?;
+            spell_second(
+                Keyword::Implies,
+                second,
+                own,
+                FormulaRank::Disjunction,
+                rank,
+                into,
+            )
+        }
+        Formula::Iff(_, first, second) => {
+            let own = FormulaRank::Equivalence;
+            spell_first(first, own, FormulaRank::Implication, rank, into)?;
+            spell_second(
+                Keyword::Iff,
+                second,
+                own,
+                FormulaRank::Implication,
+                rank,
+                into,
+            )
+        }
         Formula::Compare(_, left, rel, right) => spell_comparison(left, *rel, right, into),
         Formula::Quant(_, kind, variable, coll, body) => {
             spell_range(*kind, variable, coll, into)?;
             spell_formula(body, FormulaRank::Unary, into)
         }
-        Formula::Call(_, name, arguments) => spell_call(
-            Sym::At,
-            name,
-            arguments.as_slice(),
-            into,
-        ),
+        Formula::Call(_, name, arguments) => spell_call(Sym::At, name, arguments.as_slice(), into),
     }
 }
 
@@ -208,27 +209,42 @@ fn spell_behind<'a>(
     spell_formula(f, rank, into)
 }
 
-/// Spells two operands with a word between them: a formula of the rank `own`, whose operands have the rank `inner`, in brackets where
-/// one of that rank may not stand.
+/// Spells a bracket, where a formula of the rank `own` needs one, and behind it the first of its two operands.
 #[cycle(spell_formula)]
-fn spell_pair<'a>(
+fn spell_first<'a>(
     first: &'a Formula,
-    second: &'a Formula,
-    mark: Keyword,
     own: FormulaRank,
     inner: FormulaRank,
     rank: FormulaRank,
     into: &mut Vec<Lexeme<'a>>,
 ) -> Result<(), AllocError>
     ensures { IfOk result (λ _. map written into.new.items ≡ map written into.old.items
-        ++ in_brackets own rank (formula_spelling inner (formula_view first.now)
-        ++ word mark ∷ formula_spelling inner (formula_view second.now))) }
+        ++ (if nat_lt (formula_level own) (formula_level rank)
+        then symbol Sym.BracketOpen ∷ [] else [])
+        ++ formula_spelling inner (formula_view first.now)) }
 {
-    let in_brackets = own.is_looser(rank);
-    push_if(in_brackets, Sym::BracketOpen, into)?;
-    spell_formula(first, inner, into)?;
-    spell_behind(mark, second, inner, into)?;
-    push_if(in_brackets, Sym::BracketClose, into)
+    push_if(own.is_looser(rank), Sym::BracketOpen, into)?;
+    spell_formula(first, inner, into)
+}
+
+/// Spells a word, the second operand behind it, and the bracket that closes where one is needed.
+#[cycle(spell_formula)]
+fn spell_second<'a>(
+    mark: Keyword,
+    second: &'a Formula,
+    own: FormulaRank,
+    inner: FormulaRank,
+    rank: FormulaRank,
+    into: &mut Vec<Lexeme<'a>>,
+) -> Result<(), AllocError>
+    ensures { IfOk result (λ _. map written into.new.items ≡ map written into.old.items
+        ++ word mark ∷ (formula_spelling inner (formula_view second.now)
+        ++ (if nat_lt (formula_level own) (formula_level rank)
+        then symbol Sym.BracketClose ∷ [] else []))) }
+{
+    push_word(mark, into)?;
+    spell_formula(second, inner, into)?;
+    push_if(own.is_looser(rank), Sym::BracketClose, into)
 }
 
 /// Spells a comparison.

@@ -124,10 +124,7 @@ pub fn push<'a>(lexeme: Lexeme<'a>, into: &mut Vec<Lexeme<'a>>) -> Result<(), Al
 }
 
 /// Appends lexemes to a list.
-pub fn push_all<'a>(
-    lexemes: &[Lexeme<'a>],
-    into: &mut Vec<Lexeme<'a>>,
-) -> Result<(), AllocError>
+pub fn push_all<'a>(lexemes: &[Lexeme<'a>], into: &mut Vec<Lexeme<'a>>) -> Result<(), AllocError>
     ensures { IfOk result (λ _. map written into.new.items ≡ map written into.old.items
         ++ map written lexemes.now) }
 {
