@@ -11,6 +11,7 @@ ghost use Rattle.rule_expand.specs.Expansion.{as_expr, expansions_of, expr_expan
 ghost use Rattle.rule_expand.specs.Counts.{expr_nodes, expr_depth, sum_nodes, sum_depth, sums_nodes, sums_depth, product_nodes, product_depth, products_nodes, products_depth};
 ghost use Rattle.rule_expand.specs.Limits.{GivesExpr, IsLimitFault, SumMade, SumsMade, ProductMade, ProductsMade};
 ghost use Rattle.rule_expand.specs.ScopeView.{scope_view};
+ghost use Rattle.rule_expand.specs.Table.{IsSource};
 
 use crate::handed::handed_index;
 use crate::limits::ExpandFault;
@@ -34,6 +35,7 @@ fn expand_field(
     room: &mut u32,
     deep: u32,
 ) -> Result<PlainExpr, ExpandFault>
+    requires { IsSource source.now }
     ensures { GivesExpr
         (field_of
         (meant_by source.now.problem.now of.now
@@ -53,9 +55,10 @@ fn expand_shape(
     room: &mut u32,
     deep: u32,
 ) -> Result<PlainExpr, ExpandFault>
+    requires { IsSource source.now }
     ensures { GivesExpr (shape_expr source.now.problem.now name.now) room.old deep room.new result }
 {
-    match position_of(&source.tables.names.shapes, name.as_bytes()) {
+    match position_of(&source.names.shapes, name.as_bytes()) {
         Some(position) => shape_number(position, room, deep),
         None => number(0, room, deep),
     }
@@ -71,6 +74,7 @@ pub fn expand_expr(
     room: &mut u32,
     deep: u32,
 ) -> Result<PlainExpr, ExpandFault>
+    requires { IsSource source.now }
     ensures { GivesExpr
         (expr_expanded (expansions_of source.now.problem.now in_sight) source.now.problem.now (expr_view e.now)
         (scope_view source.now.problem.now scope.now)) room.old deep room.new result }
@@ -82,21 +86,15 @@ pub fn expand_expr(
         ),
         Expr::Param(a) => expand_param(source, &a.name, &*scope, room, deep),
         Expr::ShapeNum(_place, a) => expand_shape(source, &a.name, room, deep),
-        Expr::Neg(_place, e) => expand_negative(
-            source, in_sight, e, &*scope, room, deep,
-        ),
+        Expr::Neg(_place, e) => expand_negative(source, in_sight, e, &*scope, room, deep),
         Expr::Sum(_place, first, steps) => expand_sum(
             source, in_sight, first, steps, &*scope, room, deep,
         ),
         Expr::Prod(_place, first, steps) => expand_product(
             source, in_sight, first, steps, &*scope, room, deep,
         ),
-        Expr::Min(_place, a, b) => expand_least(
-            source, in_sight, a, b, &*scope, room, deep,
-        ),
-        Expr::Max(_place, a, b) => expand_greatest(
-            source, in_sight, a, b, &*scope, room, deep,
-        ),
+        Expr::Min(_place, a, b) => expand_least(source, in_sight, a, b, &*scope, room, deep),
+        Expr::Max(_place, a, b) => expand_greatest(source, in_sight, a, b, &*scope, room, deep),
         Expr::CallValue(_place, m, args) => expand_call(
             source, in_sight, m, args, &*scope, room, deep,
         ),
@@ -112,6 +110,7 @@ fn expand_param(
     room: &mut u32,
     deep: u32,
 ) -> Result<PlainExpr, ExpandFault>
+    requires { IsSource source.now }
     ensures { GivesExpr
         (as_expr (meant_by source.now.problem.now name.now
         (scope_view source.now.problem.now scope.now))) room.old deep room.new result }
@@ -134,6 +133,7 @@ fn expand_negative(
     room: &mut u32,
     deep: u32,
 ) -> Result<PlainExpr, ExpandFault>
+    requires { IsSource source.now }
     ensures { GivesExpr
         (plain.negative
         (expr_expanded (expansions_of source.now.problem.now in_sight) source.now.problem.now (expr_view e.now)
@@ -156,6 +156,7 @@ fn expand_least(
     room: &mut u32,
     deep: u32,
 ) -> Result<PlainExpr, ExpandFault>
+    requires { IsSource source.now }
     ensures { let x = expansions_of source.now.problem.now in_sight in
         let sub = scope_view source.now.problem.now scope.now in
         GivesExpr
@@ -180,6 +181,7 @@ fn expand_greatest(
     room: &mut u32,
     deep: u32,
 ) -> Result<PlainExpr, ExpandFault>
+    requires { IsSource source.now }
     ensures { let x = expansions_of source.now.problem.now in_sight in
         let sub = scope_view source.now.problem.now scope.now in
         GivesExpr (plain.greatest (expr_expanded x source.now.problem.now (expr_view a.now) sub)
@@ -203,6 +205,7 @@ fn expand_sum(
     room: &mut u32,
     deep: u32,
 ) -> Result<PlainExpr, ExpandFault>
+    requires { IsSource source.now }
     ensures { let x = expansions_of source.now.problem.now in_sight in
         let sub = scope_view source.now.problem.now scope.now in
         GivesExpr (plain.sum (expr_expanded x source.now.problem.now (expr_view first.now) sub)
@@ -212,22 +215,8 @@ fn expand_sum(
     if !take_node(room, deep) {
         return Err(ExpandFault::TooLarge);
     }
-    let start = expand_expr(
-        source,
-        in_sight,
-        first,
-        &*scope,
-        room,
-        deep - 1,
-    )?;
-    let others = expand_sum_steps(
-        source,
-        in_sight,
-        steps,
-        &*scope,
-        room,
-        deep - 1,
-    )?;
+    let start = expand_expr(source, in_sight, first, &*scope, room, deep - 1)?;
+    let others = expand_sum_steps(source, in_sight, steps, &*scope, room, deep - 1)?;
     sum(source.alloc, start, others)
 }
 
@@ -240,6 +229,7 @@ fn expand_sum_steps(
     room: &mut u32,
     deep: u32,
 ) -> Result<Vec<PlainSum>, ExpandFault>
+    requires { IsSource source.now }
     ensures { let t = sums_expanded (expansions_of source.now.problem.now in_sight) source.now.problem.now
         (tree.sums (map sum_view steps.now)) (scope_view source.now.problem.now scope.now) in
         MatchResult result (λ v. SumsMade t room.old deep room.new v.items)
@@ -262,6 +252,7 @@ fn expand_sum_step(
     room: &mut u32,
     deep: u32,
 ) -> Result<PlainSum, ExpandFault>
+    requires { IsSource source.now }
     ensures { let t = sum_expanded (expansions_of source.now.problem.now in_sight) source.now.problem.now
         (sum_view step.now) (scope_view source.now.problem.now scope.now) in
         MatchResult result (λ s. SumMade t room.old deep room.new s)
@@ -287,6 +278,7 @@ fn expand_product(
     room: &mut u32,
     deep: u32,
 ) -> Result<PlainExpr, ExpandFault>
+    requires { IsSource source.now }
     ensures { let x = expansions_of source.now.problem.now in_sight in
         let sub = scope_view source.now.problem.now scope.now in
         GivesExpr (plain.product (expr_expanded x source.now.problem.now (expr_view first.now) sub)
@@ -296,22 +288,8 @@ fn expand_product(
     if !take_node(room, deep) {
         return Err(ExpandFault::TooLarge);
     }
-    let start = expand_expr(
-        source,
-        in_sight,
-        first,
-        &*scope,
-        room,
-        deep - 1,
-    )?;
-    let others = expand_product_steps(
-        source,
-        in_sight,
-        steps,
-        &*scope,
-        room,
-        deep - 1,
-    )?;
+    let start = expand_expr(source, in_sight, first, &*scope, room, deep - 1)?;
+    let others = expand_product_steps(source, in_sight, steps, &*scope, room, deep - 1)?;
     product(source.alloc, start, others)
 }
 
@@ -324,6 +302,7 @@ fn expand_product_steps(
     room: &mut u32,
     deep: u32,
 ) -> Result<Vec<PlainProd>, ExpandFault>
+    requires { IsSource source.now }
     ensures { let t = products_expanded (expansions_of source.now.problem.now in_sight) source.now.problem.now
         (tree.products (map product_view steps.now)) (scope_view source.now.problem.now scope.now) in
         MatchResult result (λ v. ProductsMade t room.old deep room.new v.items)
@@ -346,6 +325,7 @@ fn expand_product_step(
     room: &mut u32,
     deep: u32,
 ) -> Result<PlainProd, ExpandFault>
+    requires { IsSource source.now }
     ensures { let t = product_expanded (expansions_of source.now.problem.now in_sight) source.now.problem.now
         (product_view step.now) (scope_view source.now.problem.now scope.now) in
         MatchResult result (λ s. ProductMade t room.old deep room.new s)
@@ -371,6 +351,7 @@ fn expand_call(
     room: &mut u32,
     deep: u32,
 ) -> Result<PlainExpr, ExpandFault>
+    requires { IsSource source.now }
     ensures { let x = expansions_of source.now.problem.now in_sight in
         GivesExpr
         (expr_expanded x source.now.problem.now
@@ -378,15 +359,8 @@ fn expand_call(
         (scope_view source.now.problem.now scope.now)) room.old deep room.new result }
 {
     match value_macro(source, in_sight, &m.name) {
-        Some(called) => match handed_index(source.tables.handed.as_slice(), called.index, args.len()) {
-            Some(i) => expand_expr(
-                source,
-                in_sight,
-                &args[i].value,
-                &*scope,
-                room,
-                deep,
-            ),
+        Some(called) => match handed_index(source.handed.as_slice(), called.index, args.len()) {
+            Some(i) => expand_expr(source, in_sight, &args[i].value, &*scope, room, deep),
             None => expand_expr(
                 source,
                 called.index,

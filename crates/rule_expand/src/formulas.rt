@@ -11,6 +11,7 @@ ghost use Rattle.rule_expand.specs.Expansion.{binders, coll_expanded, expansions
 ghost use Rattle.rule_expand.specs.Counts.{nodes, depth, nodes_in, depth_in};
 ghost use Rattle.rule_expand.specs.Limits.{FormulasMade, GivesFormula, GivesUnbound, IsLimitFault, PairMade};
 ghost use Rattle.rule_expand.specs.ScopeView.{scope_view};
+ghost use Rattle.rule_expand.specs.Table.{IsSource};
 
 use crate::expressions::expand_expr;
 use crate::limits::ExpandFault;
@@ -39,28 +40,23 @@ fn add_found(positions: &mut Vec<usize>, found: Option<usize>) -> Result<(), All
 }
 
 /// The listed objects, by their positions.
-fn positions_listed(
-    source: &Source,
-    names: &[PlacedName],
-) -> Result<Vec<usize>, AllocError>
+fn positions_listed(source: &Source, names: &[PlacedName]) -> Result<Vec<usize>, AllocError>
+    requires { IsSource source.now }
     ensures { IfOk result (λ v. v.items ≡ listed_objects source.now.problem.now names.now) }
 {
     let mut positions = Vec::new(source.alloc);
     for name in names {
         add_found(
             &mut positions,
-            position_of(&source.tables.names.objects, name.name.as_bytes()),
+            position_of(&source.names.objects, name.name.as_bytes()),
         )?;
     }
     Ok(positions)
 }
 
 /// What a quantifier's variable ranges over.
-fn expand_coll(
-    source: &Source,
-    coll: &Coll,
-    scope: &Scope,
-) -> Result<PlainColl, ExpandFault>
+fn expand_coll(source: &Source, coll: &Coll, scope: &Scope) -> Result<PlainColl, ExpandFault>
+    requires { IsSource source.now }
     ensures { MatchResult result (λ q. plain_coll_view q
         ≡ coll_expanded source.now.problem.now (coll_view coll.now) (scope_view source.now.problem.now scope.now))
         (λ e. e ≡ ExpandFault.Memory) }
@@ -73,7 +69,9 @@ fn expand_coll(
         },
         Coll::BoxesOf(a) => match look_up(source, scope, &a.name) {
             Found::Subject(subject) => Ok(PlainColl::BoxesOf(subject)),
-            Found::Argument(_e, _caller, _in_sight) => Ok(PlainColl::Listed(Vec::new(source.alloc))),
+            Found::Argument(_e, _caller, _in_sight) => Ok(PlainColl::Listed(Vec::new(
+                source.alloc,
+            ))),
             Found::Nothing => Ok(PlainColl::Listed(Vec::new(source.alloc))),
         },
     }
@@ -90,6 +88,7 @@ fn expand_comparison(
     room: &mut u32,
     deep: u32,
 ) -> Result<PlainFormula, ExpandFault>
+    requires { IsSource source.now }
     ensures { let x = expansions_of source.now.problem.now in_sight in
         let sub = scope_view source.now.problem.now scope.now in
         GivesUnbound (plain.comparison (expr_expanded x source.now.problem.now (expr_view a.now) sub) rel
@@ -115,7 +114,8 @@ pub fn expand_formula(
     room: &mut u32,
     deep: u32,
 ) -> Result<PlainFormula, ExpandFault>
-    requires { next.old + room.old < 2 ^ 32 }
+    requires known { IsSource source.now }
+    requires numbers { next.old + room.old < 2 ^ 32 }
     ensures { GivesFormula (formula_expanded (expansions_of source.now.problem.now in_sight) source.now.problem.now
         (formula_view f.now)
         (scope_view source.now.problem.now scope.now) next.old) next.old room.old deep next.new room.new
@@ -134,15 +134,9 @@ pub fn expand_formula(
             }
             Ok(PlainFormula::False)
         }
-        Formula::Not(_place, f) => expand_negation(
-            source, in_sight, f, &*scope, next, room, deep,
-        ),
-        Formula::And(_place, fs) => expand_all_of(
-            source, in_sight, fs, &*scope, next, room, deep,
-        ),
-        Formula::Or(_place, fs) => expand_any_of(
-            source, in_sight, fs, &*scope, next, room, deep,
-        ),
+        Formula::Not(_place, f) => expand_negation(source, in_sight, f, &*scope, next, room, deep),
+        Formula::And(_place, fs) => expand_all_of(source, in_sight, fs, &*scope, next, room, deep),
+        Formula::Or(_place, fs) => expand_any_of(source, in_sight, fs, &*scope, next, room, deep),
         Formula::Implies(_place, f, g) => expand_implication(
             source, in_sight, f, g, &*scope, next, room, deep,
         ),
@@ -171,7 +165,8 @@ fn expand_negation(
     room: &mut u32,
     deep: u32,
 ) -> Result<PlainFormula, ExpandFault>
-    requires { next.old + room.old < 2 ^ 32 }
+    requires known { IsSource source.now }
+    requires numbers { next.old + room.old < 2 ^ 32 }
     ensures { GivesFormula
         (plain.negation (formula_expanded (expansions_of source.now.problem.now in_sight) source.now.problem.now
         (formula_view f.now)
@@ -181,15 +176,7 @@ fn expand_negation(
     if !take_node(room, deep) {
         return Err(ExpandFault::TooLarge);
     }
-    let inner = expand_formula(
-        source,
-        in_sight,
-        f,
-        &*scope,
-        next,
-        room,
-        deep - 1,
-    )?;
+    let inner = expand_formula(source, in_sight, f, &*scope, next, room, deep - 1)?;
     negation(source.alloc, inner)
 }
 
@@ -203,7 +190,8 @@ fn expand_all_of(
     room: &mut u32,
     deep: u32,
 ) -> Result<PlainFormula, ExpandFault>
-    requires { next.old + room.old < 2 ^ 32 }
+    requires known { IsSource source.now }
+    requires numbers { next.old + room.old < 2 ^ 32 }
     ensures { GivesFormula
         (plain.all_of (formulas_expanded (expansions_of source.now.problem.now in_sight) source.now.problem.now
         (tree.formulas (map formula_view fs.now))
@@ -213,15 +201,7 @@ fn expand_all_of(
     if !take_node(room, deep) {
         return Err(ExpandFault::TooLarge);
     }
-    let parts = expand_each(
-        source,
-        in_sight,
-        fs,
-        &*scope,
-        next,
-        room,
-        deep - 1,
-    )?;
+    let parts = expand_each(source, in_sight, fs, &*scope, next, room, deep - 1)?;
     Ok(all_of(parts))
 }
 
@@ -235,7 +215,8 @@ fn expand_any_of(
     room: &mut u32,
     deep: u32,
 ) -> Result<PlainFormula, ExpandFault>
-    requires { next.old + room.old < 2 ^ 32 }
+    requires known { IsSource source.now }
+    requires numbers { next.old + room.old < 2 ^ 32 }
     ensures { GivesFormula
         (plain.any_of (formulas_expanded (expansions_of source.now.problem.now in_sight) source.now.problem.now
         (tree.formulas (map formula_view fs.now))
@@ -245,15 +226,7 @@ fn expand_any_of(
     if !take_node(room, deep) {
         return Err(ExpandFault::TooLarge);
     }
-    let parts = expand_each(
-        source,
-        in_sight,
-        fs,
-        &*scope,
-        next,
-        room,
-        deep - 1,
-    )?;
+    let parts = expand_each(source, in_sight, fs, &*scope, next, room, deep - 1)?;
     Ok(any_of(parts))
 }
 
@@ -268,7 +241,8 @@ fn expand_each(
     room: &mut u32,
     deep: u32,
 ) -> Result<Vec<PlainFormula>, ExpandFault>
-    requires { next.old + room.old < 2 ^ 32 }
+    requires known { IsSource source.now }
+    requires numbers { next.old + room.old < 2 ^ 32 }
     ensures { let t = formulas_expanded (expansions_of source.now.problem.now in_sight) source.now.problem.now
         (tree.formulas (map formula_view fs.now)) (scope_view source.now.problem.now scope.now) next.old in
         MatchResult result (λ v. FormulasMade t next.old room.old deep next.new room.new v.items)
@@ -276,9 +250,7 @@ fn expand_each(
 {
     let mut parts = Vec::new(source.alloc);
     for f in fs {
-        let part = expand_formula(
-            source, in_sight, f, &*scope, next, room, deep,
-        )?;
+        let part = expand_formula(source, in_sight, f, &*scope, next, room, deep)?;
         add_formula(&mut parts, part)?;
     }
     Ok(parts)
@@ -296,7 +268,8 @@ fn expand_pair(
     room: &mut u32,
     deep: u32,
 ) -> Result<(PlainFormula, PlainFormula), ExpandFault>
-    requires { next.old + room.old < 2 ^ 32 }
+    requires known { IsSource source.now }
+    requires numbers { next.old + room.old < 2 ^ 32 }
     ensures { let x = expansions_of source.now.problem.now in_sight in
         let sub = scope_view source.now.problem.now scope.now in
         let t = formula_expanded x source.now.problem.now (formula_view f.now) sub next.old in
@@ -304,12 +277,8 @@ fn expand_pair(
         MatchResult result (λ r. PairMade t u next.old room.old deep next.new room.new r.0 r.1)
         (λ e. IsLimitFault (nodes t + nodes u) (max (depth t) (depth u)) room.old deep e) }
 {
-    let left = expand_formula(
-        source, in_sight, f, &*scope, next, room, deep,
-    )?;
-    let right = expand_formula(
-        source, in_sight, g, &*scope, next, room, deep,
-    )?;
+    let left = expand_formula(source, in_sight, f, &*scope, next, room, deep)?;
+    let right = expand_formula(source, in_sight, g, &*scope, next, room, deep)?;
     Ok((left, right))
 }
 
@@ -324,7 +293,8 @@ fn expand_implication(
     room: &mut u32,
     deep: u32,
 ) -> Result<PlainFormula, ExpandFault>
-    requires { next.old + room.old < 2 ^ 32 }
+    requires known { IsSource source.now }
+    requires numbers { next.old + room.old < 2 ^ 32 }
     ensures { let x = expansions_of source.now.problem.now in_sight in
         let sub = scope_view source.now.problem.now scope.now in
         let t = formula_expanded x source.now.problem.now (formula_view f.now) sub next.old in
@@ -336,16 +306,7 @@ fn expand_implication(
     if !take_node(room, deep) {
         return Err(ExpandFault::TooLarge);
     }
-    let pair = expand_pair(
-        source,
-        in_sight,
-        f,
-        g,
-        &*scope,
-        next,
-        room,
-        deep - 1,
-    )?;
+    let pair = expand_pair(source, in_sight, f, g, &*scope, next, room, deep - 1)?;
     implication(source.alloc, pair.0, pair.1)
 }
 
@@ -360,7 +321,8 @@ fn expand_equivalence(
     room: &mut u32,
     deep: u32,
 ) -> Result<PlainFormula, ExpandFault>
-    requires { next.old + room.old < 2 ^ 32 }
+    requires known { IsSource source.now }
+    requires numbers { next.old + room.old < 2 ^ 32 }
     ensures { let x = expansions_of source.now.problem.now in_sight in
         let sub = scope_view source.now.problem.now scope.now in
         let t = formula_expanded x source.now.problem.now (formula_view f.now) sub next.old in
@@ -372,16 +334,7 @@ fn expand_equivalence(
     if !take_node(room, deep) {
         return Err(ExpandFault::TooLarge);
     }
-    let pair = expand_pair(
-        source,
-        in_sight,
-        f,
-        g,
-        &*scope,
-        next,
-        room,
-        deep - 1,
-    )?;
+    let pair = expand_pair(source, in_sight, f, g, &*scope, next, room, deep - 1)?;
     equivalence(source.alloc, pair.0, pair.1)
 }
 
@@ -399,7 +352,8 @@ fn expand_quantified(
     room: &mut u32,
     deep: u32,
 ) -> Result<PlainFormula, ExpandFault>
-    requires { next.old + room.old < 2 ^ 32 }
+    requires known { IsSource source.now }
+    requires numbers { next.old + room.old < 2 ^ 32 }
     ensures { GivesFormula (formula_expanded (expansions_of source.now.problem.now in_sight) source.now.problem.now
         (tree.quantified 0 kind v.now (coll_view coll.now) (formula_view f.now))
         (scope_view source.now.problem.now scope.now) next.old) next.old room.old deep next.new room.new
@@ -435,7 +389,8 @@ fn expand_formula_call(
     room: &mut u32,
     deep: u32,
 ) -> Result<PlainFormula, ExpandFault>
-    requires { next.old + room.old < 2 ^ 32 }
+    requires known { IsSource source.now }
+    requires numbers { next.old + room.old < 2 ^ 32 }
     ensures { GivesFormula (formula_expanded (expansions_of source.now.problem.now in_sight) source.now.problem.now
         (tree.formula_call 0 m.now (tree.arguments (map argument_view args.now)))
         (scope_view source.now.problem.now scope.now) next.old) next.old room.old deep next.new room.new

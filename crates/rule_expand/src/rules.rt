@@ -4,13 +4,14 @@ ghost use Rattle.std.specs.Prelude.{◌≡◌, None, false, IfOk, List, MatchRes
 ghost use Rattle.problem_data.specs.Tuple.{Tuple};
 ghost use Rattle.problem_data.specs.ProblemView.{range_data};
 ghost use Rattle.rule_expand.specs.Rules.{AllAskSame, IsFaultOf, IsRuleFault, expansion_fault, first_place, is_large, large_fault, multiplies_coordinates, plain_rule_data, rule_expanded, rules_expanded};
+ghost use Rattle.rule_expand.specs.Table.{IsSource};
 
 use crate::degree::multiplies;
 use crate::formulas::expand_formula;
 use crate::limits::ExpandFault;
 use crate::plain::{PlainBody, PlainRule};
 use crate::scope::Scope;
-use crate::table::{Source, tables_of};
+use crate::table::{Source, source_of};
 use geo_tokens::fault::{FaultWord, TextFault};
 use problem_data::problem::{Demand, Problem, RangeDef, RuleDef};
 use std::alloc::{AllocError, Global};
@@ -29,10 +30,8 @@ fn copied(alloc: Global, ranges: &[RangeDef]) -> Result<Vec<RangeDef>, AllocErro
 }
 
 /// A rule without its macros.
-fn expand_rule(
-    source: &Source,
-    rule: &RuleDef,
-) -> Result<PlainRule, ExpandFault>
+fn expand_rule(source: &Source, rule: &RuleDef) -> Result<PlainRule, ExpandFault>
+    requires { IsSource source.now }
     ensures { MatchResult result (λ r. (plain_rule_data r ≡ rule_expanded source.now.problem.now rule.now)
         × (is_large (rule_expanded source.now.problem.now rule.now).demand ≡ false))
         (λ e. IsRuleFault (rule_expanded source.now.problem.now rule.now) e) }
@@ -77,9 +76,8 @@ fn add_rule(rules: &mut Vec<PlainRule>, rule: PlainRule) -> Result<(), AllocErro
 }
 
 /// The rules in file order, each without its macros, where none is too large.
-fn expand_rules(
-    source: &Source,
-) -> Result<Vec<PlainRule>, TextFault>
+fn expand_rules(source: &Source) -> Result<Vec<PlainRule>, TextFault>
+    requires { IsSource source.now }
     ensures { MatchResult result (λ v. (map plain_rule_data v.items ≡ rules_expanded source.now.problem.now)
         × (first_place is_large (rules_expanded source.now.problem.now) ≡ None))
         (λ e. IsFaultOf (large_fault source.now.problem.now) e) }
@@ -138,12 +136,7 @@ pub fn expand_all(alloc: Global, problem: &Problem) -> Result<Vec<PlainRule>, Te
     ensures meaning { IfOk result (λ v. (t : Tuple)
         → AllAskSame problem.now t problem.now.rules (map plain_rule_data v.items)) }
 {
-    let tables = tables_of(alloc, problem)?;
-    let source = Source {
-        alloc,
-        problem,
-        tables: &tables,
-    };
+    let source = source_of(alloc, problem)?;
     let rules = expand_rules(&source)?;
     match first_product(rules.as_slice()) {
         Some(place) => Err(TextFault::At(place, FaultWord::Product)),

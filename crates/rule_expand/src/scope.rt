@@ -11,6 +11,7 @@ ghost use Rattle.problem_data.specs.Problem.{ProblemData};
 ghost use Rattle.rule_expand.specs.Costs.{cost_by, cost, costs, price_all, CostEnv, MacroCosts};
 ghost use Rattle.rule_expand.specs.Expansion.{meant_by, meant, arguments_meant, give_all, Subst, Expansions};
 ghost use Rattle.rule_expand.specs.ScopeView.{scope_view, prices, found_meant, found_cost, IsNoName, IsValueMacro, IsNoValueMacro, IsFormulaMacro, IsNoFormulaMacro};
+ghost use Rattle.rule_expand.specs.Table.{IsSource};
 
 use crate::plain::Subject;
 use crate::table::Source;
@@ -65,10 +66,11 @@ pub fn parameter_index(params: &[ParamDef], count: usize, name: &Name) -> Option
 
 /// The object of this name.
 fn object_named<'a>(source: &Source, name: &Name) -> Found<'a>
+    requires { IsSource source.now }
     ensures meant { found_meant source.now.problem.now result ≡ meant_by source.now.problem.now name.now [] }
     ensures cost { found_cost source.now.problem.now result ≡ 0 }
 {
-    match position_of(&source.tables.names.objects, name.as_bytes()) {
+    match position_of(&source.names.objects, name.as_bytes()) {
         Some(o) => Found::Subject(Subject::Object(o)),
         None => Found::Nothing,
     }
@@ -112,11 +114,8 @@ fn bare_name(e: &Expr) -> Option<&PlacedName>
 }
 
 /// What a name stands for.
-pub fn look_up<'a>(
-    source: &Source,
-    scope: &'a Scope<'a>,
-    name: &Name,
-) -> Found<'a>
+pub fn look_up<'a>(source: &Source, scope: &'a Scope<'a>, name: &Name) -> Found<'a>
+    requires { IsSource source.now }
     ensures meant { found_meant source.now.problem.now result
         ≡ meant_by source.now.problem.now name.now (scope_view source.now.problem.now scope.now) }
     ensures cost { found_cost source.now.problem.now result ≤ cost_by name.now (prices source.now.problem.now scope.now) }
@@ -143,15 +142,12 @@ pub fn look_up<'a>(
 }
 
 /// The macro that a call of this name means, where it gives a number and stands among the first macros.
-pub fn value_macro<'a>(
-    source: &Source<'a>,
-    in_sight: usize,
-    name: &Name,
-) -> Option<ValueMacro<'a>>
+pub fn value_macro<'a>(source: &Source<'a>, in_sight: usize, name: &Name) -> Option<ValueMacro<'a>>
+    requires { IsSource source.now }
     ensures { MatchOption result (IsNoValueMacro source.now.problem.now in_sight name.now)
         (λ v. IsValueMacro source.now.problem.now in_sight name.now v) }
 {
-    match position_of(&source.tables.names.macros, name.as_bytes()) {
+    match position_of(&source.names.macros, name.as_bytes()) {
         Some(index) => {
             let macros = source.problem.macros();
             if index >= in_sight {
@@ -177,10 +173,11 @@ pub fn formula_macro<'a>(
     in_sight: usize,
     name: &Name,
 ) -> Option<FormulaMacro<'a>>
+    requires { IsSource source.now }
     ensures { MatchOption result (IsNoFormulaMacro source.now.problem.now in_sight name.now)
         (λ v. IsFormulaMacro source.now.problem.now in_sight name.now v) }
 {
-    match position_of(&source.tables.names.macros, name.as_bytes()) {
+    match position_of(&source.names.macros, name.as_bytes()) {
         Some(index) => {
             let macros = source.problem.macros();
             if index >= in_sight {

@@ -13,7 +13,7 @@ use Rattle.rule_expand.proofs.formulas.+formula.Goals as goal
 pub expand_each-expand_formula-requires : goal.expand_each-expand_formula-requires
 expand_each-expand_formula-requires t c =
     let h = operand-cost (formula_costs_of c.args.source.now.problem.now c.args.in_sight) c.args.source.now.problem.now c.args.fs.now c.loop-f.f-index c.f-item.result c.loop-f-test.true c.f-item.is in
-    (omega (arith, h), omega (arith, c.loop-f.invariant.in_order))
+    (omega (arith, h), (c.requires.known, omega (arith, c.loop-f.invariant.in_order)))
 
 pub expand_each-returns-in_err-part : goal.expand_each-returns-in_err-part
 expand_each-returns-in_err-part t c =
@@ -46,4 +46,4 @@ expand_pair-expand_formula-requires-2 t c =
     let a = c.in_ok-left.ensures.taken in
     let b = c.in_ok-left.ensures.numbered in
     let h = binders-nodes (formula_expanded (expansions_of c.args.source.now.problem.now c.args.in_sight) c.args.source.now.problem.now (formula_view c.args.f.now) (scope_view c.args.source.now.problem.now c.args.scope.now) c.args.next.now) in
-    (omega arith, omega (arith, a, b, h))
+    (omega arith, (c.requires.known, omega (arith, a, b, h)))
