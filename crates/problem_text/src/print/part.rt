@@ -6,13 +6,13 @@ ghost use Rattle.problem_data.specs.View.{body_view};
 ghost use Rattle.problem_data.specs.ProblemView.{range_data, attribute_data, param_data, demand_data};
 ghost use Rattle.problem_text.specs.Canonical.{listed, int_spelling, ints_spelling, range_spelling, ranges_spelling, box_spelling, attribute_spelling, attributes_spelling, kind_word, param_spelling, body_spelling, demand_spelling, side_spelling};
 
-use crate::print::line::name_lexeme;
+use crate::print::line::push_name;
 use geo_tokens::token::{Keyword, Sym};
 use problem_data::problem::{AttributeDef, BoxDef, Demand, ParamDef, RangeDef};
 use problem_data::tree::{MacroBody, ParamKind, Side};
 use rule_print::expression::spell_expression;
 use rule_print::formula::spell_formula;
-use rule_print::lexeme::{Lexeme, push, push_all, push_if, push_symbol, push_word};
+use rule_print::lexeme::{Lexeme, push, push_if, push_symbol, push_word};
 use rule_print::rank::{ExprRank, FormulaRank};
 use std::alloc::AllocError;
 
@@ -20,12 +20,10 @@ fn spell_int<'a>(value: i64, into: &mut Vec<Lexeme<'a>>) -> Result<(), AllocErro
     ensures { IfOk result (λ _. map written into.new.items ≡ map written into.old.items
         ++ int_spelling value) }
 {
-    let number = Lexeme::Number(value.unsigned_abs());
     if value < 0 {
-        push_all(&[Lexeme::Sign, number], into)
-    } else {
-        push(number, into)
+        push(Lexeme::Sign, into)?;
     }
+    push(Lexeme::Number(value.unsigned_abs()), into)
 }
 
 fn spell_ints<'a>(values: &[i64], into: &mut Vec<Lexeme<'a>>) -> Result<(), AllocError>
@@ -84,11 +82,8 @@ fn spell_attribute<'a>(
     ensures { IfOk result (λ _. map written into.new.items ≡ map written into.old.items
         ++ attribute_spelling (attribute_data attribute.now)) }
 {
-    let front = [
-        name_lexeme(&attribute.name),
-        Lexeme::Symbol(Sym::Equal),
-    ];
-    push_all(&front, into)?;
+    push_name(&attribute.name, into)?;
+    push_symbol(Sym::Equal, into)?;
     spell_int(attribute.value, into)
 }
 
@@ -139,12 +134,9 @@ fn spell_param<'a>(param: &'a ParamDef, into: &mut Vec<Lexeme<'a>>) -> Result<()
     ensures { IfOk result (λ _. map written into.new.items ≡ map written into.old.items
         ++ param_spelling (param_data param.now)) }
 {
-    let lexemes = [
-        name_lexeme(&param.name),
-        Lexeme::Symbol(Sym::Colon),
-        Lexeme::Word(kind_word(param.kind)),
-    ];
-    push_all(&lexemes, into)
+    push_name(&param.name, into)?;
+    push_symbol(Sym::Colon, into)?;
+    push_word(kind_word(param.kind), into)
 }
 
 /// The parameters of a macro, with commas between them.

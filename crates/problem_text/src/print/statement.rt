@@ -5,7 +5,7 @@ ghost use Rattle.geo_tokens.specs.declared.token.Sym.TheVariants as syms;
 ghost use Rattle.rule_print.specs.Canonical.{written, symbol};
 ghost use Rattle.problem_text.specs.Canonical.{listed, name_spelling, name_at, shape_spelling, object_spelling, macro_spelling, rule_spelling, order_spelling, sides_spelling, line_text};
 
-use crate::print::line::{name_lexeme, push_statement};
+use crate::print::line::{push_line, push_name};
 use crate::print::part::{
     spell_attributes, spell_body, spell_boxes, spell_demand, spell_params, spell_ranges,
     spell_sides,
@@ -13,7 +13,7 @@ use crate::print::part::{
 use geo_tokens::token::{Keyword, Sym};
 use problem_data::problem::{MacroDef, ObjectDef, RuleDef, ShapeDef};
 use problem_data::tree::Side;
-use rule_print::lexeme::{Lexeme, push, push_all, push_if, push_symbol, push_word};
+use rule_print::lexeme::{Lexeme, push, push_if, push_symbol, push_word};
 use std::alloc::{AllocError, Global};
 
 /// Appends the line of a shape.
@@ -22,10 +22,11 @@ pub fn push_shape(alloc: Global, shape: &ShapeDef, text: &mut Vec<u8>) -> Result
         ++ line_text (shape_spelling shape.now)) }
 {
     let mut lexemes = Vec::new(alloc);
-    let front = [Lexeme::Word(Keyword::Shape), name_lexeme(shape.name())];
-    push_all(&front, &mut lexemes)?;
+    push_word(Keyword::Shape, &mut lexemes)?;
+    push_name(shape.name(), &mut lexemes)?;
     spell_boxes(shape.boxes(), &mut lexemes)?;
-    push_statement(alloc, lexemes, text)
+    push_symbol(Sym::Semicolon, &mut lexemes)?;
+    push_line(alloc, lexemes.as_slice(), text)
 }
 
 /// The name of the shape at this position.
@@ -67,17 +68,15 @@ pub fn push_object(
         ++ line_text (object_spelling (map (λ s. s.name) shapes.now) object.now)) }
 {
     let mut lexemes = Vec::new(alloc);
-    let front = [
-        Lexeme::Word(Keyword::Object),
-        name_lexeme(object.name()),
-        Lexeme::Word(Keyword::As),
-    ];
-    push_all(&front, &mut lexemes)?;
+    push_word(Keyword::Object, &mut lexemes)?;
+    push_name(object.name(), &mut lexemes)?;
+    push_word(Keyword::As, &mut lexemes)?;
     spell_shape_names(shapes, object.shapes(), &mut lexemes)?;
     push_word(Keyword::At, &mut lexemes)?;
     spell_ranges(object.ranges(), &mut lexemes)?;
     spell_attributes(object.attributes(), &mut lexemes)?;
-    push_statement(alloc, lexemes, text)
+    push_symbol(Sym::Semicolon, &mut lexemes)?;
+    push_line(alloc, lexemes.as_slice(), text)
 }
 
 /// Appends the line of a macro.
@@ -86,16 +85,14 @@ pub fn push_macro(alloc: Global, own: &MacroDef, text: &mut Vec<u8>) -> Result<(
         ++ line_text (macro_spelling own.now)) }
 {
     let mut lexemes = Vec::new(alloc);
-    let front = [
-        Lexeme::Word(Keyword::Macro),
-        name_lexeme(own.name()),
-        Lexeme::Symbol(Sym::ParenOpen),
-    ];
-    push_all(&front, &mut lexemes)?;
+    push_word(Keyword::Macro, &mut lexemes)?;
+    push_name(own.name(), &mut lexemes)?;
+    push_symbol(Sym::ParenOpen, &mut lexemes)?;
     spell_params(own.params(), &mut lexemes)?;
     push_symbol(Sym::ParenClose, &mut lexemes)?;
     spell_body(own.body(), &mut lexemes)?;
-    push_statement(alloc, lexemes, text)
+    push_symbol(Sym::Semicolon, &mut lexemes)?;
+    push_line(alloc, lexemes.as_slice(), text)
 }
 
 /// Appends the line of a rule.
@@ -104,14 +101,12 @@ pub fn push_rule(alloc: Global, rule: &RuleDef, text: &mut Vec<u8>) -> Result<()
         ++ line_text (rule_spelling rule.now)) }
 {
     let mut lexemes = Vec::new(alloc);
-    let front = [
-        Lexeme::Word(Keyword::Rule),
-        name_lexeme(rule.name()),
-        Lexeme::Symbol(Sym::Colon),
-    ];
-    push_all(&front, &mut lexemes)?;
+    push_word(Keyword::Rule, &mut lexemes)?;
+    push_name(rule.name(), &mut lexemes)?;
+    push_symbol(Sym::Colon, &mut lexemes)?;
     spell_demand(rule.demand(), &mut lexemes)?;
-    push_statement(alloc, lexemes, text)
+    push_symbol(Sym::Semicolon, &mut lexemes)?;
+    push_line(alloc, lexemes.as_slice(), text)
 }
 
 /// The name of the object at this position.
@@ -155,7 +150,8 @@ pub fn push_order(
     let mut lexemes = Vec::new(alloc);
     push_word(Keyword::Order, &mut lexemes)?;
     spell_object_names(objects, order, &mut lexemes)?;
-    push_statement(alloc, lexemes, text)
+    push_symbol(Sym::Semicolon, &mut lexemes)?;
+    push_line(alloc, lexemes.as_slice(), text)
 }
 
 /// Appends the line of the sides.
@@ -166,5 +162,6 @@ pub fn push_sides(alloc: Global, sides: &[Side], text: &mut Vec<u8>) -> Result<(
     let mut lexemes = Vec::new(alloc);
     push_word(Keyword::Sides, &mut lexemes)?;
     spell_sides(sides, &mut lexemes)?;
-    push_statement(alloc, lexemes, text)
+    push_symbol(Sym::Semicolon, &mut lexemes)?;
+    push_line(alloc, lexemes.as_slice(), text)
 }
