@@ -1,12 +1,12 @@
 -- What a function that reads returned is what reading gives, unless memory ran out.
-use Rattle.std.specs.Prelude.{ℕ, ◌≡◌, List, ◌++◌, Some, None, Result, Ok, Err}
+use Rattle.std.specs.Prelude.{ℕ, ◌≡◌, List, ◌++◌, drop, true, false, Some, None, Result, Ok, Err}
 use Rattle.std.specs.Borrow.{Bor}
 use Rattle.geo_tokens.specs.declared.token.Token.{Token}
-use Rattle.geo_tokens.specs.Words.{Lang}
+use Rattle.geo_tokens.specs.Words.{Kinds, Lang}
 use Rattle.geo_tokens.specs.Deep.{IsValue, IsFault, IsDeep, IsText, IsTextFault}
 use Rattle.geo_tokens.specs.declared.stop.Stop.{Stop}
 use Rattle.geo_tokens.specs.declared.stop.Stop.TheVariants as stops
-use Rattle.geo_tokens.specs.Reading.{Read, Got, Wrong, ◌>>=◌}
+use Rattle.geo_tokens.specs.Reading.{Read, Got, Wrong, next_is, ◌>>=◌}
 
 abbrev pub Fails : {A : Type 0} → Stop → Read A → Type 0
 Fails stops.Memory r = Unit {0}
@@ -41,3 +41,10 @@ StopsText L limit w (stops.Deep rest) = IsDeep L limit w rest.now
 abbrev pub ReadsText : {A X : Type 0} → (X → A) → Result X Stop → (ℕ → Lang A) → ℕ → List Token → Type 0
 ReadsText view (Ok x) L limit w = IsText L w (view x)
 ReadsText view (Err e) L limit w = StopsText L limit w e
+
+-- Why reading stopped where no level may be opened: behind a token of these kinds, which would open one, and before any
+-- other.
+abbrev pub Refuses : Kinds → List Token → Stop → Type 0
+Refuses ks w stops.Memory = ⊥
+Refuses ks w (stops.Wrong rest) = (next_is ks w ≡ false) × (rest.now ≡ w)
+Refuses ks w (stops.Deep rest) = (next_is ks w ≡ true) × (rest.now ≡ drop 1 w)

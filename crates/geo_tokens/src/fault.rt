@@ -50,7 +50,7 @@ pub enum FaultWord {
 }
 
 /// Why a text is refused: what is wrong, with how many bytes of the input stand before it; or want of memory.
-#[derive(Clone, Copy, Debug, PartialEq, Eq)]
+#[derive(Clone, Copy, Debug)]
 pub enum TextFault {
     /// The place, and what is wrong there.
     At(u64, FaultWord),
@@ -74,29 +74,32 @@ impl<T: Drop> From<AllocFailed<T>> for TextFault {
     }
 }
 
+/// How each fault is named, in the order of the words.
+const FAULT_TEXTS: [&[u8]; 19] = [
+    b"byte",
+    b"number",
+    b"name",
+    b"syntax",
+    b"deep",
+    b"limit",
+    b"twice",
+    b"unknown",
+    b"range",
+    b"size",
+    b"order",
+    b"kind",
+    b"args",
+    b"expand",
+    b"product",
+    b"overflow",
+    b"ground",
+    b"token",
+    b"long",
+];
+
 /// How a fault is named.
 pub fn fault_text(word: FaultWord) -> &'static [u8]
     ensures { result.now ≡ fault_bytes word }
 {
-    match word {
-        FaultWord::Byte => b"byte",
-        FaultWord::Number => b"number",
-        FaultWord::Name => b"name",
-        FaultWord::Syntax => b"syntax",
-        FaultWord::Deep => b"deep",
-        FaultWord::Limit => b"limit",
-        FaultWord::Twice => b"twice",
-        FaultWord::Unknown => b"unknown",
-        FaultWord::Range => b"range",
-        FaultWord::Size => b"size",
-        FaultWord::Order => b"order",
-        FaultWord::Kind => b"kind",
-        FaultWord::Args => b"args",
-        FaultWord::Expand => b"expand",
-        FaultWord::Product => b"product",
-        FaultWord::Overflow => b"overflow",
-        FaultWord::Ground => b"ground",
-        FaultWord::Token => b"token",
-        FaultWord::Long => b"long",
-    }
+    FAULT_TEXTS[word as usize]
 }

@@ -1,6 +1,6 @@
 //! The names of a problem: of its shapes, and of its objects with their lists of shapes.
 
-ghost use Rattle.std.specs.Prelude.{◌≡◌, ◌≤◌, ◌<◌, ◌∷◌, [], ◌++◌, length, OnOk, OnErr};
+ghost use Rattle.std.specs.Prelude.{◌≡◌, ◌≤◌, ◌<◌, ◌∷◌, [], ◌++◌, length, IfOk, OnOk, OnErr};
 ghost use Rattle.std.specs.List.{Contains};
 ghost use Rattle.geo_tokens.specs.Names.{NameTable, IsNameText, IsShapeList, IsNameTable, object_names};
 
@@ -9,7 +9,7 @@ use std::alloc::{AllocError, Global};
 use std::marker::Model;
 
 /// An object's name, and the positions of its shapes in the list of shapes. It is seen as this pair.
-#[derive(Debug, Drop)]
+#[derive(Drop)]
 pub struct NamedObject {
     name: Name,
     shapes: Vec<u16>,
@@ -37,6 +37,17 @@ impl NamedObject {
     {
         self.shapes.as_slice()
     }
+}
+
+/// The object of this name with this list of shapes.
+fn named_object(alloc: Global, name: &[u8], shapes: &[u16]) -> Result<NamedObject, AllocError>
+    ensures { IfOk result (λ o. o ≡ (name.now, shapes.now)) }
+{
+    let name = Name::new(alloc, name)?;
+    Ok(NamedObject {
+        name,
+        shapes: Vec::from_slice(alloc, shapes)?,
+    })
 }
 
 /// A table of names.
@@ -121,9 +132,8 @@ impl Names {
             ≡ record self.old { objects = self.old.objects ++ (name.now, shapes.now) ∷ [] }) }
         ensures err { OnErr result (self.new ≡ self.old) }
     {
-        let name = Name::new(self.alloc, name)?;
-        let shapes = Vec::from_slice(self.alloc, shapes)?;
-        self.objects.push(NamedObject { name, shapes })?;
+        let object = named_object(self.alloc, name, shapes)?;
+        self.objects.push(object)?;
         Ok(())
     }
 }

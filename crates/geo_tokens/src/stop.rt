@@ -3,7 +3,7 @@
 ghost use Rattle.std.specs.Prelude.{◌≡◌, ◌∷◌, []};
 ghost use Rattle.geo_tokens.specs.Words.{start_of, has, kinds_of};
 ghost use Rattle.geo_tokens.specs.Reading.{next_is, token_at};
-ghost use Rattle.geo_tokens.specs.Gives.{Gives};
+ghost use Rattle.geo_tokens.specs.Gives.{Gives, Refuses};
 ghost use Rattle.geo_tokens.specs.declared.stop.Stop.TheVariants.{Memory};
 ghost use Rattle.geo_tokens.specs.Class.{class_of};
 
@@ -106,5 +106,21 @@ pub fn one_of<'a>(tokens: &'a [Token], kinds: &[Kind]) -> Result<(Token, &'a [To
             }
         }
         [] => Err(Stop::Wrong(tokens)),
+    }
+}
+
+/// Why the next token is refused where no level may be opened: one of these kinds would open it, and any other is wrong.
+pub fn refusal<'a>(tokens: &'a [Token], kinds: &[Kind]) -> Stop<'a>
+    ensures { Refuses (kinds_of kinds.now) tokens.now result }
+{
+    match tokens {
+        [first, rest @ ..] => {
+            if has_kind(kinds, first.kind) {
+                Stop::Deep(rest)
+            } else {
+                Stop::Wrong(tokens)
+            }
+        }
+        [] => Stop::Wrong(tokens),
     }
 }

@@ -6,37 +6,20 @@ ghost use Rattle.problem_data.specs.Least.{word_rank, is_after, earlier, fault_i
 use geo_tokens::fault::FaultWord;
 
 /// What is wrong at a place. The place is how many bytes of the text stand before it.
-#[derive(Clone, Copy, Debug, PartialEq, Eq)]
+#[derive(Clone, Copy)]
 pub struct Fault {
     pub place: u64,
     pub word: FaultWord,
 }
 
+/// Where each word stands in the order in which the words of one place are taken, in the order of the words.
+const RANKS: [u8; 19] = [6, 7, 8, 9, 10, 0, 1, 2, 3, 4, 5, 11, 12, 13, 14, 15, 16, 17, 18];
+
 /// Where the word stands in the order in which the words of one place are taken.
 fn word_rank(word: FaultWord) -> u8
     ensures { result ≡ word_rank word }
 {
-    match word {
-        FaultWord::Limit => 0,
-        FaultWord::Twice => 1,
-        FaultWord::Unknown => 2,
-        FaultWord::Range => 3,
-        FaultWord::Size => 4,
-        FaultWord::Order => 5,
-        FaultWord::Byte => 6,
-        FaultWord::Number => 7,
-        FaultWord::Name => 8,
-        FaultWord::Syntax => 9,
-        FaultWord::Deep => 10,
-        FaultWord::Kind => 11,
-        FaultWord::Args => 12,
-        FaultWord::Expand => 13,
-        FaultWord::Product => 14,
-        FaultWord::Overflow => 15,
-        FaultWord::Ground => 16,
-        FaultWord::Token => 17,
-        FaultWord::Long => 18,
-    }
+    RANKS[word as usize]
 }
 
 fn is_after(f: Fault, g: Fault) -> bool

@@ -5,21 +5,21 @@
 use rule_syntax::tree::{Expr, Formula, PlacedName};
 
 /// A whole number, with the place of its first token.
-#[derive(Clone, Copy, Debug)]
+#[derive(Clone, Copy)]
 pub struct Int {
     pub place: u64,
     pub value: i64,
 }
 
 /// A range of whole numbers, both ends included.
-#[derive(Clone, Copy, Debug)]
+#[derive(Clone, Copy)]
 pub struct RangeText {
     pub low: Int,
     pub high: Int,
 }
 
 /// A box of a shape, with the place of its word `box`.
-#[derive(Debug, Drop)]
+#[derive(Drop)]
 pub struct BoxText {
     pub place: u64,
     pub offsets: Vec<Int>,
@@ -27,21 +27,21 @@ pub struct BoxText {
 }
 
 /// The statement of a shape.
-#[derive(Debug, Drop)]
+#[derive(Drop)]
 pub struct ShapeText {
     pub name: PlacedName,
     pub boxes: Vec<BoxText>,
 }
 
 /// An attribute of an object.
-#[derive(Debug, Drop)]
+#[derive(Drop)]
 pub struct AttributeText {
     pub name: PlacedName,
     pub value: Int,
 }
 
 /// The statement of an object.
-#[derive(Debug, Drop)]
+#[derive(Drop)]
 pub struct ObjectText {
     pub name: PlacedName,
     pub shapes: Vec<PlacedName>,
@@ -50,35 +50,35 @@ pub struct ObjectText {
 }
 
 /// The statement of the search order, with the place of its word.
-#[derive(Debug, Drop)]
+#[derive(Drop)]
 pub struct OrderText {
     pub place: u64,
     pub names: Vec<PlacedName>,
 }
 
 /// From which end the values of a coordinate are tried.
-#[derive(Clone, Copy, Debug, PartialEq, Eq)]
+#[derive(Clone, Copy)]
 pub enum Side {
     Low,
     High,
 }
 
 /// A side, with its place.
-#[derive(Clone, Copy, Debug)]
+#[derive(Clone, Copy)]
 pub struct SideText {
     pub place: u64,
     pub side: Side,
 }
 
 /// The statement of the sides, with the place of its word.
-#[derive(Debug, Drop)]
+#[derive(Drop)]
 pub struct SidesText {
     pub place: u64,
     pub sides: Vec<SideText>,
 }
 
 /// What a parameter of a macro stands for.
-#[derive(Clone, Copy, Debug, PartialEq, Eq)]
+#[derive(Clone, Copy)]
 pub enum ParamKind {
     Int,
     Object,
@@ -86,21 +86,21 @@ pub enum ParamKind {
 }
 
 /// A parameter of a macro.
-#[derive(Debug, Drop)]
+#[derive(Drop)]
 pub struct ParamText {
     pub name: PlacedName,
     pub kind: ParamKind,
 }
 
 /// What a macro stands for.
-#[derive(Debug, Drop)]
+#[derive(Drop)]
 pub enum MacroBody {
     Means(Formula),
     Is(Expr),
 }
 
 /// The statement of a macro.
-#[derive(Debug, Drop)]
+#[derive(Drop)]
 pub struct MacroText {
     pub name: PlacedName,
     pub params: Vec<ParamText>,
@@ -108,7 +108,7 @@ pub struct MacroText {
 }
 
 /// What a rule asks for.
-#[derive(Debug, Drop)]
+#[derive(Drop)]
 pub enum RuleBody {
     Apart,
     Within(Vec<RangeText>),
@@ -116,14 +116,14 @@ pub enum RuleBody {
 }
 
 /// The statement of a rule.
-#[derive(Debug, Drop)]
+#[derive(Drop)]
 pub struct RuleText {
     pub name: PlacedName,
     pub body: RuleBody,
 }
 
 /// A statement.
-#[derive(Debug, Drop)]
+#[derive(Drop)]
 pub enum Statement {
     Shape(ShapeText),
     Object(ObjectText),
@@ -134,7 +134,7 @@ pub enum Statement {
 }
 
 /// All that a text says: its version, the number of its dimensions, and its statements.
-#[derive(Debug, Drop)]
+#[derive(Drop)]
 pub struct ProblemText {
     pub version: Int,
     pub dims: Int,

@@ -11,7 +11,7 @@ ghost use Rattle.rule_expand.specs.Expansion.{as_expr, expansions_of, expr_expan
 ghost use Rattle.rule_expand.specs.Counts.{expr_nodes, expr_depth, sum_nodes, sum_depth, sums_nodes, sums_depth, product_nodes, product_depth, products_nodes, products_depth};
 ghost use Rattle.rule_expand.specs.Limits.{GivesExpr, IsLimitFault, SumMade, SumsMade, ProductMade, ProductsMade};
 ghost use Rattle.rule_expand.specs.ScopeView.{scope_view};
-ghost use Rattle.rule_expand.specs.Table.{AreTables};
+ghost use Rattle.rule_expand.specs.Table.{IsSource};
 
 use crate::handed::handed_index;
 use crate::limits::ExpandFault;
@@ -21,32 +21,28 @@ use crate::make::{
 };
 use crate::plain::{PlainExpr, PlainProd, PlainSum};
 use crate::scope::{Found, Scope, look_up, value_macro};
-use crate::table::Tables;
+use crate::table::Source;
 use geo_tokens::name::Name;
-use problem_data::problem::Problem;
 use rule_names::table::position_of;
 use rule_syntax::tree::{Argument, Expr, PlacedName, ProdStep, SumStep};
-use std::alloc::Global;
 
 /// A field of what a name stands for.
 fn expand_field(
-    alloc: Global,
-    problem: &Problem,
-    tables: &Tables,
+    source: &Source,
     of: &Name,
     name: &Name,
     scope: &Scope,
     room: &mut u32,
     deep: u32,
 ) -> Result<PlainExpr, ExpandFault>
-    requires { AreTables problem.now tables.now }
+    requires { IsSource source.now }
     ensures { GivesExpr
         (field_of
-        (meant_by problem.now of.now
-        (scope_view problem.now scope.now)) name.now) room.old deep room.new result }
+        (meant_by source.now.problem.now of.now
+        (scope_view source.now.problem.now scope.now)) name.now) room.old deep room.new result }
 {
-    match look_up(problem, tables, scope, of) {
-        Found::Subject(subject) => field(alloc, subject, name, room, deep),
+    match look_up(source, scope, of) {
+        Found::Subject(subject) => field(source.alloc, subject, name, room, deep),
         Found::Argument(_e, _caller, _in_sight) => number(0, room, deep),
         Found::Nothing => number(0, room, deep),
     }
@@ -54,16 +50,15 @@ fn expand_field(
 
 /// The number of the shape of this name.
 fn expand_shape(
-    problem: &Problem,
-    tables: &Tables,
+    source: &Source,
     name: &Name,
     room: &mut u32,
     deep: u32,
 ) -> Result<PlainExpr, ExpandFault>
-    requires { AreTables problem.now tables.now }
-    ensures { GivesExpr (shape_expr problem.now name.now) room.old deep room.new result }
+    requires { IsSource source.now }
+    ensures { GivesExpr (shape_expr source.now.problem.now name.now) room.old deep room.new result }
 {
-    match position_of(&tables.names.shapes, name.as_bytes()) {
+    match position_of(&source.names.shapes, name.as_bytes()) {
         Some(position) => shape_number(position, room, deep),
         None => number(0, room, deep),
     }
@@ -72,44 +67,36 @@ fn expand_shape(
 /// An expression without its macros, where the first macros are in sight, within the room for nodes and the depth.
 #[cycle(expand)]
 pub fn expand_expr(
-    alloc: Global,
-    problem: &Problem,
-    tables: &Tables,
+    source: &Source,
     in_sight: usize,
     e: &Expr,
     scope: &Scope,
     room: &mut u32,
     deep: u32,
 ) -> Result<PlainExpr, ExpandFault>
-    requires { AreTables problem.now tables.now }
+    requires { IsSource source.now }
     ensures { GivesExpr
-        (expr_expanded (expansions_of problem.now in_sight) problem.now (expr_view e.now)
-        (scope_view problem.now scope.now)) room.old deep room.new result }
+        (expr_expanded (expansions_of source.now.problem.now in_sight) source.now.problem.now (expr_view e.now)
+        (scope_view source.now.problem.now scope.now)) room.old deep room.new result }
 {
     match e {
         Expr::Num(_place, n) => number(*n, room, deep),
         Expr::Field(of, _dot, name) => expand_field(
-            alloc, problem, tables, &of.name, &name.name, &*scope, room, deep,
+            source, &of.name, &name.name, &*scope, room, deep,
         ),
-        Expr::Param(a) => expand_param(alloc, problem, tables, &a.name, &*scope, room, deep),
-        Expr::ShapeNum(_place, a) => expand_shape(problem, tables, &a.name, room, deep),
-        Expr::Neg(_place, e) => expand_negative(
-            alloc, problem, tables, in_sight, e, &*scope, room, deep,
-        ),
+        Expr::Param(a) => expand_param(source, &a.name, &*scope, room, deep),
+        Expr::ShapeNum(_place, a) => expand_shape(source, &a.name, room, deep),
+        Expr::Neg(_place, e) => expand_negative(source, in_sight, e, &*scope, room, deep),
         Expr::Sum(_place, first, steps) => expand_sum(
-            alloc, problem, tables, in_sight, first, steps, &*scope, room, deep,
+            source, in_sight, first, steps, &*scope, room, deep,
         ),
         Expr::Prod(_place, first, steps) => expand_product(
-            alloc, problem, tables, in_sight, first, steps, &*scope, room, deep,
+            source, in_sight, first, steps, &*scope, room, deep,
         ),
-        Expr::Min(_place, a, b) => expand_least(
-            alloc, problem, tables, in_sight, a, b, &*scope, room, deep,
-        ),
-        Expr::Max(_place, a, b) => expand_greatest(
-            alloc, problem, tables, in_sight, a, b, &*scope, room, deep,
-        ),
+        Expr::Min(_place, a, b) => expand_least(source, in_sight, a, b, &*scope, room, deep),
+        Expr::Max(_place, a, b) => expand_greatest(source, in_sight, a, b, &*scope, room, deep),
         Expr::CallValue(_place, m, args) => expand_call(
-            alloc, problem, tables, in_sight, m, args, &*scope, room, deep,
+            source, in_sight, m, args, &*scope, room, deep,
         ),
     }
 }
@@ -117,22 +104,20 @@ pub fn expand_expr(
 /// What a bare name becomes as a number.
 #[cycle(expand)]
 fn expand_param(
-    alloc: Global,
-    problem: &Problem,
-    tables: &Tables,
+    source: &Source,
     name: &Name,
     scope: &Scope,
     room: &mut u32,
     deep: u32,
 ) -> Result<PlainExpr, ExpandFault>
-    requires { AreTables problem.now tables.now }
+    requires { IsSource source.now }
     ensures { GivesExpr
-        (as_expr (meant_by problem.now name.now
-        (scope_view problem.now scope.now))) room.old deep room.new result }
+        (as_expr (meant_by source.now.problem.now name.now
+        (scope_view source.now.problem.now scope.now))) room.old deep room.new result }
 {
-    match look_up(problem, tables, &*scope, name) {
+    match look_up(source, &*scope, name) {
         Found::Argument(e, caller, in_sight) => expand_expr(
-            alloc, problem, tables, in_sight, e, caller, room, deep,
+            source, in_sight, e, caller, room, deep,
         ),
         Found::Subject(_subject) => number(0, room, deep),
         Found::Nothing => number(0, room, deep),
@@ -141,33 +126,29 @@ fn expand_param(
 
 #[cycle(expand)]
 fn expand_negative(
-    alloc: Global,
-    problem: &Problem,
-    tables: &Tables,
+    source: &Source,
     in_sight: usize,
     e: &Expr,
     scope: &Scope,
     room: &mut u32,
     deep: u32,
 ) -> Result<PlainExpr, ExpandFault>
-    requires { AreTables problem.now tables.now }
+    requires { IsSource source.now }
     ensures { GivesExpr
         (plain.negative
-        (expr_expanded (expansions_of problem.now in_sight) problem.now (expr_view e.now)
-        (scope_view problem.now scope.now))) room.old deep room.new result }
+        (expr_expanded (expansions_of source.now.problem.now in_sight) source.now.problem.now (expr_view e.now)
+        (scope_view source.now.problem.now scope.now))) room.old deep room.new result }
 {
     if !take_node(room, deep) {
         return Err(ExpandFault::TooLarge);
     }
-    let inner = expand_expr(alloc, problem, tables, in_sight, e, &*scope, room, deep - 1)?;
-    negative(alloc, inner)
+    let inner = expand_expr(source, in_sight, e, &*scope, room, deep - 1)?;
+    negative(source.alloc, inner)
 }
 
 #[cycle(expand)]
 fn expand_least(
-    alloc: Global,
-    problem: &Problem,
-    tables: &Tables,
+    source: &Source,
     in_sight: usize,
     a: &Expr,
     b: &Expr,
@@ -175,26 +156,24 @@ fn expand_least(
     room: &mut u32,
     deep: u32,
 ) -> Result<PlainExpr, ExpandFault>
-    requires { AreTables problem.now tables.now }
-    ensures { let x = expansions_of problem.now in_sight in
-        let sub = scope_view problem.now scope.now in
+    requires { IsSource source.now }
+    ensures { let x = expansions_of source.now.problem.now in_sight in
+        let sub = scope_view source.now.problem.now scope.now in
         GivesExpr
-        (plain.least (expr_expanded x problem.now (expr_view a.now) sub)
-        (expr_expanded x problem.now (expr_view b.now) sub)) room.old deep room.new result }
+        (plain.least (expr_expanded x source.now.problem.now (expr_view a.now) sub)
+        (expr_expanded x source.now.problem.now (expr_view b.now) sub)) room.old deep room.new result }
 {
     if !take_node(room, deep) {
         return Err(ExpandFault::TooLarge);
     }
-    let left = expand_expr(alloc, problem, tables, in_sight, a, &*scope, room, deep - 1)?;
-    let right = expand_expr(alloc, problem, tables, in_sight, b, &*scope, room, deep - 1)?;
-    least(alloc, left, right)
+    let left = expand_expr(source, in_sight, a, &*scope, room, deep - 1)?;
+    let right = expand_expr(source, in_sight, b, &*scope, room, deep - 1)?;
+    least(source.alloc, left, right)
 }
 
 #[cycle(expand)]
 fn expand_greatest(
-    alloc: Global,
-    problem: &Problem,
-    tables: &Tables,
+    source: &Source,
     in_sight: usize,
     a: &Expr,
     b: &Expr,
@@ -202,25 +181,23 @@ fn expand_greatest(
     room: &mut u32,
     deep: u32,
 ) -> Result<PlainExpr, ExpandFault>
-    requires { AreTables problem.now tables.now }
-    ensures { let x = expansions_of problem.now in_sight in
-        let sub = scope_view problem.now scope.now in
-        GivesExpr (plain.greatest (expr_expanded x problem.now (expr_view a.now) sub)
-        (expr_expanded x problem.now (expr_view b.now) sub)) room.old deep room.new result }
+    requires { IsSource source.now }
+    ensures { let x = expansions_of source.now.problem.now in_sight in
+        let sub = scope_view source.now.problem.now scope.now in
+        GivesExpr (plain.greatest (expr_expanded x source.now.problem.now (expr_view a.now) sub)
+        (expr_expanded x source.now.problem.now (expr_view b.now) sub)) room.old deep room.new result }
 {
     if !take_node(room, deep) {
         return Err(ExpandFault::TooLarge);
     }
-    let left = expand_expr(alloc, problem, tables, in_sight, a, &*scope, room, deep - 1)?;
-    let right = expand_expr(alloc, problem, tables, in_sight, b, &*scope, room, deep - 1)?;
-    greatest(alloc, left, right)
+    let left = expand_expr(source, in_sight, a, &*scope, room, deep - 1)?;
+    let right = expand_expr(source, in_sight, b, &*scope, room, deep - 1)?;
+    greatest(source.alloc, left, right)
 }
 
 #[cycle(expand)]
 fn expand_sum(
-    alloc: Global,
-    problem: &Problem,
-    tables: &Tables,
+    source: &Source,
     in_sight: usize,
     first: &Expr,
     steps: &[SumStep],
@@ -228,59 +205,39 @@ fn expand_sum(
     room: &mut u32,
     deep: u32,
 ) -> Result<PlainExpr, ExpandFault>
-    requires { AreTables problem.now tables.now }
-    ensures { let x = expansions_of problem.now in_sight in
-        let sub = scope_view problem.now scope.now in
-        GivesExpr (plain.sum (expr_expanded x problem.now (expr_view first.now) sub)
-        (sums_expanded x problem.now
+    requires { IsSource source.now }
+    ensures { let x = expansions_of source.now.problem.now in_sight in
+        let sub = scope_view source.now.problem.now scope.now in
+        GivesExpr (plain.sum (expr_expanded x source.now.problem.now (expr_view first.now) sub)
+        (sums_expanded x source.now.problem.now
         (tree.sums (map sum_view steps.now)) sub)) room.old deep room.new result }
 {
     if !take_node(room, deep) {
         return Err(ExpandFault::TooLarge);
     }
-    let start = expand_expr(
-        alloc,
-        problem,
-        tables,
-        in_sight,
-        first,
-        &*scope,
-        room,
-        deep - 1,
-    )?;
-    let others = expand_sum_steps(
-        alloc,
-        problem,
-        tables,
-        in_sight,
-        steps,
-        &*scope,
-        room,
-        deep - 1,
-    )?;
-    sum(alloc, start, others)
+    let start = expand_expr(source, in_sight, first, &*scope, room, deep - 1)?;
+    let others = expand_sum_steps(source, in_sight, steps, &*scope, room, deep - 1)?;
+    sum(source.alloc, start, others)
 }
 
 #[cycle(expand)]
 fn expand_sum_steps(
-    alloc: Global,
-    problem: &Problem,
-    tables: &Tables,
+    source: &Source,
     in_sight: usize,
     steps: &[SumStep],
     scope: &Scope,
     room: &mut u32,
     deep: u32,
 ) -> Result<Vec<PlainSum>, ExpandFault>
-    requires { AreTables problem.now tables.now }
-    ensures { let t = sums_expanded (expansions_of problem.now in_sight) problem.now
-        (tree.sums (map sum_view steps.now)) (scope_view problem.now scope.now) in
+    requires { IsSource source.now }
+    ensures { let t = sums_expanded (expansions_of source.now.problem.now in_sight) source.now.problem.now
+        (tree.sums (map sum_view steps.now)) (scope_view source.now.problem.now scope.now) in
         MatchResult result (λ v. SumsMade t room.old deep room.new v.items)
         (λ f. IsLimitFault (sums_nodes t) (sums_depth t) room.old deep f) }
 {
-    let mut made = Vec::new(alloc);
+    let mut made = Vec::new(source.alloc);
     for step in steps {
-        let one = expand_sum_step(alloc, problem, tables, in_sight, step, &*scope, room, deep)?;
+        let one = expand_sum_step(source, in_sight, step, &*scope, room, deep)?;
         add_sum(&mut made, one)?;
     }
     Ok(made)
@@ -288,36 +245,32 @@ fn expand_sum_steps(
 
 #[cycle(expand)]
 fn expand_sum_step(
-    alloc: Global,
-    problem: &Problem,
-    tables: &Tables,
+    source: &Source,
     in_sight: usize,
     step: &SumStep,
     scope: &Scope,
     room: &mut u32,
     deep: u32,
 ) -> Result<PlainSum, ExpandFault>
-    requires { AreTables problem.now tables.now }
-    ensures { let t = sum_expanded (expansions_of problem.now in_sight) problem.now
-        (sum_view step.now) (scope_view problem.now scope.now) in
+    requires { IsSource source.now }
+    ensures { let t = sum_expanded (expansions_of source.now.problem.now in_sight) source.now.problem.now
+        (sum_view step.now) (scope_view source.now.problem.now scope.now) in
         MatchResult result (λ s. SumMade t room.old deep room.new s)
         (λ f. IsLimitFault (sum_nodes t) (sum_depth t) room.old deep f) }
 {
     match step {
         SumStep::Plus(e) => Ok(PlainSum::Plus(expand_expr(
-            alloc, problem, tables, in_sight, e, &*scope, room, deep,
+            source, in_sight, e, &*scope, room, deep,
         )?)),
         SumStep::Minus(e) => Ok(PlainSum::Minus(expand_expr(
-            alloc, problem, tables, in_sight, e, &*scope, room, deep,
+            source, in_sight, e, &*scope, room, deep,
         )?)),
     }
 }
 
 #[cycle(expand)]
 fn expand_product(
-    alloc: Global,
-    problem: &Problem,
-    tables: &Tables,
+    source: &Source,
     in_sight: usize,
     first: &Expr,
     steps: &[ProdStep],
@@ -325,59 +278,39 @@ fn expand_product(
     room: &mut u32,
     deep: u32,
 ) -> Result<PlainExpr, ExpandFault>
-    requires { AreTables problem.now tables.now }
-    ensures { let x = expansions_of problem.now in_sight in
-        let sub = scope_view problem.now scope.now in
-        GivesExpr (plain.product (expr_expanded x problem.now (expr_view first.now) sub)
-        (products_expanded x problem.now
+    requires { IsSource source.now }
+    ensures { let x = expansions_of source.now.problem.now in_sight in
+        let sub = scope_view source.now.problem.now scope.now in
+        GivesExpr (plain.product (expr_expanded x source.now.problem.now (expr_view first.now) sub)
+        (products_expanded x source.now.problem.now
         (tree.products (map product_view steps.now)) sub)) room.old deep room.new result }
 {
     if !take_node(room, deep) {
         return Err(ExpandFault::TooLarge);
     }
-    let start = expand_expr(
-        alloc,
-        problem,
-        tables,
-        in_sight,
-        first,
-        &*scope,
-        room,
-        deep - 1,
-    )?;
-    let others = expand_product_steps(
-        alloc,
-        problem,
-        tables,
-        in_sight,
-        steps,
-        &*scope,
-        room,
-        deep - 1,
-    )?;
-    product(alloc, start, others)
+    let start = expand_expr(source, in_sight, first, &*scope, room, deep - 1)?;
+    let others = expand_product_steps(source, in_sight, steps, &*scope, room, deep - 1)?;
+    product(source.alloc, start, others)
 }
 
 #[cycle(expand)]
 fn expand_product_steps(
-    alloc: Global,
-    problem: &Problem,
-    tables: &Tables,
+    source: &Source,
     in_sight: usize,
     steps: &[ProdStep],
     scope: &Scope,
     room: &mut u32,
     deep: u32,
 ) -> Result<Vec<PlainProd>, ExpandFault>
-    requires { AreTables problem.now tables.now }
-    ensures { let t = products_expanded (expansions_of problem.now in_sight) problem.now
-        (tree.products (map product_view steps.now)) (scope_view problem.now scope.now) in
+    requires { IsSource source.now }
+    ensures { let t = products_expanded (expansions_of source.now.problem.now in_sight) source.now.problem.now
+        (tree.products (map product_view steps.now)) (scope_view source.now.problem.now scope.now) in
         MatchResult result (λ v. ProductsMade t room.old deep room.new v.items)
         (λ f. IsLimitFault (products_nodes t) (products_depth t) room.old deep f) }
 {
-    let mut made = Vec::new(alloc);
+    let mut made = Vec::new(source.alloc);
     for step in steps {
-        let one = expand_product_step(alloc, problem, tables, in_sight, step, &*scope, room, deep)?;
+        let one = expand_product_step(source, in_sight, step, &*scope, room, deep)?;
         add_product(&mut made, one)?;
     }
     Ok(made)
@@ -385,24 +318,22 @@ fn expand_product_steps(
 
 #[cycle(expand)]
 fn expand_product_step(
-    alloc: Global,
-    problem: &Problem,
-    tables: &Tables,
+    source: &Source,
     in_sight: usize,
     step: &ProdStep,
     scope: &Scope,
     room: &mut u32,
     deep: u32,
 ) -> Result<PlainProd, ExpandFault>
-    requires { AreTables problem.now tables.now }
-    ensures { let t = product_expanded (expansions_of problem.now in_sight) problem.now
-        (product_view step.now) (scope_view problem.now scope.now) in
+    requires { IsSource source.now }
+    ensures { let t = product_expanded (expansions_of source.now.problem.now in_sight) source.now.problem.now
+        (product_view step.now) (scope_view source.now.problem.now scope.now) in
         MatchResult result (λ s. ProductMade t room.old deep room.new s)
         (λ f. IsLimitFault (product_nodes t) (product_depth t) room.old deep f) }
 {
     match step {
         ProdStep::Times(e) => Ok(PlainProd::Times(expand_expr(
-            alloc, problem, tables, in_sight, e, &*scope, room, deep,
+            source, in_sight, e, &*scope, room, deep,
         )?)),
         ProdStep::Div(_place, n) => Ok(PlainProd::Div(*n)),
         ProdStep::Mod(_place, n) => Ok(PlainProd::Mod(*n)),
@@ -412,9 +343,7 @@ fn expand_product_step(
 /// The body of a macro, where its parameters stand for the arguments.
 #[cycle(expand)]
 fn expand_call(
-    alloc: Global,
-    problem: &Problem,
-    tables: &Tables,
+    source: &Source,
     in_sight: usize,
     m: &PlacedName,
     args: &[Argument],
@@ -422,29 +351,18 @@ fn expand_call(
     room: &mut u32,
     deep: u32,
 ) -> Result<PlainExpr, ExpandFault>
-    requires { AreTables problem.now tables.now }
-    ensures { let x = expansions_of problem.now in_sight in
+    requires { IsSource source.now }
+    ensures { let x = expansions_of source.now.problem.now in_sight in
         GivesExpr
-        (expr_expanded x problem.now
+        (expr_expanded x source.now.problem.now
         (tree.value_call 0 m.now (tree.arguments (map argument_view args.now)))
-        (scope_view problem.now scope.now)) room.old deep room.new result }
+        (scope_view source.now.problem.now scope.now)) room.old deep room.new result }
 {
-    match value_macro(problem, tables, in_sight, &m.name) {
-        Some(called) => match handed_index(tables.handed.as_slice(), called.index, args.len()) {
-            Some(i) => expand_expr(
-                alloc,
-                problem,
-                tables,
-                in_sight,
-                &args[i].value,
-                &*scope,
-                room,
-                deep,
-            ),
+    match value_macro(source, in_sight, &m.name) {
+        Some(called) => match handed_index(source.handed.as_slice(), called.index, args.len()) {
+            Some(i) => expand_expr(source, in_sight, &args[i].value, &*scope, room, deep),
             None => expand_expr(
-                alloc,
-                problem,
-                tables,
+                source,
                 called.index,
                 called.body,
                 &Scope::Parameters(called.params, args, &*scope, in_sight),

@@ -11,7 +11,7 @@ ghost use Rattle.rule_expand.specs.Expansion.{binders, coll_expanded, expansions
 ghost use Rattle.rule_expand.specs.Counts.{nodes, depth, nodes_in, depth_in};
 ghost use Rattle.rule_expand.specs.Limits.{FormulasMade, GivesFormula, GivesUnbound, IsLimitFault, PairMade};
 ghost use Rattle.rule_expand.specs.ScopeView.{scope_view};
-ghost use Rattle.rule_expand.specs.Table.{AreTables};
+ghost use Rattle.rule_expand.specs.Table.{IsSource};
 
 use crate::expressions::expand_expr;
 use crate::limits::ExpandFault;
@@ -21,11 +21,10 @@ use crate::make::{
 };
 use crate::plain::{PlainColl, PlainFormula};
 use crate::scope::{Found, Scope, formula_macro, look_up};
-use crate::table::Tables;
-use problem_data::problem::Problem;
+use crate::table::Source;
 use rule_names::table::position_of;
 use rule_syntax::tree::{Argument, Coll, Expr, Formula, PlacedName, QuantKind, Rel};
-use std::alloc::{AllocError, Global};
+use std::alloc::AllocError;
 
 /// The position that was found more, where one was.
 fn add_found(positions: &mut Vec<usize>, found: Option<usize>) -> Result<(), AllocError>
@@ -41,57 +40,46 @@ fn add_found(positions: &mut Vec<usize>, found: Option<usize>) -> Result<(), All
 }
 
 /// The listed objects, by their positions.
-fn positions_listed(
-    alloc: Global,
-    problem: &Problem,
-    tables: &Tables,
-    names: &[PlacedName],
-) -> Result<Vec<usize>, AllocError>
-    requires { AreTables problem.now tables.now }
-    ensures { IfOk result (λ v. v.items ≡ listed_objects problem.now names.now) }
+fn positions_listed(source: &Source, names: &[PlacedName]) -> Result<Vec<usize>, AllocError>
+    requires { IsSource source.now }
+    ensures { IfOk result (λ v. v.items ≡ listed_objects source.now.problem.now names.now) }
 {
-    let mut positions = Vec::new(alloc);
+    let mut positions = Vec::new(source.alloc);
     for name in names {
         add_found(
             &mut positions,
-            position_of(&tables.names.objects, name.name.as_bytes()),
+            position_of(&source.names.objects, name.name.as_bytes()),
         )?;
     }
     Ok(positions)
 }
 
 /// What a quantifier's variable ranges over.
-fn expand_coll(
-    alloc: Global,
-    problem: &Problem,
-    tables: &Tables,
-    coll: &Coll,
-    scope: &Scope,
-) -> Result<PlainColl, ExpandFault>
-    requires { AreTables problem.now tables.now }
+fn expand_coll(source: &Source, coll: &Coll, scope: &Scope) -> Result<PlainColl, ExpandFault>
+    requires { IsSource source.now }
     ensures { MatchResult result (λ q. plain_coll_view q
-        ≡ coll_expanded problem.now (coll_view coll.now) (scope_view problem.now scope.now))
+        ≡ coll_expanded source.now.problem.now (coll_view coll.now) (scope_view source.now.problem.now scope.now))
         (λ e. e ≡ ExpandFault.Memory) }
 {
     match coll {
         Coll::Objects => Ok(PlainColl::Objects),
-        Coll::Listed(names) => match positions_listed(alloc, problem, tables, names) {
+        Coll::Listed(names) => match positions_listed(source, names) {
             Ok(positions) => Ok(PlainColl::Listed(positions)),
             Err(_e) => Err(ExpandFault::Memory),
         },
-        Coll::BoxesOf(a) => match look_up(problem, tables, scope, &a.name) {
+        Coll::BoxesOf(a) => match look_up(source, scope, &a.name) {
             Found::Subject(subject) => Ok(PlainColl::BoxesOf(subject)),
-            Found::Argument(_e, _caller, _in_sight) => Ok(PlainColl::Listed(Vec::new(alloc))),
-            Found::Nothing => Ok(PlainColl::Listed(Vec::new(alloc))),
+            Found::Argument(_e, _caller, _in_sight) => Ok(PlainColl::Listed(Vec::new(
+                source.alloc,
+            ))),
+            Found::Nothing => Ok(PlainColl::Listed(Vec::new(source.alloc))),
         },
     }
 }
 
 /// A comparison without its macros.
 fn expand_comparison(
-    alloc: Global,
-    problem: &Problem,
-    tables: &Tables,
+    source: &Source,
     in_sight: usize,
     a: &Expr,
     rel: Rel,
@@ -100,17 +88,17 @@ fn expand_comparison(
     room: &mut u32,
     deep: u32,
 ) -> Result<PlainFormula, ExpandFault>
-    requires { AreTables problem.now tables.now }
-    ensures { let x = expansions_of problem.now in_sight in
-        let sub = scope_view problem.now scope.now in
-        GivesUnbound (plain.comparison (expr_expanded x problem.now (expr_view a.now) sub) rel
-        (expr_expanded x problem.now (expr_view b.now) sub)) room.old deep room.new result }
+    requires { IsSource source.now }
+    ensures { let x = expansions_of source.now.problem.now in_sight in
+        let sub = scope_view source.now.problem.now scope.now in
+        GivesUnbound (plain.comparison (expr_expanded x source.now.problem.now (expr_view a.now) sub) rel
+        (expr_expanded x source.now.problem.now (expr_view b.now) sub)) room.old deep room.new result }
 {
     if !take_node(room, deep) {
         return Err(ExpandFault::TooLarge);
     }
-    let left = expand_expr(alloc, problem, tables, in_sight, a, scope, room, deep - 1)?;
-    let right = expand_expr(alloc, problem, tables, in_sight, b, scope, room, deep - 1)?;
+    let left = expand_expr(source, in_sight, a, scope, room, deep - 1)?;
+    let right = expand_expr(source, in_sight, b, scope, room, deep - 1)?;
     Ok(comparison(left, rel, right))
 }
 
@@ -118,9 +106,7 @@ fn expand_comparison(
 /// the room for nodes and the depth.
 #[cycle(formula)]
 pub fn expand_formula(
-    alloc: Global,
-    problem: &Problem,
-    tables: &Tables,
+    source: &Source,
     in_sight: usize,
     f: &Formula,
     scope: &Scope,
@@ -128,11 +114,11 @@ pub fn expand_formula(
     room: &mut u32,
     deep: u32,
 ) -> Result<PlainFormula, ExpandFault>
-    requires known { AreTables problem.now tables.now }
+    requires known { IsSource source.now }
     requires numbers { next.old + room.old < 2 ^ 32 }
-    ensures { GivesFormula (formula_expanded (expansions_of problem.now in_sight) problem.now
+    ensures { GivesFormula (formula_expanded (expansions_of source.now.problem.now in_sight) source.now.problem.now
         (formula_view f.now)
-        (scope_view problem.now scope.now) next.old) next.old room.old deep next.new room.new
+        (scope_view source.now.problem.now scope.now) next.old) next.old room.old deep next.new room.new
         result }
 {
     match f {
@@ -148,38 +134,30 @@ pub fn expand_formula(
             }
             Ok(PlainFormula::False)
         }
-        Formula::Not(_place, f) => expand_negation(
-            alloc, problem, tables, in_sight, f, &*scope, next, room, deep,
-        ),
-        Formula::And(_place, fs) => expand_all_of(
-            alloc, problem, tables, in_sight, fs, &*scope, next, room, deep,
-        ),
-        Formula::Or(_place, fs) => expand_any_of(
-            alloc, problem, tables, in_sight, fs, &*scope, next, room, deep,
-        ),
+        Formula::Not(_place, f) => expand_negation(source, in_sight, f, &*scope, next, room, deep),
+        Formula::And(_place, fs) => expand_all_of(source, in_sight, fs, &*scope, next, room, deep),
+        Formula::Or(_place, fs) => expand_any_of(source, in_sight, fs, &*scope, next, room, deep),
         Formula::Implies(_place, f, g) => expand_implication(
-            alloc, problem, tables, in_sight, f, g, &*scope, next, room, deep,
+            source, in_sight, f, g, &*scope, next, room, deep,
         ),
         Formula::Iff(_place, f, g) => expand_equivalence(
-            alloc, problem, tables, in_sight, f, g, &*scope, next, room, deep,
+            source, in_sight, f, g, &*scope, next, room, deep,
         ),
         Formula::Compare(_place, a, rel, b) => expand_comparison(
-            alloc, problem, tables, in_sight, a, *rel, b, &*scope, room, deep,
+            source, in_sight, a, *rel, b, &*scope, room, deep,
         ),
         Formula::Quant(_place, kind, v, coll, f) => expand_quantified(
-            alloc, problem, tables, in_sight, *kind, v, coll, f, &*scope, next, room, deep,
+            source, in_sight, *kind, v, coll, f, &*scope, next, room, deep,
         ),
         Formula::Call(_place, m, args) => expand_formula_call(
-            alloc, problem, tables, in_sight, m, args, &*scope, next, room, deep,
+            source, in_sight, m, args, &*scope, next, room, deep,
         ),
     }
 }
 
 #[cycle(formula)]
 fn expand_negation(
-    alloc: Global,
-    problem: &Problem,
-    tables: &Tables,
+    source: &Source,
     in_sight: usize,
     f: &Formula,
     scope: &Scope,
@@ -187,36 +165,24 @@ fn expand_negation(
     room: &mut u32,
     deep: u32,
 ) -> Result<PlainFormula, ExpandFault>
-    requires known { AreTables problem.now tables.now }
+    requires known { IsSource source.now }
     requires numbers { next.old + room.old < 2 ^ 32 }
     ensures { GivesFormula
-        (plain.negation (formula_expanded (expansions_of problem.now in_sight) problem.now
+        (plain.negation (formula_expanded (expansions_of source.now.problem.now in_sight) source.now.problem.now
         (formula_view f.now)
-        (scope_view problem.now scope.now) next.old)) next.old room.old deep next.new room.new
+        (scope_view source.now.problem.now scope.now) next.old)) next.old room.old deep next.new room.new
         result }
 {
     if !take_node(room, deep) {
         return Err(ExpandFault::TooLarge);
     }
-    let inner = expand_formula(
-        alloc,
-        problem,
-        tables,
-        in_sight,
-        f,
-        &*scope,
-        next,
-        room,
-        deep - 1,
-    )?;
-    negation(alloc, inner)
+    let inner = expand_formula(source, in_sight, f, &*scope, next, room, deep - 1)?;
+    negation(source.alloc, inner)
 }
 
 #[cycle(formula)]
 fn expand_all_of(
-    alloc: Global,
-    problem: &Problem,
-    tables: &Tables,
+    source: &Source,
     in_sight: usize,
     fs: &[Formula],
     scope: &Scope,
@@ -224,36 +190,24 @@ fn expand_all_of(
     room: &mut u32,
     deep: u32,
 ) -> Result<PlainFormula, ExpandFault>
-    requires known { AreTables problem.now tables.now }
+    requires known { IsSource source.now }
     requires numbers { next.old + room.old < 2 ^ 32 }
     ensures { GivesFormula
-        (plain.all_of (formulas_expanded (expansions_of problem.now in_sight) problem.now
+        (plain.all_of (formulas_expanded (expansions_of source.now.problem.now in_sight) source.now.problem.now
         (tree.formulas (map formula_view fs.now))
-        (scope_view problem.now scope.now) next.old)) next.old room.old deep next.new room.new
+        (scope_view source.now.problem.now scope.now) next.old)) next.old room.old deep next.new room.new
         result }
 {
     if !take_node(room, deep) {
         return Err(ExpandFault::TooLarge);
     }
-    let parts = expand_each(
-        alloc,
-        problem,
-        tables,
-        in_sight,
-        fs,
-        &*scope,
-        next,
-        room,
-        deep - 1,
-    )?;
+    let parts = expand_each(source, in_sight, fs, &*scope, next, room, deep - 1)?;
     Ok(all_of(parts))
 }
 
 #[cycle(formula)]
 fn expand_any_of(
-    alloc: Global,
-    problem: &Problem,
-    tables: &Tables,
+    source: &Source,
     in_sight: usize,
     fs: &[Formula],
     scope: &Scope,
@@ -261,37 +215,25 @@ fn expand_any_of(
     room: &mut u32,
     deep: u32,
 ) -> Result<PlainFormula, ExpandFault>
-    requires known { AreTables problem.now tables.now }
+    requires known { IsSource source.now }
     requires numbers { next.old + room.old < 2 ^ 32 }
     ensures { GivesFormula
-        (plain.any_of (formulas_expanded (expansions_of problem.now in_sight) problem.now
+        (plain.any_of (formulas_expanded (expansions_of source.now.problem.now in_sight) source.now.problem.now
         (tree.formulas (map formula_view fs.now))
-        (scope_view problem.now scope.now) next.old)) next.old room.old deep next.new room.new
+        (scope_view source.now.problem.now scope.now) next.old)) next.old room.old deep next.new room.new
         result }
 {
     if !take_node(room, deep) {
         return Err(ExpandFault::TooLarge);
     }
-    let parts = expand_each(
-        alloc,
-        problem,
-        tables,
-        in_sight,
-        fs,
-        &*scope,
-        next,
-        room,
-        deep - 1,
-    )?;
+    let parts = expand_each(source, in_sight, fs, &*scope, next, room, deep - 1)?;
     Ok(any_of(parts))
 }
 
 /// The same of each of several.
 #[cycle(formula)]
 fn expand_each(
-    alloc: Global,
-    problem: &Problem,
-    tables: &Tables,
+    source: &Source,
     in_sight: usize,
     fs: &[Formula],
     scope: &Scope,
@@ -299,18 +241,16 @@ fn expand_each(
     room: &mut u32,
     deep: u32,
 ) -> Result<Vec<PlainFormula>, ExpandFault>
-    requires known { AreTables problem.now tables.now }
+    requires known { IsSource source.now }
     requires numbers { next.old + room.old < 2 ^ 32 }
-    ensures { let t = formulas_expanded (expansions_of problem.now in_sight) problem.now
-        (tree.formulas (map formula_view fs.now)) (scope_view problem.now scope.now) next.old in
+    ensures { let t = formulas_expanded (expansions_of source.now.problem.now in_sight) source.now.problem.now
+        (tree.formulas (map formula_view fs.now)) (scope_view source.now.problem.now scope.now) next.old in
         MatchResult result (λ v. FormulasMade t next.old room.old deep next.new room.new v.items)
         (λ e. IsLimitFault (nodes_in t) (depth_in t) room.old deep e) }
 {
-    let mut parts = Vec::new(alloc);
+    let mut parts = Vec::new(source.alloc);
     for f in fs {
-        let part = expand_formula(
-            alloc, problem, tables, in_sight, f, &*scope, next, room, deep,
-        )?;
+        let part = expand_formula(source, in_sight, f, &*scope, next, room, deep)?;
         add_formula(&mut parts, part)?;
     }
     Ok(parts)
@@ -319,9 +259,7 @@ fn expand_each(
 /// Two formulas, one behind the other.
 #[cycle(formula)]
 fn expand_pair(
-    alloc: Global,
-    problem: &Problem,
-    tables: &Tables,
+    source: &Source,
     in_sight: usize,
     f: &Formula,
     g: &Formula,
@@ -330,29 +268,23 @@ fn expand_pair(
     room: &mut u32,
     deep: u32,
 ) -> Result<(PlainFormula, PlainFormula), ExpandFault>
-    requires known { AreTables problem.now tables.now }
+    requires known { IsSource source.now }
     requires numbers { next.old + room.old < 2 ^ 32 }
-    ensures { let x = expansions_of problem.now in_sight in
-        let sub = scope_view problem.now scope.now in
-        let t = formula_expanded x problem.now (formula_view f.now) sub next.old in
-        let u = formula_expanded x problem.now (formula_view g.now) sub (next.old + binders t) in
+    ensures { let x = expansions_of source.now.problem.now in_sight in
+        let sub = scope_view source.now.problem.now scope.now in
+        let t = formula_expanded x source.now.problem.now (formula_view f.now) sub next.old in
+        let u = formula_expanded x source.now.problem.now (formula_view g.now) sub (next.old + binders t) in
         MatchResult result (λ r. PairMade t u next.old room.old deep next.new room.new r.0 r.1)
         (λ e. IsLimitFault (nodes t + nodes u) (max (depth t) (depth u)) room.old deep e) }
 {
-    let left = expand_formula(
-        alloc, problem, tables, in_sight, f, &*scope, next, room, deep,
-    )?;
-    let right = expand_formula(
-        alloc, problem, tables, in_sight, g, &*scope, next, room, deep,
-    )?;
+    let left = expand_formula(source, in_sight, f, &*scope, next, room, deep)?;
+    let right = expand_formula(source, in_sight, g, &*scope, next, room, deep)?;
     Ok((left, right))
 }
 
 #[cycle(formula)]
 fn expand_implication(
-    alloc: Global,
-    problem: &Problem,
-    tables: &Tables,
+    source: &Source,
     in_sight: usize,
     f: &Formula,
     g: &Formula,
@@ -361,39 +293,26 @@ fn expand_implication(
     room: &mut u32,
     deep: u32,
 ) -> Result<PlainFormula, ExpandFault>
-    requires known { AreTables problem.now tables.now }
+    requires known { IsSource source.now }
     requires numbers { next.old + room.old < 2 ^ 32 }
-    ensures { let x = expansions_of problem.now in_sight in
-        let sub = scope_view problem.now scope.now in
-        let t = formula_expanded x problem.now (formula_view f.now) sub next.old in
+    ensures { let x = expansions_of source.now.problem.now in_sight in
+        let sub = scope_view source.now.problem.now scope.now in
+        let t = formula_expanded x source.now.problem.now (formula_view f.now) sub next.old in
         GivesFormula
         (plain.implication t
-        (formula_expanded x problem.now (formula_view g.now) sub
+        (formula_expanded x source.now.problem.now (formula_view g.now) sub
         (next.old + binders t))) next.old room.old deep next.new room.new result }
 {
     if !take_node(room, deep) {
         return Err(ExpandFault::TooLarge);
     }
-    let pair = expand_pair(
-        alloc,
-        problem,
-        tables,
-        in_sight,
-        f,
-        g,
-        &*scope,
-        next,
-        room,
-        deep - 1,
-    )?;
-    implication(alloc, pair.0, pair.1)
+    let pair = expand_pair(source, in_sight, f, g, &*scope, next, room, deep - 1)?;
+    implication(source.alloc, pair.0, pair.1)
 }
 
 #[cycle(formula)]
 fn expand_equivalence(
-    alloc: Global,
-    problem: &Problem,
-    tables: &Tables,
+    source: &Source,
     in_sight: usize,
     f: &Formula,
     g: &Formula,
@@ -402,40 +321,27 @@ fn expand_equivalence(
     room: &mut u32,
     deep: u32,
 ) -> Result<PlainFormula, ExpandFault>
-    requires known { AreTables problem.now tables.now }
+    requires known { IsSource source.now }
     requires numbers { next.old + room.old < 2 ^ 32 }
-    ensures { let x = expansions_of problem.now in_sight in
-        let sub = scope_view problem.now scope.now in
-        let t = formula_expanded x problem.now (formula_view f.now) sub next.old in
+    ensures { let x = expansions_of source.now.problem.now in_sight in
+        let sub = scope_view source.now.problem.now scope.now in
+        let t = formula_expanded x source.now.problem.now (formula_view f.now) sub next.old in
         GivesFormula
         (plain.equivalence t
-        (formula_expanded x problem.now (formula_view g.now) sub
+        (formula_expanded x source.now.problem.now (formula_view g.now) sub
         (next.old + binders t))) next.old room.old deep next.new room.new result }
 {
     if !take_node(room, deep) {
         return Err(ExpandFault::TooLarge);
     }
-    let pair = expand_pair(
-        alloc,
-        problem,
-        tables,
-        in_sight,
-        f,
-        g,
-        &*scope,
-        next,
-        room,
-        deep - 1,
-    )?;
-    equivalence(alloc, pair.0, pair.1)
+    let pair = expand_pair(source, in_sight, f, g, &*scope, next, room, deep - 1)?;
+    equivalence(source.alloc, pair.0, pair.1)
 }
 
 /// A quantifier, whose variable takes the next number.
 #[cycle(formula)]
 fn expand_quantified(
-    alloc: Global,
-    problem: &Problem,
-    tables: &Tables,
+    source: &Source,
     in_sight: usize,
     kind: QuantKind,
     v: &PlacedName,
@@ -446,23 +352,21 @@ fn expand_quantified(
     room: &mut u32,
     deep: u32,
 ) -> Result<PlainFormula, ExpandFault>
-    requires known { AreTables problem.now tables.now }
+    requires known { IsSource source.now }
     requires numbers { next.old + room.old < 2 ^ 32 }
-    ensures { GivesFormula (formula_expanded (expansions_of problem.now in_sight) problem.now
+    ensures { GivesFormula (formula_expanded (expansions_of source.now.problem.now in_sight) source.now.problem.now
         (tree.quantified 0 kind v.now (coll_view coll.now) (formula_view f.now))
-        (scope_view problem.now scope.now) next.old) next.old room.old deep next.new room.new
+        (scope_view source.now.problem.now scope.now) next.old) next.old room.old deep next.new room.new
         result }
 {
     if !take_node(room, deep) {
         return Err(ExpandFault::TooLarge);
     }
-    let elements = expand_coll(alloc, problem, tables, coll, &*scope)?;
+    let elements = expand_coll(source, coll, &*scope)?;
     let own = *next;
     *next += 1;
     let body = expand_formula(
-        alloc,
-        problem,
-        tables,
+        source,
         in_sight,
         f,
         &Scope::Variable(&*scope, &v.name, own),
@@ -470,15 +374,13 @@ fn expand_quantified(
         room,
         deep - 1,
     )?;
-    quantified(alloc, kind, own, elements, body)
+    quantified(source.alloc, kind, own, elements, body)
 }
 
 /// The body of a macro, where its parameters stand for the arguments.
 #[cycle(formula)]
 fn expand_formula_call(
-    alloc: Global,
-    problem: &Problem,
-    tables: &Tables,
+    source: &Source,
     in_sight: usize,
     m: &PlacedName,
     args: &[Argument],
@@ -487,18 +389,16 @@ fn expand_formula_call(
     room: &mut u32,
     deep: u32,
 ) -> Result<PlainFormula, ExpandFault>
-    requires known { AreTables problem.now tables.now }
+    requires known { IsSource source.now }
     requires numbers { next.old + room.old < 2 ^ 32 }
-    ensures { GivesFormula (formula_expanded (expansions_of problem.now in_sight) problem.now
+    ensures { GivesFormula (formula_expanded (expansions_of source.now.problem.now in_sight) source.now.problem.now
         (tree.formula_call 0 m.now (tree.arguments (map argument_view args.now)))
-        (scope_view problem.now scope.now) next.old) next.old room.old deep next.new room.new
+        (scope_view source.now.problem.now scope.now) next.old) next.old room.old deep next.new room.new
         result }
 {
-    match formula_macro(problem, tables, in_sight, &m.name) {
+    match formula_macro(source, in_sight, &m.name) {
         Some(called) => expand_formula(
-            alloc,
-            problem,
-            tables,
+            source,
             called.index,
             called.body,
             &Scope::Parameters(called.params, args, &*scope, in_sight),

@@ -4,14 +4,14 @@ ghost use Rattle.std.specs.Prelude.{◌≡◌, None, false, IfOk, List, MatchRes
 ghost use Rattle.problem_data.specs.Tuple.{Tuple};
 ghost use Rattle.problem_data.specs.ProblemView.{range_data};
 ghost use Rattle.rule_expand.specs.Rules.{AllAskSame, IsFaultOf, IsRuleFault, expansion_fault, first_place, is_large, large_fault, multiplies_coordinates, plain_rule_data, rule_expanded, rules_expanded};
-ghost use Rattle.rule_expand.specs.Table.{AreTables};
+ghost use Rattle.rule_expand.specs.Table.{IsSource};
 
 use crate::degree::multiplies;
 use crate::formulas::expand_formula;
 use crate::limits::ExpandFault;
 use crate::plain::{PlainBody, PlainRule};
 use crate::scope::Scope;
-use crate::table::{Tables, tables_of};
+use crate::table::{Source, source_of};
 use geo_tokens::fault::{FaultWord, TextFault};
 use problem_data::problem::{Demand, Problem, RangeDef, RuleDef};
 use std::alloc::{AllocError, Global};
@@ -30,16 +30,11 @@ fn copied(alloc: Global, ranges: &[RangeDef]) -> Result<Vec<RangeDef>, AllocErro
 }
 
 /// A rule without its macros.
-fn expand_rule(
-    alloc: Global,
-    problem: &Problem,
-    tables: &Tables,
-    rule: &RuleDef,
-) -> Result<PlainRule, ExpandFault>
-    requires { AreTables problem.now tables.now }
-    ensures { MatchResult result (λ r. (plain_rule_data r ≡ rule_expanded problem.now rule.now)
-        × (is_large (rule_expanded problem.now rule.now).demand ≡ false))
-        (λ e. IsRuleFault (rule_expanded problem.now rule.now) e) }
+fn expand_rule(source: &Source, rule: &RuleDef) -> Result<PlainRule, ExpandFault>
+    requires { IsSource source.now }
+    ensures { MatchResult result (λ r. (plain_rule_data r ≡ rule_expanded source.now.problem.now rule.now)
+        × (is_large (rule_expanded source.now.problem.now rule.now).demand ≡ false))
+        (λ e. IsRuleFault (rule_expanded source.now.problem.now rule.now) e) }
 {
     let place = rule.place();
     match rule.demand() {
@@ -49,16 +44,14 @@ fn expand_rule(
         }),
         Demand::Within(ranges) => Ok(PlainRule {
             place,
-            body: PlainBody::Within(copied(alloc, ranges)?),
+            body: PlainBody::Within(copied(source.alloc, ranges)?),
         }),
         Demand::Plain(f) => {
             let mut next = 0;
             let mut room = MAX_NODES;
-            let in_sight = problem.macros().len();
+            let in_sight = source.problem.macros().len();
             let made = expand_formula(
-                alloc,
-                problem,
-                tables,
+                source,
                 in_sight,
                 f,
                 &Scope::Objects,
@@ -83,20 +76,16 @@ fn add_rule(rules: &mut Vec<PlainRule>, rule: PlainRule) -> Result<(), AllocErro
 }
 
 /// The rules in file order, each without its macros, where none is too large.
-fn expand_rules(
-    alloc: Global,
-    problem: &Problem,
-    tables: &Tables,
-) -> Result<Vec<PlainRule>, TextFault>
-    requires { AreTables problem.now tables.now }
-    ensures { MatchResult result (λ v. (map plain_rule_data v.items ≡ rules_expanded problem.now)
-        × (first_place is_large (rules_expanded problem.now) ≡ None))
-        (λ e. IsFaultOf (large_fault problem.now) e) }
+fn expand_rules(source: &Source) -> Result<Vec<PlainRule>, TextFault>
+    requires { IsSource source.now }
+    ensures { MatchResult result (λ v. (map plain_rule_data v.items ≡ rules_expanded source.now.problem.now)
+        × (first_place is_large (rules_expanded source.now.problem.now) ≡ None))
+        (λ e. IsFaultOf (large_fault source.now.problem.now) e) }
 {
-    let rules = problem.rules();
-    let mut made = Vec::new(alloc);
+    let rules = source.problem.rules();
+    let mut made = Vec::new(source.alloc);
     for rule in rules {
-        match expand_rule(alloc, problem, tables, rule) {
+        match expand_rule(source, rule) {
             Ok(one) => {
                 if let Err(_e) = add_rule(&mut made, one) {
                     return Err(TextFault::Memory);
@@ -147,8 +136,8 @@ pub fn expand_all(alloc: Global, problem: &Problem) -> Result<Vec<PlainRule>, Te
     ensures meaning { IfOk result (λ v. (t : Tuple)
         → AllAskSame problem.now t problem.now.rules (map plain_rule_data v.items)) }
 {
-    let tables = tables_of(alloc, problem)?;
-    let rules = expand_rules(alloc, problem, &tables)?;
+    let source = source_of(alloc, problem)?;
+    let rules = expand_rules(&source)?;
     match first_product(rules.as_slice()) {
         Some(place) => Err(TextFault::At(place, FaultWord::Product)),
         None => Ok(rules),

@@ -11,12 +11,12 @@ ghost use Rattle.problem_data.specs.Problem.{ProblemData};
 ghost use Rattle.rule_expand.specs.Costs.{cost_by, cost, costs, price_all, CostEnv, MacroCosts};
 ghost use Rattle.rule_expand.specs.Expansion.{meant_by, meant, arguments_meant, give_all, Subst, Expansions};
 ghost use Rattle.rule_expand.specs.ScopeView.{scope_view, prices, found_meant, found_cost, IsNoName, IsValueMacro, IsNoValueMacro, IsFormulaMacro, IsNoFormulaMacro};
-ghost use Rattle.rule_expand.specs.Table.{AreTables};
+ghost use Rattle.rule_expand.specs.Table.{IsSource};
 
 use crate::plain::Subject;
-use crate::table::Tables;
+use crate::table::Source;
 use geo_tokens::name::Name;
-use problem_data::problem::{ParamDef, Problem};
+use problem_data::problem::ParamDef;
 use problem_data::tree::MacroBody;
 use rule_names::table::position_of;
 use rule_syntax::tree::{Argument, Expr, Formula, PlacedName};
@@ -65,12 +65,12 @@ pub fn parameter_index(params: &[ParamDef], count: usize, name: &Name) -> Option
 }
 
 /// The object of this name.
-fn object_named<'a>(problem: &Problem, tables: &Tables, name: &Name) -> Found<'a>
-    requires { AreTables problem.now tables.now }
-    ensures meant { found_meant problem.now result ≡ meant_by problem.now name.now [] }
-    ensures cost { found_cost problem.now result ≡ 0 }
+fn object_named<'a>(source: &Source, name: &Name) -> Found<'a>
+    requires { IsSource source.now }
+    ensures meant { found_meant source.now.problem.now result ≡ meant_by source.now.problem.now name.now [] }
+    ensures cost { found_cost source.now.problem.now result ≡ 0 }
 {
-    match position_of(&tables.names.objects, name.as_bytes()) {
+    match position_of(&source.names.objects, name.as_bytes()) {
         Some(o) => Found::Subject(Subject::Object(o)),
         None => Found::Nothing,
     }
@@ -114,52 +114,42 @@ fn bare_name(e: &Expr) -> Option<&PlacedName>
 }
 
 /// What a name stands for.
-pub fn look_up<'a>(
-    problem: &Problem,
-    tables: &Tables,
-    scope: &'a Scope<'a>,
-    name: &Name,
-) -> Found<'a>
-    requires { AreTables problem.now tables.now }
-    ensures meant { found_meant problem.now result
-        ≡ meant_by problem.now name.now (scope_view problem.now scope.now) }
-    ensures cost { found_cost problem.now result ≤ cost_by name.now (prices problem.now scope.now) }
+pub fn look_up<'a>(source: &Source, scope: &'a Scope<'a>, name: &Name) -> Found<'a>
+    requires { IsSource source.now }
+    ensures meant { found_meant source.now.problem.now result
+        ≡ meant_by source.now.problem.now name.now (scope_view source.now.problem.now scope.now) }
+    ensures cost { found_cost source.now.problem.now result ≤ cost_by name.now (prices source.now.problem.now scope.now) }
 {
     match scope {
-        Scope::Objects => object_named(problem, tables, name),
+        Scope::Objects => object_named(source, name),
         Scope::Variable(outer, own, number) => {
             if *name == **own {
                 Found::Subject(Subject::Variable(*number))
             } else {
-                look_up(problem, tables, outer, name)
+                look_up(source, outer, name)
             }
         }
         Scope::Parameters(params, args, caller, in_sight) => {
             match bound_argument(params, args, name) {
                 Some(argument) => match bare_name(argument) {
-                    Some(passed) => look_up(problem, tables, caller, &passed.name),
+                    Some(passed) => look_up(source, caller, &passed.name),
                     None => Found::Argument(argument, caller, *in_sight),
                 },
-                None => object_named(problem, tables, name),
+                None => object_named(source, name),
             }
         }
     }
 }
 
 /// The macro that a call of this name means, where it gives a number and stands among the first macros.
-pub fn value_macro<'a>(
-    problem: &'a Problem,
-    tables: &Tables,
-    in_sight: usize,
-    name: &Name,
-) -> Option<ValueMacro<'a>>
-    requires { AreTables problem.now tables.now }
-    ensures { MatchOption result (IsNoValueMacro problem.now in_sight name.now)
-        (λ v. IsValueMacro problem.now in_sight name.now v) }
+pub fn value_macro<'a>(source: &Source<'a>, in_sight: usize, name: &Name) -> Option<ValueMacro<'a>>
+    requires { IsSource source.now }
+    ensures { MatchOption result (IsNoValueMacro source.now.problem.now in_sight name.now)
+        (λ v. IsValueMacro source.now.problem.now in_sight name.now v) }
 {
-    match position_of(&tables.names.macros, name.as_bytes()) {
+    match position_of(&source.names.macros, name.as_bytes()) {
         Some(index) => {
-            let macros = problem.macros();
+            let macros = source.problem.macros();
             if index >= in_sight {
                 return None;
             }
@@ -179,18 +169,17 @@ pub fn value_macro<'a>(
 
 /// The macro that a call of this name means, where it gives a formula and stands among the first macros.
 pub fn formula_macro<'a>(
-    problem: &'a Problem,
-    tables: &Tables,
+    source: &Source<'a>,
     in_sight: usize,
     name: &Name,
 ) -> Option<FormulaMacro<'a>>
-    requires { AreTables problem.now tables.now }
-    ensures { MatchOption result (IsNoFormulaMacro problem.now in_sight name.now)
-        (λ v. IsFormulaMacro problem.now in_sight name.now v) }
+    requires { IsSource source.now }
+    ensures { MatchOption result (IsNoFormulaMacro source.now.problem.now in_sight name.now)
+        (λ v. IsFormulaMacro source.now.problem.now in_sight name.now v) }
 {
-    match position_of(&tables.names.macros, name.as_bytes()) {
+    match position_of(&source.names.macros, name.as_bytes()) {
         Some(index) => {
-            let macros = problem.macros();
+            let macros = source.problem.macros();
             if index >= in_sight {
                 return None;
             }

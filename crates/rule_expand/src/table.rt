@@ -1,25 +1,33 @@
 //! What is looked up while rules are expanded.
 
-ghost use Rattle.std.specs.Prelude.{IfOk};
-ghost use Rattle.rule_expand.specs.Table.{AreTables};
+ghost use Rattle.std.specs.Prelude.{◌≡◌, IfOk};
+ghost use Rattle.rule_expand.specs.Table.{IsSource};
 
 use crate::handed::handed_parameters;
 use problem_data::problem::Problem;
-use rule_names::table::{Tables as NameTables, tables_of as name_tables};
+use rule_names::table::{Tables, tables_of};
 use std::alloc::{AllocError, Global};
 
-/// The tables of a problem's names, and for each macro the parameter that it hands on.
+/// A problem whose rules are expanded, with the tables of its names and for each macro the parameter that it hands on, and where
+/// memory is taken from.
 #[derive(Drop)]
-pub struct Tables<'a> {
-    pub names: NameTables<'a>,
+pub struct Source<'a> {
+    pub alloc: Global,
+    pub problem: &'a Problem,
+    pub names: Tables<'a>,
     pub handed: Vec<Option<usize>>,
 }
 
-/// The tables of a problem.
-pub fn tables_of(alloc: Global, problem: &Problem) -> Result<Tables<'_>, AllocError>
-    ensures { IfOk result (λ t. AreTables problem.now t) }
+/// A problem with its tables.
+pub fn source_of(alloc: Global, problem: &Problem) -> Result<Source<'_>, AllocError>
+    ensures { IfOk result (λ s. IsSource s × (s.problem.now ≡ problem.now)) }
 {
-    let names = name_tables(alloc, problem)?;
+    let names = tables_of(alloc, problem)?;
     let handed = handed_parameters(alloc, problem, &names.macros)?;
-    Ok(Tables { names, handed })
+    Ok(Source {
+        alloc,
+        problem,
+        names,
+        handed,
+    })
 }

@@ -5,7 +5,7 @@ ghost use Rattle.rule_syntax.specs.Tree.{sums, products, arguments};
 ghost use Rattle.rule_syntax.specs.View.{expr_view, sum_view, product_view, argument_view};
 ghost use Rattle.rule_names.specs.Mistakes.{first_of};
 ghost use Rattle.rule_names.specs.ScopeView.{scope_view};
-ghost use Rattle.rule_names.specs.Names.{expr_mistakes, sum_mistakes, sums_mistakes, product_mistakes, products_mistakes, argument_mistakes, arguments_mistakes};
+ghost use Rattle.rule_names.specs.Names.{call_mistakes, expr_mistakes, sum_mistakes, sums_mistakes, product_mistakes, products_mistakes, argument_mistakes, arguments_mistakes};
 ghost use Rattle.rule_names.specs.Table.{AreTables};
 
 use crate::calls::call_mistake;
@@ -14,7 +14,7 @@ use crate::mistake::{Mistake, earlier};
 use crate::scope::Scope;
 use crate::table::Tables;
 use problem_data::problem::Problem;
-use rule_syntax::tree::{Argument, Expr, ProdStep, SumStep};
+use rule_syntax::tree::{Argument, Expr, PlacedName, ProdStep, SumStep};
 
 /// The first mistake of an expression, in a statement whose name stands at this place. A bare name may be of any kind where `any_kind` says
 /// so, as an argument may; else it is a number.
@@ -59,11 +59,35 @@ pub fn expr_mistake(
         }
         Expr::CallValue(place, name, given) => {
             let list = given.as_slice();
-            let call = call_mistake(problem, tables, statement, scope, false, *place, name, list);
-            let inside = arguments_mistake(problem, tables, statement, scope, list);
-            earlier(call, inside)
+            whole_call_mistake(problem, tables, statement, scope, false, *place, name, list)
         }
     }
+}
+
+/// The first mistake of a call, its arguments' own mistakes among them.
+#[cycle(expressions)]
+pub fn whole_call_mistake(
+    problem: &Problem,
+    tables: &Tables,
+    statement: u64,
+    scope: &Scope,
+    formula: bool,
+    place: u64,
+    name: &PlacedName,
+    given: &[Argument],
+) -> Option<Mistake>
+    requires { AreTables problem.now tables.now }
+    ensures { result ≡ first_of
+        (call_mistakes problem.now statement (scope_view scope.now) formula place name.now
+        (arguments (map argument_view given.now))
+        ++ arguments_mistakes problem.now statement (scope_view scope.now)
+        (arguments (map argument_view given.now))) }
+{
+    let call = call_mistake(
+        problem, tables, statement, scope, formula, place, name, given,
+    );
+    let inside = arguments_mistake(problem, tables, statement, scope, given);
+    earlier(call, inside)
 }
 
 #[cycle(expressions)]
@@ -145,7 +169,7 @@ fn product_mistake(
 
 /// The first mistake inside the arguments of a call.
 #[cycle(expressions)]
-pub fn arguments_mistake(
+fn arguments_mistake(
     problem: &Problem,
     tables: &Tables,
     statement: u64,

@@ -10,9 +10,8 @@ ghost use Rattle.rule_names.specs.ScopeView.{scope_view};
 ghost use Rattle.rule_names.specs.Names.{expr_mistakes, coll_mistakes, element_kind, formula_mistakes, formulas_mistakes};
 ghost use Rattle.rule_names.specs.Table.{AreTables};
 
-use crate::calls::call_mistake;
 use crate::collections::{coll_mistake, element_kind};
-use crate::expressions::{arguments_mistake, expr_mistake};
+use crate::expressions::{expr_mistake, whole_call_mistake};
 use crate::mistake::{Mistake, earlier};
 use crate::scope::Scope;
 use crate::table::Tables;
@@ -82,14 +81,16 @@ pub fn formula_mistake(
         Formula::Quant(_place, _kind, v, coll, body) => {
             quantified_mistake(alloc, problem, tables, statement, &*scope, v, coll, body)
         }
-        Formula::Call(place, name, given) => {
-            let list = given.as_slice();
-            let call = call_mistake(
-                problem, tables, statement, &*scope, true, *place, name, list,
-            );
-            let inside = arguments_mistake(problem, tables, statement, &*scope, list);
-            Ok(earlier(call, inside))
-        }
+        Formula::Call(place, name, given) => Ok(whole_call_mistake(
+            problem,
+            tables,
+            statement,
+            &*scope,
+            true,
+            *place,
+            name,
+            given.as_slice(),
+        )),
     }
 }
 

@@ -6,7 +6,9 @@ ghost use Rattle.rule_syntax.specs.View.{expr_view, sum_view, product_view, argu
 ghost use Rattle.rule_print.specs.Canonical.{name, symbol, word, written};
 ghost use Rattle.rule_print.specs.Spelled.{expr_level, expr_spelling, sum_spelling, sum_step_spelling, product_spelling, product_step_spelling, in_list, arguments_spelling};
 
-use crate::lexeme::{Lexeme, push, push_if, push_name, push_symbol, push_word};
+use crate::lexeme::{
+    Lexeme, name_lexeme, number_lexeme, push, push_all, push_if, push_name, push_symbol,
+};
 use crate::rank::ExprRank;
 use geo_tokens::token::{Keyword, Sym};
 use rule_syntax::tree::{Argument, Expr, PlacedName, ProdStep, SumStep};
@@ -23,17 +25,14 @@ pub fn spell_expression<'a>(
         ++ expr_spelling rank (expr_view e.now)) }
 {
     match e {
-        Expr::Num(_, n) => push(Lexeme::Number(u64::from(*n)), into),
+        Expr::Num(_, n) => push(number_lexeme(*n), into),
         Expr::Field(object, _, field) => spell_field(object, field, into),
         Expr::Param(name) => push_name(name, into),
-        Expr::ShapeNum(_, name) => {
-            push_word(Keyword::Shape, into)?;
-            push_name(name, into)
-        }
-        Expr::Neg(_, inner) => {
-            push_symbol(Sym::Minus, into)?;
-            spell_expression(inner, ExprRank::Factor, into)
-        }
+        Expr::ShapeNum(_, name) => push_all(
+            &[Lexeme::Word(Keyword::Shape), name_lexeme(name)],
+            into,
+        ),
+        Expr::Neg(_, inner) => spell_behind(Sym::Minus, inner, ExprRank::Factor, into),
         Expr::Sum(_, first, steps) => {
             spell_opened(first, ExprRank::Sum, ExprRank::Product, rank, into)?;
             spell_sum_steps(steps.as_slice(), into)?;
@@ -52,11 +51,12 @@ pub fn spell_expression<'a>(
             spell_first(Keyword::Max, first, into)?;
             spell_second(second, into)
         }
-        Expr::CallValue(_, name, arguments) => {
-            push_symbol(Sym::Dollar, into)?;
-            push_name(name, into)?;
-            spell_arguments(arguments.as_slice(), into)
-        }
+        Expr::CallValue(_, name, arguments) => spell_call(
+            Sym::Dollar,
+            name,
+            arguments.as_slice(),
+            into,
+        ),
     }
 }
 
@@ -69,9 +69,29 @@ fn spell_field<'a>(
     ensures { IfOk result (λ _. map written into.new.items ≡ map written into.old.items
         ++ name object.now.name ∷ symbol Sym.Dot ∷ name field.now.name ∷ []) }
 {
-    push_name(object, into)?;
-    push_symbol(Sym::Dot, into)?;
-    push_name(field, into)
+    push_all(
+        &[
+            name_lexeme(object),
+            Lexeme::Symbol(Sym::Dot),
+            name_lexeme(field),
+        ],
+        into,
+    )
+}
+
+/// Spells a symbol, and behind it an expression where one of this rank may stand.
+#[cycle(spell)]
+fn spell_behind<'a>(
+    mark: Sym,
+    e: &'a Expr,
+    rank: ExprRank,
+    into: &mut Vec<Lexeme<'a>>,
+) -> Result<(), AllocError>
+    ensures { IfOk result (λ _. map written into.new.items ≡ map written into.old.items
+        ++ symbol mark ∷ expr_spelling rank (expr_view e.now)) }
+{
+    push_symbol(mark, into)?;
+    spell_expression(e, rank, into)
 }
 
 /// Spells a bracket, where an expression of the rank `own` needs one, and behind it its first part.
@@ -110,8 +130,7 @@ fn spell_first<'a>(
         ++ word mark ∷ symbol Sym.ParenOpen
         ∷ expr_spelling ExprRank.Sum (expr_view first.now)) }
 {
-    push_word(mark, into)?;
-    push_symbol(Sym::ParenOpen, into)?;
+    push_all(&[Lexeme::Word(mark), Lexeme::Symbol(Sym::ParenOpen)], into)?;
     spell_expression(first, ExprRank::Sum, into)
 }
 
@@ -125,6 +144,22 @@ fn spell_second<'a>(second: &'a Expr, into: &mut Vec<Lexeme<'a>>) -> Result<(), 
     push_symbol(Sym::Comma, into)?;
     spell_expression(second, ExprRank::Sum, into)?;
     push_symbol(Sym::ParenClose, into)
+}
+
+/// Spells a call of a macro behind this symbol.
+#[cycle(spell)]
+pub fn spell_call<'a>(
+    mark: Sym,
+    called: &'a PlacedName,
+    given: &'a [Argument],
+    into: &mut Vec<Lexeme<'a>>,
+) -> Result<(), AllocError>
+    ensures { IfOk result (λ _. map written into.new.items ≡ map written into.old.items
+        ++ symbol mark ∷ name called.now.name
+        ∷ in_list (arguments_spelling (arguments (map argument_view given.now)))) }
+{
+    push_all(&[Lexeme::Symbol(mark), name_lexeme(called)], into)?;
+    spell_arguments(given, into)
 }
 
 /// Spells the steps of a sum behind its first term.
@@ -145,14 +180,8 @@ fn spell_sum_step<'a>(step: &'a SumStep, into: &mut Vec<Lexeme<'a>>) -> Result<(
         ++ sum_step_spelling (sum_view step.now)) }
 {
     match step {
-        SumStep::Plus(term) => {
-            push_symbol(Sym::Plus, into)?;
-            spell_expression(term, ExprRank::Product, into)
-        }
-        SumStep::Minus(term) => {
-            push_symbol(Sym::Minus, into)?;
-            spell_expression(term, ExprRank::Product, into)
-        }
+        SumStep::Plus(term) => spell_behind(Sym::Plus, term, ExprRank::Product, into),
+        SumStep::Minus(term) => spell_behind(Sym::Minus, term, ExprRank::Product, into),
     }
 }
 
@@ -177,27 +206,15 @@ fn spell_product_step<'a>(step: &'a ProdStep, into: &mut Vec<Lexeme<'a>>) -> Res
         ++ product_step_spelling (product_view step.now)) }
 {
     match step {
-        ProdStep::Times(factor) => {
-            push_symbol(Sym::Star, into)?;
-            spell_expression(factor, ExprRank::Factor, into)
-        }
-        ProdStep::Div(_, n) => {
-            push_word(Keyword::Div, into)?;
-            push(Lexeme::Number(u64::from(*n)), into)
-        }
-        ProdStep::Mod(_, n) => {
-            push_word(Keyword::Mod, into)?;
-            push(Lexeme::Number(u64::from(*n)), into)
-        }
+        ProdStep::Times(factor) => spell_behind(Sym::Star, factor, ExprRank::Factor, into),
+        ProdStep::Div(_, n) => push_all(&[Lexeme::Word(Keyword::Div), number_lexeme(*n)], into),
+        ProdStep::Mod(_, n) => push_all(&[Lexeme::Word(Keyword::Mod), number_lexeme(*n)], into),
     }
 }
 
 /// Spells arguments in their brackets.
 #[cycle(spell)]
-pub fn spell_arguments<'a>(
-    given: &'a [Argument],
-    into: &mut Vec<Lexeme<'a>>,
-) -> Result<(), AllocError>
+fn spell_arguments<'a>(given: &'a [Argument], into: &mut Vec<Lexeme<'a>>) -> Result<(), AllocError>
     ensures { IfOk result (λ _. map written into.new.items ≡ map written into.old.items
         ++ in_list (arguments_spelling (arguments (map argument_view given.now)))) }
 {

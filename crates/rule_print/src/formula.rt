@@ -2,15 +2,17 @@
 
 ghost use Rattle.std.specs.Prelude.{◌≡◌, ◌++◌, ◌∷◌, [], IfOk, map, nat_lt, if◌then◌else◌};
 ghost use Rattle.rule_syntax.specs.Tree.{formulas};
-ghost use Rattle.rule_syntax.specs.View.{formula_view, coll_view};
+ghost use Rattle.rule_syntax.specs.View.{expr_view, formula_view, coll_view};
 ghost use Rattle.rule_print.specs.Canonical.{name, symbol, word, written};
-ghost use Rattle.rule_print.specs.Spelled.{formula_level, formula_spelling, in_brackets, quantifier_spelling, coll_spelling, names_spelling, rel_symbol, operands_spelling, mark_before};
+ghost use Rattle.rule_print.specs.Spelled.{expr_spelling, formula_level, formula_spelling, in_brackets, in_list, quantifier_spelling, coll_spelling, names_spelling, rel_symbol, operands_spelling, mark_before};
 
-use crate::expression::{spell_arguments, spell_expression};
-use crate::lexeme::{Lexeme, push, push_if, push_name, push_symbol, push_word};
+use crate::expression::{spell_call, spell_expression};
+use crate::lexeme::{
+    Lexeme, name_lexeme, number_lexeme, push_all, push_if, push_name, push_symbol, push_word,
+};
 use crate::rank::{ExprRank, FormulaRank};
 use geo_tokens::token::{Keyword, Sym};
-use rule_syntax::tree::{Coll, Formula, PlacedName, QuantKind, Rel};
+use rule_syntax::tree::{Coll, Expr, Formula, PlacedName, QuantKind, Rel};
 use std::alloc::AllocError;
 
 fn rel_symbol(rel: Rel) -> Sym
@@ -35,12 +37,10 @@ fn spell_quantifier<'a>(kind: QuantKind, into: &mut Vec<Lexeme<'a>>) -> Result<(
         QuantKind::ForAll => push_word(Keyword::ForAll, into),
         QuantKind::Exists => push_word(Keyword::Exists, into),
         QuantKind::AtLeast(n) => {
-            push_word(Keyword::AtLeast, into)?;
-            push(Lexeme::Number(u64::from(n)), into)
+            push_all(&[Lexeme::Word(Keyword::AtLeast), number_lexeme(n)], into)
         }
         QuantKind::AtMost(n) => {
-            push_word(Keyword::AtMost, into)?;
-            push(Lexeme::Number(u64::from(n)), into)
+            push_all(&[Lexeme::Word(Keyword::AtMost), number_lexeme(n)], into)
         }
     }
 }
@@ -59,23 +59,37 @@ fn spell_names<'a>(names: &'a [PlacedName], into: &mut Vec<Lexeme<'a>>) -> Resul
     Ok(())
 }
 
+/// Spells the listed objects.
+fn spell_listed<'a>(names: &'a [PlacedName], into: &mut Vec<Lexeme<'a>>) -> Result<(), AllocError>
+    ensures { IfOk result (λ _. map written into.new.items ≡ map written into.old.items
+        ++ word Keyword.Objects ∷ in_list (names_spelling names.now)) }
+{
+    push_all(
+        &[
+            Lexeme::Word(Keyword::Objects),
+            Lexeme::Symbol(Sym::ParenOpen),
+        ],
+        into,
+    )?;
+    spell_names(names, into)?;
+    push_symbol(Sym::ParenClose, into)
+}
+
 fn spell_collection<'a>(coll: &'a Coll, into: &mut Vec<Lexeme<'a>>) -> Result<(), AllocError>
     ensures { IfOk result (λ _. map written into.new.items ≡ map written into.old.items
         ++ coll_spelling (coll_view coll.now)) }
 {
     match coll {
         Coll::Objects => push_word(Keyword::Objects, into),
-        Coll::Listed(names) => {
-            push_word(Keyword::Objects, into)?;
-            push_symbol(Sym::ParenOpen, into)?;
-            spell_names(names.as_slice(), into)?;
-            push_symbol(Sym::ParenClose, into)
-        }
-        Coll::BoxesOf(name) => {
-            push_word(Keyword::Boxes, into)?;
-            push_word(Keyword::Of, into)?;
-            push_name(name, into)
-        }
+        Coll::Listed(names) => spell_listed(names.as_slice(), into),
+        Coll::BoxesOf(name) => push_all(
+            &[
+                Lexeme::Word(Keyword::Boxes),
+                Lexeme::Word(Keyword::Of),
+                name_lexeme(name),
+            ],
+            into,
+        ),
     }
 }
 
@@ -92,10 +106,7 @@ pub fn spell_formula<'a>(
     match f {
         Formula::True(_) => push_word(Keyword::True, into),
         Formula::False(_) => push_word(Keyword::False, into),
-        Formula::Not(_, inner) => {
-            push_word(Keyword::Not, into)?;
-            spell_formula(inner, FormulaRank::Unary, into)
-        }
+        Formula::Not(_, inner) => spell_behind(Keyword::Not, inner, FormulaRank::Unary, into),
         Formula::And(_, operands) => spell_joined(
             operands.as_slice(),
             Keyword::And,
@@ -136,20 +147,12 @@ pub fn spell_formula<'a>(
                 into,
             )
         }
-        Formula::Compare(_, left, rel, right) => {
-            spell_expression(left, ExprRank::Sum, into)?;
-            push_symbol(rel_symbol(*rel), into)?;
-            spell_expression(right, ExprRank::Sum, into)
-        }
+        Formula::Compare(_, left, rel, right) => spell_comparison(left, *rel, right, into),
         Formula::Quant(_, kind, variable, coll, body) => {
             spell_range(*kind, variable, coll, into)?;
             spell_formula(body, FormulaRank::Unary, into)
         }
-        Formula::Call(_, name, arguments) => {
-            push_symbol(Sym::At, into)?;
-            push_name(name, into)?;
-            spell_arguments(arguments.as_slice(), into)
-        }
+        Formula::Call(_, name, arguments) => spell_call(Sym::At, name, arguments.as_slice(), into),
     }
 }
 
@@ -165,8 +168,7 @@ fn spell_range<'a>(
         ∷ (coll_spelling (coll_view coll.now) ++ symbol Sym.Colon ∷ []))) }
 {
     spell_quantifier(kind, into)?;
-    push_name(variable, into)?;
-    push_word(Keyword::In, into)?;
+    push_all(&[name_lexeme(variable), Lexeme::Word(Keyword::In)], into)?;
     spell_collection(coll, into)?;
     push_symbol(Sym::Colon, into)
 }
@@ -190,6 +192,21 @@ fn spell_joined<'a>(
     push_if(in_brackets, Sym::BracketOpen, into)?;
     spell_operands(operands, mark, inner, into)?;
     push_if(in_brackets, Sym::BracketClose, into)
+}
+
+/// Spells a word, and behind it a formula where one of this rank may stand.
+#[cycle(spell_formula)]
+fn spell_behind<'a>(
+    mark: Keyword,
+    f: &'a Formula,
+    rank: FormulaRank,
+    into: &mut Vec<Lexeme<'a>>,
+) -> Result<(), AllocError>
+    ensures { IfOk result (λ _. map written into.new.items ≡ map written into.old.items
+        ++ word mark ∷ formula_spelling rank (formula_view f.now)) }
+{
+    push_word(mark, into)?;
+    spell_formula(f, rank, into)
 }
 
 /// Spells a bracket, where a formula of the rank `own` needs one, and behind it the first of its two operands.
@@ -228,6 +245,22 @@ fn spell_second<'a>(
     push_word(mark, into)?;
     spell_formula(second, inner, into)?;
     push_if(own.is_looser(rank), Sym::BracketClose, into)
+}
+
+/// Spells a comparison.
+fn spell_comparison<'a>(
+    left: &'a Expr,
+    rel: Rel,
+    right: &'a Expr,
+    into: &mut Vec<Lexeme<'a>>,
+) -> Result<(), AllocError>
+    ensures { IfOk result (λ _. map written into.new.items ≡ map written into.old.items
+        ++ expr_spelling ExprRank.Sum (expr_view left.now) ++ symbol (rel_symbol rel)
+        ∷ expr_spelling ExprRank.Sum (expr_view right.now)) }
+{
+    spell_expression(left, ExprRank::Sum, into)?;
+    push_symbol(rel_symbol(rel), into)?;
+    spell_expression(right, ExprRank::Sum, into)
 }
 
 /// A word, but in front of the first operand.

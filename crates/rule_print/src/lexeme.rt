@@ -1,7 +1,7 @@
 //! Lexemes, and which of them stand close to each other.
 
 ghost use Rattle.std.specs.Prelude.{◌≡◌, ◌++◌, ◌∷◌, [], IfOk, map, if◌then◌else◌};
-ghost use Rattle.rule_print.specs.Canonical.{written, name, word, symbol, spelling, opens, closes, is_called, is_open, is_dot, is_name, close};
+ghost use Rattle.rule_print.specs.Canonical.{written, name, number, word, symbol, spelling, opens, closes, is_called, is_open, is_dot, is_name, close};
 
 use geo_tokens::token::{Keyword, Sym, symbol_text, word_text};
 use itoa::Buffer;
@@ -121,6 +121,28 @@ pub fn push<'a>(lexeme: Lexeme<'a>, into: &mut Vec<Lexeme<'a>>) -> Result<(), Al
 {
     into.push(lexeme)?;
     Ok(())
+}
+
+/// Appends lexemes to a list.
+pub fn push_all<'a>(lexemes: &[Lexeme<'a>], into: &mut Vec<Lexeme<'a>>) -> Result<(), AllocError>
+    ensures { IfOk result (λ _. map written into.new.items ≡ map written into.old.items
+        ++ map written lexemes.now) }
+{
+    into.extend_from_slice(lexemes)
+}
+
+/// The lexeme of a name.
+pub fn name_lexeme<'a>(named: &'a PlacedName) -> Lexeme<'a>
+    ensures { written result ≡ name named.now.name }
+{
+    Lexeme::Name(named.name.as_bytes())
+}
+
+/// The lexeme of a number.
+pub fn number_lexeme<'a>(n: u32) -> Lexeme<'a>
+    ensures { written result ≡ number n }
+{
+    Lexeme::Number(u64::from(n))
 }
 
 /// Appends a symbol.

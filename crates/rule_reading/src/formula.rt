@@ -12,44 +12,28 @@ ghost use Rattle.rule_syntax.specs.Grammar.{rel_in, and_of, or_of, implication_o
 ghost use Rattle.rule_syntax.specs.Reading.{true_at, false_at, not_at, brackets_at, args_at, formula_call_at, quantified_at, comparison_at, unary_over_at, unary_at, and_unary_at, conjunction_at, or_conjunction_at, disjunction_at, behind_at, implication_at, formula_at, expr_at};
 ghost use Rattle.rule_syntax.specs.View.{argument_views, formula_view, formula_views, behind_view};
 
-use crate::quantifier::{begins_quantifier, collection, quantifier};
-use geo_tokens::stop::{Stop, next_is, one_of, start_of, token};
-use geo_tokens::token::{Keyword, Kind, Sym, Token, class_of};
+use crate::quantifier::{QUANTIFIERS, begins_quantifier, collection, quantifier};
+use geo_tokens::stop::{Stop, next_is, one_of, refusal, start_of, token};
+use geo_tokens::token::{Keyword, Kind, Sym, Token};
 use rule_syntax::expression::{arguments, expression};
 use rule_syntax::tree::{Argument, Formula, Rel};
 use rule_syntax::words::{placed_name, refused_arguments};
 use std::alloc::{AllocError, Global};
 
 /// A formula that would open a level too many at this token.
+#[tactic(auto, using(geo_tokens::proofs::Refused::refused_fails))]
 fn refused_formula(tokens: &[Token], kind: Kind) -> Result<(Formula, &[Token]), Stop<'_>>
     ensures { Gives formula_view result (cut_at (class_of kind ∷ []) tokens.now) }
 {
-    match tokens {
-        [first, rest @ ..] => {
-            if class_of(first.kind) == class_of(kind) {
-                Err(Stop::Deep(rest))
-            } else {
-                Err(Stop::Wrong(tokens))
-            }
-        }
-        [] => Err(Stop::Wrong(tokens)),
-    }
+    Err(refusal(tokens, &[kind]))
 }
 
 /// A quantifier where no level may be opened.
+#[tactic(auto, using(geo_tokens::proofs::Refused::refused_fails))]
 fn refused_quantifier(tokens: &[Token]) -> Result<(Formula, &[Token]), Stop<'_>>
     ensures { Gives formula_view result (cut_at quantifiers tokens.now) }
 {
-    match tokens {
-        [_, rest @ ..] => {
-            if begins_quantifier(tokens) {
-                Err(Stop::Deep(rest))
-            } else {
-                Err(Stop::Wrong(tokens))
-            }
-        }
-        [] => Err(Stop::Wrong(tokens)),
-    }
+    Err(refusal(tokens, &QUANTIFIERS))
 }
 
 /// The word `true`.

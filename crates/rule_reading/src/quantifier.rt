@@ -48,19 +48,19 @@ fn count(tokens: &[Token]) -> Result<((u64, QuantKind), &[Token]), Stop<'_>>
     Ok(((word.start, kind), rest))
 }
 
+/// The words that begin a quantifier.
+pub const QUANTIFIERS: [Kind; 4] = [
+    Kind::Word(Keyword::ForAll),
+    Kind::Word(Keyword::Exists),
+    Kind::Word(Keyword::AtLeast),
+    Kind::Word(Keyword::AtMost),
+];
+
 /// A quantifier begins here.
 pub fn begins_quantifier(tokens: &[Token]) -> bool
     ensures { result ≡ next_is quantifiers tokens.now }
 {
-    next_in(
-        tokens,
-        &[
-            Kind::Word(Keyword::ForAll),
-            Kind::Word(Keyword::Exists),
-            Kind::Word(Keyword::AtLeast),
-            Kind::Word(Keyword::AtMost),
-        ],
-    )
+    next_in(tokens, &QUANTIFIERS)
 }
 
 fn begins_each(tokens: &[Token]) -> bool

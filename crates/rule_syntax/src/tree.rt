@@ -5,7 +5,7 @@
 use geo_tokens::name::Name;
 
 /// A name, with the place where it stands.
-#[derive(Debug, Drop)]
+#[derive(Drop)]
 pub struct PlacedName {
     pub place: u64,
     pub name: Name,
@@ -13,7 +13,6 @@ pub struct PlacedName {
 
 /// An expression.
 #[cycle(expression)]
-#[derive(Debug)]
 pub enum Expr {
     /// A number.
     Num(u64, u32),
@@ -58,7 +57,7 @@ impl Drop for Expr {
 
 /// What is done with a term of a sum behind the first one.
 #[cycle(expression)]
-#[derive(Debug, Drop)]
+#[derive(Drop)]
 pub enum SumStep {
     Plus(Expr),
     Minus(Expr),
@@ -67,7 +66,7 @@ pub enum SumStep {
 /// What is done with a factor of a product behind the first one. The first number of `Div` and `Mod` is the place of
 /// the second one.
 #[cycle(expression)]
-#[derive(Debug, Drop)]
+#[derive(Drop)]
 pub enum ProdStep {
     Times(Expr),
     Div(u64, u32),
@@ -76,14 +75,14 @@ pub enum ProdStep {
 
 /// An argument of a call, with the place of its first token, which may be a bracket.
 #[cycle(expression)]
-#[derive(Debug, Drop)]
+#[derive(Drop)]
 pub struct Argument {
     pub place: u64,
     pub value: Expr,
 }
 
 /// How the two sides of a comparison are compared.
-#[derive(Clone, Copy, Debug, PartialEq, Eq)]
+#[derive(Clone, Copy)]
 pub enum Rel {
     Lt,
     Le,
@@ -94,7 +93,7 @@ pub enum Rel {
 }
 
 /// Which elements of a collection the body has to hold for.
-#[derive(Clone, Copy, Debug, PartialEq, Eq)]
+#[derive(Clone, Copy)]
 pub enum QuantKind {
     ForAll,
     Exists,
@@ -103,7 +102,6 @@ pub enum QuantKind {
 }
 
 /// What a quantifier's variable ranges over.
-#[derive(Debug)]
 pub enum Coll {
     /// All objects.
     Objects,
@@ -125,7 +123,6 @@ impl Drop for Coll {
 }
 
 /// A formula.
-#[derive(Debug)]
 pub enum Formula {
     True(u64),
     False(u64),

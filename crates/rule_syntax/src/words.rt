@@ -14,25 +14,9 @@ ghost use Rattle.rule_syntax.specs.View.{expr_view, product_view, argument_views
 
 use crate::tree::{Argument, Expr, PlacedName, ProdStep};
 use geo_tokens::name::Name;
-use geo_tokens::stop::{Stop, next_in, next_is, one_of, token};
-use geo_tokens::token::{Keyword, Kind, Sym, Token, class_of, number_in};
+use geo_tokens::stop::{Stop, next_in, next_is, one_of, refusal, token};
+use geo_tokens::token::{Keyword, Kind, Sym, Token, number_in};
 use std::alloc::{AllocError, Global};
-
-/// Refuses a token of this kind, since it would open a level too many, and any other.
-macro_rules! refuse {
-    ($tokens:expr, $kind:expr) => {
-        match $tokens {
-            [first, rest @ ..] => {
-                if class_of(first.kind) == class_of($kind) {
-                    Err(Stop::Deep(rest))
-                } else {
-                    Err(Stop::Wrong($tokens))
-                }
-            }
-            [] => Err(Stop::Wrong($tokens)),
-        }
-    };
-}
 
 /// A name, with its place.
 pub fn placed_name<'a>(
@@ -105,24 +89,27 @@ pub fn shape_number<'a>(
 }
 
 /// An expression that would open a level too many.
+#[tactic(auto, using(geo_tokens::proofs::Refused::refused_fails))]
 fn refused_expression(tokens: &[Token], kind: Kind) -> Result<(Expr, &[Token]), Stop<'_>>
     ensures { Gives expr_view result (cut_at (class_of kind ∷ []) tokens.now) }
 {
-    refuse!(tokens, kind)
+    Err(refusal(tokens, &[kind]))
 }
 
 /// Arguments that would open a level too many.
+#[tactic(auto, using(geo_tokens::proofs::Refused::refused_fails))]
 pub fn refused_arguments(tokens: &[Token]) -> Result<(Vec<Argument>, &[Token]), Stop<'_>>
     ensures { Gives argument_views result (cut_at (symbol syms.ParenOpen) tokens.now) }
 {
-    refuse!(tokens, Kind::Symbol(Sym::ParenOpen))
+    Err(refusal(tokens, &[Kind::Symbol(Sym::ParenOpen)]))
 }
 
 /// Two expressions in brackets that would open a level too many.
+#[tactic(auto, using(geo_tokens::proofs::Refused::refused_fails))]
 fn refused_pair(tokens: &[Token]) -> Result<((Expr, Expr), &[Token]), Stop<'_>>
     ensures { Gives pair_view result (cut_at (symbol syms.ParenOpen) tokens.now) }
 {
-    refuse!(tokens, Kind::Symbol(Sym::ParenOpen))
+    Err(refusal(tokens, &[Kind::Symbol(Sym::ParenOpen)]))
 }
 
 /// The least or the greatest of two, by its word.

@@ -14,7 +14,7 @@ use geo_tokens::fault::FaultWord;
 use geo_tokens::token::{Kind, Token};
 
 /// What a byte, or the end of the text, completed.
-#[derive(Clone, Copy, PartialEq, Eq)]
+#[derive(Clone, Copy)]
 pub enum Taken {
     /// Nothing.
     Nothing,

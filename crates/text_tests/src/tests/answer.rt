@@ -1,28 +1,33 @@
 //! What is said of a text, in a text that rows can give.
 
+use super::formulas::{FORMULA_LEVELS, FORMULAS};
+use super::mistakes::{KINDS, NAMES, RIGHT};
+use super::problems::{CANONICAL_FORMULAS, PROBLEMS};
+use super::statements::{STATEMENT_LEVELS, STATEMENTS};
+use super::tokens::{ENDS, TOKENS};
 use geo_chan::CleanSink;
 use geo_tokens::fault::TextFault;
 use geo_tokens::first_end::first_text_end;
 use geo_tokens::lexer::tokens;
+use geo_tokens::token::{Kind, symbol_text, word_text};
 use problem_syntax::syntax::read_statements;
 use problem_text::print::print_problem;
 use problem_text::read::read_problem;
 use rule_names::check::check_names;
 use rule_reading::read::read_formula;
 use std::alloc::{AllocError, Global};
-use std::process::Abort;
 use std::test::Fail;
 
 /// What is asked of a text.
 #[derive(Clone, Copy)]
-pub enum Part {
+enum Part {
     /// The kinds and places of its tokens, one after another.
     Tokens,
     /// Where its first word `end` ends.
     End,
-    /// The formula that begins with the first token, and the number of the token behind it.
+    /// The number of the token behind the formula that begins with the first one.
     Formula,
-    /// Its statements.
+    /// The number of its statements.
     Statements,
     /// The canonical text of the problem.
     Problem,
@@ -30,43 +35,40 @@ pub enum Part {
     Mistake,
 }
 
-/// `n` times the piece between a front and an end.
-fn joined(
-    alloc: Global,
-    (front, n, piece, end): (&[u8], usize, &[u8], &[u8]),
-) -> Result<Vec<u8>, AllocError> {
-    let mut text = Vec::from_slice(alloc, front)?;
-    for _ in 0..n {
-        text.extend_from_slice(piece)?;
+/// A name's kind is `name`, a number its value, and a word or a symbol is spelled.
+fn kind(alloc: Global, kind: Kind) -> Result<String, AllocError> {
+    match kind {
+        Kind::Name => String::from_str(alloc, "name"),
+        Kind::Number(value) => format!(in alloc; "{value}"),
+        Kind::Word(word) => text_of(alloc, word_text(word)),
+        Kind::Symbol(symbol) => text_of(alloc, symbol_text(symbol)),
     }
-    text.extend_from_slice(end)?;
-    Ok(text)
 }
 
 fn cut(alloc: Global, text: &[u8]) -> Result<String, TextFault> {
     let list = tokens(alloc, text)?;
     let mut shown = String::new(alloc);
     for token in list.as_slice() {
-        let one = format!(in alloc; "{:?} {} {}, ", token.kind, token.start, token.end)?;
-        shown.push_str(one.as_str())?;
+        shown.push_str(kind(alloc, token.kind)?.as_str())?;
+        shown.push_str(format!(in alloc; " {} {}, ", token.start, token.end)?.as_str())?;
     }
     Ok(shown)
 }
 
 fn formula(alloc: Global, text: &[u8]) -> Result<String, TextFault> {
     let list = tokens(alloc, text)?;
-    let (formula, behind) = read_formula(alloc, text, list.as_slice(), 0)?;
-    Ok(format!(in alloc; "{formula:?} {behind}")?)
+    let (_formula, behind) = read_formula(alloc, text, list.as_slice(), 0)?;
+    Ok(format!(in alloc; "{behind}")?)
 }
 
 fn statements(alloc: Global, text: &[u8]) -> Result<String, TextFault> {
     let list = tokens(alloc, text)?;
     let said = read_statements(alloc, text, list.as_slice())?;
-    Ok(format!(in alloc; "{:?}", said.statements)?)
+    Ok(format!(in alloc; "{}", said.statements.len())?)
 }
 
 /// A text of bytes that are all ASCII.
-fn text_of(alloc: Global, bytes: &[u8]) -> Result<String, TextFault> {
+fn text_of(alloc: Global, bytes: &[u8]) -> Result<String, AllocError> {
     let mut text = String::new(alloc);
     for byte in bytes {
         text.push(char::from(*byte))?;
@@ -78,13 +80,15 @@ fn problem(alloc: Global, text: &[u8]) -> Result<String, TextFault> {
     let problem = read_problem(alloc, text)?;
     let mut sink = CleanSink::new(alloc);
     let _done = print_problem(alloc, &problem, &mut sink);
-    text_of(alloc, sink.bytes())
+    Ok(text_of(alloc, sink.bytes())?)
 }
 
 /// The statements stand at place 62.
 fn mistake(alloc: Global, statements: &[u8]) -> Result<String, TextFault> {
     let front = b"geost 1 dims 1 shape s box 0 size 1 ; object a as s at 0..9 ; ";
-    let text = joined(alloc, (front, 1, statements, b" end"))?;
+    let mut text = Vec::from_slice(alloc, front)?;
+    text.extend_from_slice(statements)?;
+    text.extend_from_slice(b" end")?;
     check_names(alloc, &read_problem(alloc, &text)?)?;
     Ok(String::from_str(alloc, "none")?)
 }
@@ -109,32 +113,29 @@ fn said(alloc: Global, part: Part, text: &[u8]) -> Result<String, AllocError> {
 }
 
 /// What is asked, and rows of a text and what it says, or its fault.
-pub type Table = (Part, &'static [(&'static [u8], &'static str)]);
+type Table = (Part, &'static [(&'static [u8], &'static str)]);
 
-/// Each text says what its row wants.
-pub fn say(rt: &impl Abort, alloc: Global, tables: &[Table]) -> Result<(), Fail> {
-    for (part, rows) in tables {
+const TABLES: &[Table] = &[
+    (Part::Tokens, TOKENS),
+    (Part::End, ENDS),
+    (Part::Formula, FORMULAS),
+    (Part::Formula, FORMULA_LEVELS),
+    (Part::Statements, STATEMENTS),
+    (Part::Statements, STATEMENT_LEVELS),
+    (Part::Problem, PROBLEMS),
+    (Part::Problem, CANONICAL_FORMULAS),
+    (Part::Mistake, NAMES),
+    (Part::Mistake, KINDS),
+    (Part::Mistake, RIGHT),
+];
+
+#[test]
+fn each_text_says_what_its_row_wants(rt: HostRuntime) -> Result<(), Fail> {
+    for (part, rows) in TABLES {
         for (text, wanted) in *rows {
-            let found = said(alloc, *part, text)?;
+            let found = said(rt.alloc(), *part, text)?;
             assert!(rt; found.as_str() == *wanted, "{}", found.as_str());
         }
-    }
-    Ok(())
-}
-
-/// A front, how often which piece comes, and an end.
-pub type Repeated = (&'static [u8], usize, &'static [u8], &'static [u8]);
-
-/// Each text says what its row wants.
-pub fn say_repeated(
-    rt: &impl Abort,
-    alloc: Global,
-    part: Part,
-    rows: &[(Repeated, &str)],
-) -> Result<(), Fail> {
-    for (pieces, wanted) in rows {
-        let text = joined(alloc, *pieces)?;
-        assert!(rt; said(alloc, part, &text)?.as_str() == *wanted);
     }
     Ok(())
 }

@@ -1,10 +1,7 @@
 //! First mistakes of names and kinds that the format gives for whole texts, and texts without one.
 
-use super::answer::{Part, say};
-use std::test::Fail;
-
 /// Statements with a name that is not known, or stands twice.
-const NAMES: &[(&[u8], &str)] = &[
+pub const NAMES: &[(&[u8], &str)] = &[
     (b"rule r : p.x1 < 3 ;", "At(71, Unknown)"),
     (b"rule r : a.sid = shape a ;", "At(85, Unknown)"),
     (
@@ -32,7 +29,7 @@ const NAMES: &[(&[u8], &str)] = &[
 ];
 
 /// Statements with a name of another kind, with too few arguments, or with a field that is not known.
-const KINDS: &[(&[u8], &str)] = &[
+pub const KINDS: &[(&[u8], &str)] = &[
     (b"rule r : a <= 4 ;", "At(71, Kind)"),
     (
         b"macro m(a : int) means a.x1 > 0 ; rule r : true ;",
@@ -76,7 +73,7 @@ const KINDS: &[(&[u8], &str)] = &[
 ];
 
 /// Statements without a mistake.
-const RIGHT: &[(&[u8], &str)] = &[
+pub const RIGHT: &[(&[u8], &str)] = &[
     (
         b"rule r : true ; macro m() means true ; rule q : @m() ;",
         "none",
@@ -90,13 +87,3 @@ const RIGHT: &[(&[u8], &str)] = &[
         "none",
     ),
 ];
-
-#[test]
-fn names_and_kinds_are_checked(rt: HostRuntime) -> Result<(), Fail> {
-    let tables = [
-        (Part::Mistake, NAMES),
-        (Part::Mistake, KINDS),
-        (Part::Mistake, RIGHT),
-    ];
-    say(&rt, rt.alloc(), &tables)
-}

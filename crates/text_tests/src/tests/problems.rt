@@ -1,10 +1,7 @@
 //! Problems that are read, the first faults that the format gives for whole texts, and canonical texts.
 
-use super::answer::{Part, say};
-use std::test::Fail;
-
 /// Texts with the canonical one, or the first fault.
-const PROBLEMS: &[(&[u8], &str)] = &[
+pub const PROBLEMS: &[(&[u8], &str)] = &[
     (
         b"geost 01 dims 1 object a as t, s at 0..3 ; shape s box 0 size 2 ; object b as s at 0..3 ; shape t box -1 size 1 ; order b, a ; sides high ; end",
         "geost 1 dims 1\nshape s box 0 size 2 ;\nshape t box -1 size 1 ;\nobject a as t, s at 0..3 ;\nobject b as s at 0..3 ;\norder b, a ;\nsides high ;\nend\n",
@@ -61,7 +58,7 @@ const PROBLEMS: &[(&[u8], &str)] = &[
 ];
 
 /// Texts of problems whose rules are formulas, each with its canonical one, which is its own.
-const FORMULAS: &[(&[u8], &str)] = &[
+pub const CANONICAL_FORMULAS: &[(&[u8], &str)] = &[
     (
         b"geost 1 dims 1 rule r:[[a<1]] and [b<2 and [true]] or [[false or true]];end",
         "geost 1 dims 1\nrule r : a < 1 and [ b < 2 and true ] or [ false or true ] ;\nend\n",
@@ -103,9 +100,3 @@ const FORMULAS: &[(&[u8], &str)] = &[
         "geost 1 dims 1\nrule r : atleast 2 p in objects : not atmost 1 q in objects : p.x1 >= q.x1 ;\nend\n",
     ),
 ];
-
-#[test]
-fn problems_are_read(rt: HostRuntime) -> Result<(), Fail> {
-    let tables = [(Part::Problem, PROBLEMS), (Part::Problem, FORMULAS)];
-    say(&rt, rt.alloc(), &tables)
-}

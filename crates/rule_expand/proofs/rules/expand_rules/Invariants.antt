@@ -4,6 +4,6 @@ use Rattle.rule_expand.proofs.rules.expand_rules.Given as goal
 
 abbrev pub invariant-loop-rule : goal.invariant-loop-rule
 invariant-loop-rule l = record {
-  made : map plain_rule_data l.made.items ≡ map (rule_expanded l.problem) (take l.rule-index l.rules);
-  small : first_place is_large (drop l.rule-index (map (rule_expanded l.problem) l.rules)) ≡ first_place is_large (map (rule_expanded l.problem) l.rules);
+  made : map plain_rule_data l.made.items ≡ map (rule_expanded l.source.problem.now) (take l.rule-index l.rules);
+  small : first_place is_large (drop l.rule-index (map (rule_expanded l.source.problem.now) l.rules)) ≡ first_place is_large (map (rule_expanded l.source.problem.now) l.rules);
 }

@@ -11,6 +11,5 @@ invariant_of-self-2 c =
     let room = subst (λ (u : NameTable). length u.objects < 200) (sym c.self.view_is) c.requires.room in
     let list = subst (λ (u : NameTable). IsShapeList (length u.shapes) c.args.shapes.now) (sym c.self.view_is) c.requires.list in
     let pushed = c.in_ok-push.ensures {u = tt} in
-    let shapes = c.in_ok-shapes.ensures {u = tt} in
-    let e = pushed.items ∙ ap (λ (n : List ℕ). t.objects ++ (n, c.in_ok-shapes.shapes.items) ∷ []) (c.in_ok-name.ensures {u = tt}) ∙ ap (λ (s : List ℕ). t.objects ++ (c.args.name.now, s) ∷ []) shapes.items in
+    let e = pushed.items ∙ ap (λ (o : List ℕ × List ℕ). t.objects ++ o ∷ []) (c.in_ok-object.ensures {u = tt}) in
     subst (λ (os : List (List ℕ × List ℕ)). IsNameTable (record t { objects = os })) (sym e) (with_object t c.args.name.now c.args.shapes.now c.self.invariant c.requires.text new room list)
