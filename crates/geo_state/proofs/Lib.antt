@@ -4,3 +4,7 @@ pub mod SmallEnds
 pub mod Fits
 pub mod Narrower
 pub mod Trails
+pub mod Trailings
+pub mod Undo
+pub mod Regions
+pub mod Levels

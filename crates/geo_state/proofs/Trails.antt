@@ -6,7 +6,8 @@ use Rattle.std.proofs.lemmas.List.{get_or_append_left}
 use Rattle.std.proofs.lemmas.List.Elements.{All-nil, All-push, All-set}
 use Rattle.std.proofs.Math.Seq.{get_or-append_seam, take-suc, take-suc-set}
 use Rattle.std.proofs.Math.ListN.{length-append, length-set}
-use Rattle.geo_conditions.specs.Reach.{State, reach, low, high, with_low, with_high, without, Inside}
+use Rattle.geo_base.specs.Boxes.{coordinate}
+use Rattle.geo_conditions.specs.Reach.{State, Reach, reach, low, high, with_low, with_high, without, Within, Inside}
 use Rattle.geo_conditions.proofs.Points.{inside_self, inside_trans}
 use Rattle.geo_conditions.proofs.Greatest.{narrowed, at_set}
 use Rattle.geo_state.specs.Trail.{IsSmall, IsSmallNumber, ShrinkTo, IsTrail}
@@ -55,72 +56,63 @@ all_last P R G h = (
 
 -- ---- what a trailed state keeps
 
--- nothing is saved yet
-pub trail_start : (S : State) (saved : List State) → IsSmall S → All (λ T. length T ≡ length S) saved → IsTrail S saved 0
-trail_start S saved s a = record {
-  within = omega arith;
-  objects = a;
+-- no level is open
+pub trail_start : (S : State) → IsSmall S → IsTrail S []
+trail_start S s = record {
   small = s;
   restores_small = All-nil IsSmall;
   shrinks = λ i h. absurd (omega arith);
 }
 
 -- the state shrinks
-pub trail_on : (S T : State) (saved : List State) (n : ℕ) → IsTrail S saved n → Inside T S → IsSmall T → IsTrail T saved n
-trail_on S T saved n t i s = record {
-  within = t.within;
-  objects = λ k d b. t.objects k d b ∙ sym i.objects;
+pub trail_on : (S T : State) (R : List State) → IsTrail S R → Inside T S → IsSmall T → IsTrail T R
+trail_on S T R t i s = record {
   small = s;
   restores_small = t.restores_small;
-  shrinks = shrink_on (take n saved) S T t.shrinks i;
+  shrinks = shrink_on R S T t.shrinks i;
 }
 
 -- a level is opened
-pub trail_push : (S : State) (saved : List State) (n m : ℕ) → IsTrail S saved n → n < length saved → m ≡ suc n → IsTrail S (set saved n S) m
-trail_push S saved n m t h e =
-    let f : take m (set saved n S) ≡ take n saved ++ S ∷ [] = ap (λ (k : ℕ). take k (set saved n S)) e ∙ take-suc-set saved n S h in
-    record {
-      within = omega (arith, e, h, length-set saved n S);
-      objects = All-set (λ T. length T ≡ length S) saved n S refl t.objects;
-      small = t.small;
-      restores_small = subst (All IsSmall) (sym f) (All-push IsSmall (take n saved) S t.restores_small t.small);
-      shrinks = subst (λ (R : List State). ShrinkTo R S) (sym f) (shrink_push (take n saved) S t.shrinks);
-    }
+pub trail_push : (S : State) (R : List State) → IsTrail S R → IsTrail S (R ++ S ∷ [])
+trail_push S R t = record {
+  small = t.small;
+  restores_small = All-push IsSmall R S t.restores_small t.small;
+  shrinks = shrink_push R S t.shrinks;
+}
 
 -- a level is closed
-pub trail_pop : (S G : State) (saved : List State) (n m : ℕ) → IsTrail S saved n → n ≡ suc m → G ≡ get_or saved m G → IsTrail G saved m × Inside S G
-trail_pop S G saved n m t e g =
-    let h : m < length saved = omega (arith, e, t.within) in
-    let f : take n saved ≡ take m saved ++ G ∷ [] = ap (λ (k : ℕ). take k saved) e ∙ take-suc saved m G h ∙ ap (λ (X : State). take m saved ++ X ∷ []) (sym g) in
-    let s = all_last IsSmall (take m saved) G (subst (All IsSmall) f t.restores_small) in
-    let k = shrink_pop (take m saved) G S (subst (λ (R : List State). ShrinkTo R S) f t.shrinks) in (
-      record {
-        within = omega (arith, h);
-        objects = λ i d b. t.objects i d b ∙ k.1.objects;
-        small = s.1;
-        restores_small = s.0;
-        shrinks = k.0;
-      },
-      k.1,
-    )
+pub trail_pop : (S G : State) (R : List State) → IsTrail S (R ++ G ∷ []) → IsTrail G R × Inside S G
+trail_pop S G R t =
+    let s = all_last IsSmall R G t.restores_small in
+    let k = shrink_pop R G S t.shrinks in (record { small = s.1; restores_small = s.0; shrinks = k.0 }, k.1)
 
--- one object is narrowed
-pub trail_low : (S T : State) (saved : List State) (n o d : ℕ) (v : ℤ) → IsTrail S saved n → o < length S → IsSmallNumber v → low S o d ≤ℤ v → T ≡ set S o (with_low (reach S o) d v) → IsTrail T saved n
-trail_low S T saved n o d v t h s l e = subst (λ (X : State). IsTrail X saved n) (sym e)
-    (trail_on S (set S o (with_low (reach S o) d v)) saved n t
-    (narrowed S o (with_low (reach S o) d v) (low_within (reach S o) d v l) h)
-    (small_set S o (with_low (reach S o) d v) t.small (λ j. (at_set (λ k z. IsSmallNumber z) (reach S o).region.lo d v (λ b. s) (λ k. (t.small o k).0) j, (t.small o j).1))))
+-- ---- one object is narrowed
 
--- the same with a high end lowered
-pub trail_high : (S T : State) (saved : List State) (n o d : ℕ) (v : ℤ) → IsTrail S saved n → o < length S → IsSmallNumber v → v ≤ℤ high S o d → T ≡ set S o (with_high (reach S o) d v) → IsTrail T saved n
-trail_high S T saved n o d v t h s l e = subst (λ (X : State). IsTrail X saved n) (sym e)
-    (trail_on S (set S o (with_high (reach S o) d v)) saved n t
-    (narrowed S o (with_high (reach S o) d v) (high_within (reach S o) d v l) h)
-    (small_set S o (with_high (reach S o) d v) t.small (λ j. ((t.small o j).0, at_set (λ k z. IsSmallNumber z) (reach S o).region.hi d v (λ b. s) (λ k. (t.small o k).1) j))))
+-- what is open to the object then lies within what was, and its ends are small
+pub record Narrows (S : State) (o : ℕ) (r : Reach) : Type 0 where
+  pub within : Within r (reach S o)
+  pub small : (d : ℕ) → IsSmallNumber (coordinate r.region.lo d) × IsSmallNumber (coordinate r.region.hi d)
 
--- the same with a place taken away
-pub trail_without : (S T : State) (saved : List State) (n o s : ℕ) → IsTrail S saved n → o < length S → T ≡ set S o (without (reach S o) s) → IsTrail T saved n
-trail_without S T saved n o s t h e = subst (λ (X : State). IsTrail X saved n) (sym e)
-    (trail_on S (set S o (without (reach S o) s)) saved n t
-    (narrowed S o (without (reach S o) s) (without_within (reach S o) s) h)
-    (small_set S o (without (reach S o) s) t.small (λ j. t.small o j)))
+pub trail_narrowed : (S : State) (R : List State) (o : ℕ) (r : Reach) → IsTrail S R → o < length S → Narrows S o r → IsTrail (set S o r) R
+trail_narrowed S R o r t h n = trail_on S (set S o r) R t (narrowed S o r n.within h) (small_set S o r t.small n.small)
+
+-- by a low end that rises
+pub narrows_low : (S : State) (o d : ℕ) (v : ℤ) → IsSmall S → IsSmallNumber v → low S o d ≤ℤ v → Narrows S o (with_low (reach S o) d v)
+narrows_low S o d v t s l = record {
+  within = low_within (reach S o) d v l;
+  small = λ j. (at_set (λ k z. IsSmallNumber z) (reach S o).region.lo d v (λ b. s) (λ k. (t o k).0) j, (t o j).1);
+}
+
+-- by a high end that falls
+pub narrows_high : (S : State) (o d : ℕ) (v : ℤ) → IsSmall S → IsSmallNumber v → v ≤ℤ high S o d → Narrows S o (with_high (reach S o) d v)
+narrows_high S o d v t s l = record {
+  within = high_within (reach S o) d v l;
+  small = λ j. ((t o j).0, at_set (λ k z. IsSmallNumber z) (reach S o).region.hi d v (λ b. s) (λ k. (t o k).1) j);
+}
+
+-- by a place that goes
+pub narrows_without : (S : State) (o s : ℕ) → IsSmall S → Narrows S o (without (reach S o) s)
+narrows_without S o s t = record {
+  within = without_within (reach S o) s;
+  small = λ j. t o j;
+}

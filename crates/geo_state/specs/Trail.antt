@@ -1,7 +1,8 @@
 -- What a trailed state is seen as, and what it keeps.
-use Rattle.std.specs.Prelude.{◌≡◌, ℕ, suc, ◌<◌, ◌≤◌, List, [], ◌∷◌, ◌++◌, length, take, slice_index_or, ℤ, pos, negsuc, ◌≤ℤ◌}
+use Rattle.std.specs.Prelude.{◌≡◌, ℕ, suc, ◌+◌, ◌*◌, ◌<◌, ◌≤◌, List, [], ◌∷◌, ◌++◌, length, take, slice_index_or, ℤ, pos, negsuc, ◌≤ℤ◌}
 use Rattle.std.specs.List.{All}
 use Rattle.geo_conditions.specs.Reach.{Reach, State, low, high, Inside}
+use Rattle.geo_state.specs.Undo.{Entry, restored, IsUndoable}
 
 -- the state, how many levels it may have, and what each open level restores, the outermost first
 pub record Trail : Type 0 where
@@ -21,10 +22,18 @@ IsSmall S = (o d : ℕ) → IsSmallNumber (low S o d) × IsSmallNumber (high S o
 abbrev pub ShrinkTo : List State → State → Type 0
 ShrinkTo restores S = (i : ℕ) → i < length restores → Inside (slice_index_or (restores ++ S ∷ []) (suc i) []) (slice_index_or restores i [])
 
--- what a trailed state keeps: the first depth of the saved states are those of the open levels
-pub record IsTrail (S : State) (saved : List State) (depth : ℕ) : Type 0 where
-  pub within : depth ≤ length saved
-  pub objects : All (λ T. length T ≡ length S) saved
+-- the state, and those that the open levels restore
+pub record IsTrail (S : State) (restores : List State) : Type 0 where
   pub small : IsSmall S
-  pub restores_small : All IsSmall (take depth saved)
-  pub shrinks : ShrinkTo (take depth saved) S
+  pub restores_small : All IsSmall restores
+  pub shrinks : ShrinkTo restores S
+
+-- what a trailed state keeps: the entries that were saved, for each object the greatest open level that has saved it, for each
+-- level the number of entries when it was opened, how many levels are open, and for how many entries more there is room
+pub record IsTrailed (S : State) (entries : List Entry) (marks starts : List ℕ) (depth spare : ℕ) : Type 0 where
+  pub within : depth ≤ length starts
+  pub objects : length marks ≡ length S
+  pub room : length starts * length S ≤ length entries + spare
+  pub exist : All (λ e. e.object < length S) entries
+  pub undoable : IsUndoable entries marks (take depth starts)
+  pub trail : IsTrail S (restored S entries (take depth starts))

@@ -2,35 +2,44 @@ ghost use Rattle.std.specs.Prelude.{◌≡◌, ℕ, ◌+◌, ◌<◌, ◌≤◌,
 ghost use Rattle.geo_conditions.specs.Reach.{reach, low, high, with_low, with_high, without, Inside};
 ghost use Rattle.geo_state.specs.Trail.{Trail, IsSmall, IsSmallNumber};
 
+use super::entries::{Saved, put_back, save};
 use geo_base::MAX_DIMS;
 use geo_conditions::{ObjId, State};
 use std::alloc::{AllocError, Global};
 use std::marker::Model;
+use trail_arena::TrailStack;
 
 /// The greatest number of levels.
 pub const MAX_LEVELS: usize = 2000;
 
-/// A state that levels restore. All memory is taken at the start: one whole state a level.
+/// A state that levels restore. A level saves what is open to an object before it changes it for the
+/// first time, and nothing else. Room for one entry a level and object is taken at the start.
 #[derive(Drop)]
 pub struct Trailed<const K: usize> {
     state: State<K>,
-    saved: Vec<State<K>>,
+    saved: TrailStack<Saved<K>>,
+    // for each object the greatest open level that has saved it, 0 if none has
+    marks: Vec<usize>,
+    // for each level how many entries there were when it was opened
+    starts: Vec<usize>,
     depth: usize,
 }
 
 impl<const K: usize> Model for Trailed<K> {
     ghost use Rattle.std.specs.Prelude.{length, take};
-    ghost use Rattle.geo_state.specs.Trail.{Trail, IsTrail};
+    ghost use Rattle.geo_state.specs.Undo.{restored};
+    ghost use Rattle.geo_state.specs.Trail.{Trail, IsTrailed};
 
     ghost Value = { Trail };
 
     ghost view = { λ t. record {
       state = t.state;
-      levels = length t.saved.items;
-      restores = take t.depth t.saved.items;
+      levels = length t.starts.items;
+      restores = restored t.state t.saved.items (take t.depth t.starts.items);
     } };
 
-    ghost invariant = { λ t. IsTrail t.state t.saved.items t.depth };
+    ghost invariant = { λ t. IsTrailed t.state t.saved.items t.marks.items t.starts.items
+        t.depth t.saved.spare };
 }
 
 impl<const K: usize> Trailed<K> {
@@ -44,13 +53,16 @@ impl<const K: usize> Trailed<K> {
         ensures levels { IfOk result (λ t. t.levels ≡ levels) }
         ensures restores { IfOk result (λ t. t.restores ≡ []) }
     {
-        let mut saved = Vec::with_capacity(alloc, levels)?;
-        for _level in 0..levels {
-            saved.push(first.copy()?)?;
-        }
+        let objects = first.objects();
+        let mut saved = TrailStack::new(alloc);
+        saved.reserve(levels * objects)?;
+        let marks = Vec::from_elem(alloc, 0, objects)?;
+        let starts = Vec::from_elem(alloc, 0, levels)?;
         Ok(Trailed {
             state: first,
             saved,
+            marks,
+            starts,
             depth: 0,
         })
     }
@@ -80,8 +92,7 @@ impl<const K: usize> Trailed<K> {
         ensures levels { self.new.levels ≡ self.old.levels }
         ensures restores { self.new.restores ≡ self.old.restores ++ self.old.state ∷ [] }
     {
-        let level = &mut self.saved[self.depth];
-        level.copy_from(&self.state);
+        self.starts[self.depth] = self.saved.len();
         self.depth += 1;
     }
 
@@ -95,8 +106,8 @@ impl<const K: usize> Trailed<K> {
         ensures shrunk { Inside self.old.state self.new.state }
     {
         self.depth -= 1;
-        let level = &self.saved[self.depth];
-        self.state.copy_from(level);
+        let left = self.starts[self.depth];
+        put_back(&mut self.state, &mut self.saved, &mut self.marks, left);
     }
 
     /// Raises the low end of an interval.
@@ -111,6 +122,7 @@ impl<const K: usize> Trailed<K> {
         ensures levels { self.new.levels ≡ self.old.levels }
         ensures restores { self.new.restores ≡ self.old.restores }
     {
+        save(&self.state, &mut self.saved, &mut self.marks, self.depth, o);
         self.state.set_low(o, d, v);
     }
 
@@ -126,6 +138,7 @@ impl<const K: usize> Trailed<K> {
         ensures levels { self.new.levels ≡ self.old.levels }
         ensures restores { self.new.restores ≡ self.old.restores }
     {
+        save(&self.state, &mut self.saved, &mut self.marks, self.depth, o);
         self.state.set_high(o, d, v);
     }
 
@@ -139,6 +152,7 @@ impl<const K: usize> Trailed<K> {
         ensures levels { self.new.levels ≡ self.old.levels }
         ensures restores { self.new.restores ≡ self.old.restores }
     {
+        save(&self.state, &mut self.saved, &mut self.marks, self.depth, o);
         self.state.drop_shape(o, place);
     }
 }

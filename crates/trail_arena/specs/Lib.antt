@@ -1,0 +1,4 @@
+pub mod Chains
+pub mod Ownership
+pub mod Places
+pub mod Stack
