@@ -14,7 +14,7 @@ IsOneTree es = (root : Node) × (es ≡ node_events root)
 
 -- the events are those of one tree, which is valid on S; what they name exists there, in K
 -- dimensions
-pub record IsDerivation (K : ℕ) (cs : List Cond) (S : State) (es : List Event) : Type 0 where
+pub record IsValidTree (K : ℕ) (cs : List Cond) (S : State) (es : List Event) : Type 0 where
   pub root : Node
   pub events : es ≡ node_events root
   pub valid : Valid cs S root

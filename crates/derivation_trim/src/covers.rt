@@ -96,6 +96,25 @@ fn between(good: Side, bad: i64) -> Option<Side> {
     }
 }
 
+// The side that a cut of a cover keeps in its first part.
+fn side_of(e: Event) -> Option<Side> {
+    match e {
+        Event::Cut(d, v) => Some(Side::Upto(d, v)),
+        Event::CutFrom(d, v) => Some(Side::From(d, v)),
+        _ => None,
+    }
+}
+
+// The first leaf of a cover.
+fn first_leaf(cover: &[Event]) -> Option<Event> {
+    for e in cover {
+        if let Event::By(_) = e {
+            return Some(*e);
+        }
+    }
+    None
+}
+
 /// How many of the events are the first cover.
 pub fn cover_len(events: &[Event]) -> usize
     ensures { result ≤ length events.now }
@@ -153,16 +172,15 @@ impl<const K: usize> Coverer<K> {
     fn whole(&self, swept: &Swept<K>, b: &KBox<K>) -> Option<u32>
         requires { K ≤ MAX_DIMS }
     {
-        let is_empty = b.is_empty();
         for i in self.tried.as_slice() {
-            if is_empty || swept.is_refuted(*i, b) {
+            if swept.is_refuted(*i, b) {
                 return Some(*i);
             }
         }
         None
     }
 
-    // A cut of a box. It says how many of the events it makes needless.
+    // A cut of a box that has points. It says how many of the events are done with.
     fn cut(
         &mut self,
         swept: &Swept<K>,
@@ -206,18 +224,15 @@ impl<const K: usize> Coverer<K> {
         if b.is_empty() {
             return Ok(cover_len(cover));
         }
-        match e {
-            Event::Cut(d, v) => self.cut(swept, cover, Side::Upto(d, v), &b, out),
-            Event::CutFrom(d, v) => self.cut(swept, cover, Side::From(d, v), &b, out),
-            _ => {
-                out.add(e)?;
-                Ok(1)
-            }
+        if let Some(side) = side_of(e) {
+            return self.cut(swept, cover, side, &b, out);
         }
+        out.add(e)?;
+        Ok(1)
     }
 
-    /// Writes a simpler cover of the box in the place of this one.
-    pub fn simplify(
+    // Writes a simpler cover of a box that has points.
+    fn pieces(
         &mut self,
         swept: &Swept<K>,
         cover: &[Event],
@@ -227,9 +242,6 @@ impl<const K: usize> Coverer<K> {
         requires { K ≤ MAX_DIMS }
     {
         self.gather(cover)?;
-        if let Some(i) = self.whole(swept, b) {
-            return out.add(Event::By(i));
-        }
         self.boxes.clear();
         self.boxes.push(*b)?;
         let mut next: usize = 0;
@@ -240,5 +252,25 @@ impl<const K: usize> Coverer<K> {
             }
         }
         Ok(())
+    }
+
+    /// Writes a simpler cover of the box in the place of this one. A leaf stays as it is, and where
+    /// the box has no points, the first leaf stands for all.
+    pub fn simplify(
+        &mut self,
+        swept: &Swept<K>,
+        cover: &[Event],
+        b: &KBox<K>,
+        out: &mut Log,
+    ) -> Result<(), AllocError>
+        requires { K ≤ MAX_DIMS }
+    {
+        if cover.len() > 1 && !b.is_empty() {
+            return self.pieces(swept, cover, b, out);
+        }
+        match first_leaf(cover) {
+            Some(leaf) => out.add(leaf),
+            None => Ok(()),
+        }
     }
 }

@@ -4,7 +4,6 @@
 use crate::covers::{cover_len, events_from};
 use derivation::{Event, Log, Recorder};
 use geo_conditions::ObjId;
-use std::alloc::{AllocError, Global};
 
 // Whether a list of covers that begins with this event names only places behind that one.
 fn begins_behind(list: Option<&Event>, place: u8) -> bool {
@@ -38,24 +37,66 @@ fn run_end(events: &[Event], o: ObjId) -> Option<usize> {
     None
 }
 
-/// The same derivation, with an end's own list in the place of the drops in front of it.
-pub fn joined(alloc: Global, events: &[Event]) -> Result<Log, AllocError> {
-    let mut out = Log::new(alloc);
-    let mut end: usize = 0;
-    for (at, e) in events.iter().enumerate() {
-        match e {
-            Event::Drop(o, place) => {
-                if end <= at {
-                    if let Some(length) = run_end(events_from(events, at), *o) {
-                        end = length.saturating_add(at);
-                        out.add(Event::Gone(*o))?;
-                    }
-                }
-                out.add(if at < end { Event::Cover(*place) } else { *e })?;
-            }
-            Event::Gone(_) if 0 < at && at == end => {}
-            _ => out.add(*e)?,
-        }
+/// An end's list that is being put in the place of drops: the event that belongs at the next index,
+/// and the index of the end.
+#[derive(Clone, Copy)]
+struct Shift {
+    held: Event,
+    end: usize,
+}
+
+// Where the event at the index drops a place and begins such a run: the end comes first.
+fn shift_at(events: &[Event], at: usize) -> Option<Shift> {
+    match events.get(at) {
+        Some(Event::Drop(o, _)) => match run_end(events_from(events, at), *o) {
+            Some(length) => Some(Shift {
+                held: Event::Gone(*o),
+                end: length.saturating_add(at),
+            }),
+            None => None,
+        },
+        _ => None,
     }
-    Ok(out)
+}
+
+// Inside of a list of covers a place is not dropped, but covered.
+fn as_cover(e: Event) -> Event {
+    match e {
+        Event::Drop(_, place) => Event::Cover(place),
+        _ => e,
+    }
+}
+
+// Writes the held event at the index, and holds the one that stood there; none at the end.
+fn write_held(log: &mut Log, at: usize, state: Shift) -> Option<Shift> {
+    let events = log.events();
+    if at >= events.len() {
+        return None;
+    }
+    let next = as_cover(events[at]);
+    log.set(at, state.held);
+    if at < state.end {
+        Some(Shift {
+            held: next,
+            end: state.end,
+        })
+    } else {
+        None
+    }
+}
+
+/// Puts an end's own list in the place of the drops in front of it: the end moves to the front of
+/// them.
+pub fn join_ends(log: &mut Log) {
+    let mut state: Option<Shift> = None;
+    for at in 0..log.events().len() {
+        let here = match state {
+            Some(run) => Some(run),
+            None => shift_at(log.events(), at),
+        };
+        state = match here {
+            Some(run) => write_held(log, at, run),
+            None => None,
+        };
+    }
 }

@@ -2,7 +2,7 @@
 
 ghost use Rattle.std.specs.Prelude.{◌≤◌, ◌↔◌, IsTrue, IfOk};
 ghost use Rattle.geo_conditions.specs.Conditions.{AllFit};
-ghost use Rattle.derivation_trim.specs.Trees.{IsDerivation};
+ghost use Rattle.derivation_trim.specs.Trees.{IsValidTree};
 
 use crate::tree::is_one_tree;
 use derivation::Log;
@@ -22,7 +22,7 @@ pub fn is_derivation<const K: usize>(
     requires k { K ≤ MAX_DIMS }
     requires fits { AllFit conditions.now first.now }
     ensures { IfOk result (λ yes. IsTrue yes
-        ↔ IsDerivation K conditions.now first.now log.now.events) }
+        ↔ IsValidTree K conditions.now first.now log.now.events) }
 {
     let events = log.events();
     if !all_fit::<K>(events, first.objects()) || !is_one_tree(alloc, events)? {

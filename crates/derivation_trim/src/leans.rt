@@ -1,8 +1,5 @@
 //! What of a state a part of a derivation leans on.
 
-ghost use Rattle.std.specs.Prelude.{◌<◌};
-
-use geo_base::MAX_DIMS;
 use geo_conditions::{Cond, Form, ObjId};
 
 /// A set of objects, one bit for each number below 256, which is more than there can be.
@@ -48,65 +45,70 @@ pub enum Aspect {
     High(usize),
 }
 
-/// How many aspects there are.
-const ASPECTS: usize = 9;
-
-impl Aspect {
-    // Where the objects of this aspect stand.
-    fn slot(self) -> usize
-        ensures { result < ASPECTS }
-    {
-        match self {
-            Aspect::Places => 0,
-            Aspect::Low(d) => 1 + d.min(MAX_DIMS - 1),
-            Aspect::High(d) => 1 + MAX_DIMS + d.min(MAX_DIMS - 1),
-        }
-    }
-}
-
-/// Aspects of objects: for each aspect a set of objects.
+/// Aspects of objects: for each aspect a set of objects. No object has an aspect of a dimension
+/// that is not there.
 #[derive(Clone, Copy)]
-pub struct Leans {
-    sets: [ObjectSet; ASPECTS],
+pub struct Leans<const K: usize> {
+    places: ObjectSet,
+    lows: [ObjectSet; K],
+    highs: [ObjectSet; K],
 }
 
-impl Leans {
+impl<const K: usize> Leans<K> {
     /// Nothing.
-    pub fn new() -> Leans {
+    pub fn new() -> Leans<K> {
         let none = ObjectSet { words: [0; 4] };
         Leans {
-            sets: [none; ASPECTS],
+            places: none,
+            lows: [none; K],
+            highs: [none; K],
         }
     }
 
     /// Whether this aspect of the object is there.
     pub fn has(&self, o: ObjId, aspect: Aspect) -> bool {
-        self.sets[aspect.slot()].has(o)
+        match aspect {
+            Aspect::Places => self.places.has(o),
+            Aspect::Low(d) => d < K && self.lows[d].has(o),
+            Aspect::High(d) => d < K && self.highs[d].has(o),
+        }
     }
 
     /// Puts an aspect of the object in.
     pub fn insert(&mut self, o: ObjId, aspect: Aspect) {
-        self.sets[aspect.slot()].insert(o);
+        match aspect {
+            Aspect::Places => self.places.insert(o),
+            Aspect::Low(d) if d < K => self.lows[d].insert(o),
+            Aspect::High(d) if d < K => self.highs[d].insert(o),
+            _ => {}
+        }
     }
 
     /// Takes an aspect of the object out.
     pub fn remove(&mut self, o: ObjId, aspect: Aspect) {
-        self.sets[aspect.slot()].remove(o);
+        match aspect {
+            Aspect::Places => self.places.remove(o),
+            Aspect::Low(d) if d < K => self.lows[d].remove(o),
+            Aspect::High(d) if d < K => self.highs[d].remove(o),
+            _ => {}
+        }
     }
 
     /// Takes the places of the object out, and leaves all its ends in.
     pub fn lean_on_ends(&mut self, o: ObjId) {
-        self.remove(o, Aspect::Places);
-        for d in 0..MAX_DIMS {
-            self.insert(o, Aspect::Low(d));
-            self.insert(o, Aspect::High(d));
+        self.places.remove(o);
+        for d in 0..K {
+            self.lows[d].insert(o);
+            self.highs[d].insert(o);
         }
     }
 
     /// Puts in what another set has.
-    pub fn join(&mut self, other: &Leans) {
-        for slot in 0..ASPECTS {
-            self.sets[slot].join(&other.sets[slot]);
+    pub fn join(&mut self, other: &Leans<K>) {
+        self.places.join(&other.places);
+        for d in 0..K {
+            self.lows[d].join(&other.lows[d]);
+            self.highs[d].join(&other.highs[d]);
         }
     }
 

@@ -5,29 +5,30 @@
 //! one part of a split does not lean on what the split moves for it, that part alone may stand for
 //! both.
 
-ghost use Rattle.std.specs.Prelude.{◌≡◌, IfOk};
+ghost use Rattle.std.specs.Prelude.{◌≡◌, ◌≤◌, IfOk};
 
 use crate::leans::{Aspect, Leans};
 use derivation::{Event, Log, Recorder};
+use geo_base::MAX_DIMS;
 use geo_conditions::{Cond, ObjId};
 use std::alloc::{AllocError, Global};
 
 /// A node: its events from `start` on and before `end`, and what it leans on.
 #[derive(Clone, Copy)]
-struct Span {
+struct Span<const K: usize> {
     start: usize,
     end: usize,
-    leans: Leans,
+    leans: Leans<K>,
 }
 
 /// What was read of a derivation, from its end.
 #[derive(Drop)]
-struct Backwards<'a> {
+struct Backwards<'a, const K: usize> {
     conditions: &'a [Cond],
     /// The nodes that are part of no other yet, the first in the text last.
-    spans: Vec<Span>,
+    spans: Vec<Span<K>>,
     /// What the leaves lean on of covers that belong to no node yet.
-    covers: Leans,
+    covers: Leans<K>,
     /// Where the last list of covers ends.
     covers_end: usize,
     /// For each event where the derivation goes on if it is left out, or 0 where it stays.
@@ -35,7 +36,7 @@ struct Backwards<'a> {
 }
 
 // What it takes to refute the condition of this number.
-fn insert_number(leans: &mut Leans, conditions: &[Cond], i: u32) {
+fn insert_number<const K: usize>(leans: &mut Leans<K>, conditions: &[Cond], i: u32) {
     if i != 0 {
         if let Some(c) = conditions.get((i - 1) as usize) {
             leans.insert_refuted(c);
@@ -43,12 +44,12 @@ fn insert_number(leans: &mut Leans, conditions: &[Cond], i: u32) {
     }
 }
 
-impl<'a> Backwards<'a> {
+impl<'a, const K: usize> Backwards<'a, K> {
     fn start(
         alloc: Global,
         conditions: &'a [Cond],
         events: usize,
-    ) -> Result<Backwards<'a>, AllocError> {
+    ) -> Result<Backwards<'a, K>, AllocError> {
         Ok(Backwards {
             conditions,
             spans: Vec::new(alloc),
@@ -64,54 +65,52 @@ impl<'a> Backwards<'a> {
         }
     }
 
-    // What the covers lean on that were read, which now belong to a node of this object. They lean
-    // on its region, and at their leaves it is put at a place.
-    fn take_covers(&mut self, o: ObjId) -> Leans {
-        let mut leans = self.covers;
-        leans.lean_on_ends(o);
-        self.covers = Leans::new();
-        leans
+    // The covers that were read belong to a node of this object. They lean on its region, and at
+    // their leaves it is put at a place.
+    fn close_covers(&mut self, o: ObjId) {
+        self.covers.lean_on_ends(o);
     }
 
     // A node that ends the derivation of its part.
-    fn end(&mut self, span: Span) -> Result<bool, AllocError> {
+    fn end(&mut self, span: Span<K>) -> Result<bool, AllocError> {
         self.spans.push(span)?;
         Ok(true)
     }
 
-    // A link begins at `start` that moves an aspect of the object, and its rest is read.
-    fn link(
-        &mut self,
-        start: usize,
-        o: ObjId,
-        moved: Aspect,
-        own: &Leans,
-    ) -> Result<bool, AllocError> {
-        let Some(rest) = self.spans.pop() else {
-            return Ok(false);
+    // A link begins at `start` that moves an aspect of the object, and its covers and its rest are
+    // read. It says whether there is a rest.
+    fn link(&mut self, start: usize, o: ObjId, moved: Aspect) -> bool {
+        let Some(last) = self.spans.len().checked_sub(1) else {
+            return false;
         };
-        let mut leans = rest.leans;
-        if leans.has(o, moved) {
-            leans.join(own);
+        let rest = &mut self.spans[last];
+        let behind = rest.start;
+        rest.start = start;
+        if rest.leans.has(o, moved) {
+            rest.leans.join(&self.covers);
         } else {
-            self.leave_out(start, rest.start);
+            self.leave_out(start, behind);
         }
-        let end = rest.end;
-        self.end(Span { start, end, leans })
+        self.covers = Leans::new();
+        true
     }
 
     // A link that moves one end of an interval. Its covers end below the other end.
-    fn bound(
-        &mut self,
-        start: usize,
-        o: ObjId,
-        moved: Aspect,
-        other: Aspect,
-    ) -> Result<bool, AllocError> {
-        let mut own = self.take_covers(o);
-        own.insert(o, Aspect::Places);
-        own.remove(o, other);
-        self.link(start, o, moved, &own)
+    fn bound(&mut self, start: usize, o: ObjId, moved: Aspect, other: Aspect) -> bool {
+        self.close_covers(o);
+        self.covers.insert(o, Aspect::Places);
+        self.covers.remove(o, other);
+        self.link(start, o, moved)
+    }
+
+    // A list of covers at `start` shows that the object has no point.
+    fn gone(&mut self, start: usize, o: ObjId) -> Result<bool, AllocError> {
+        self.close_covers(o);
+        self.covers.insert(o, Aspect::Places);
+        let leans = self.covers;
+        self.covers = Leans::new();
+        let end = self.covers_end;
+        self.end(Span { start, end, leans })
     }
 
     // A split of the object stands at `start`, which moves one aspect for its first part and one
@@ -150,18 +149,13 @@ impl<'a> Backwards<'a> {
             Event::SplitShape(o, _) => self.split(start, o, Aspect::Places, Aspect::Places),
             Event::SplitUpto(o, d, _) => self.split(start, o, Aspect::High(d), Aspect::Low(d)),
             Event::SplitFrom(o, d, _) => self.split(start, o, Aspect::Low(d), Aspect::High(d)),
-            Event::Raise(o, d, _) => self.bound(start, o, Aspect::Low(d), Aspect::High(d)),
-            Event::Lower(o, d, _) => self.bound(start, o, Aspect::High(d), Aspect::Low(d)),
+            Event::Raise(o, d, _) => Ok(self.bound(start, o, Aspect::Low(d), Aspect::High(d))),
+            Event::Lower(o, d, _) => Ok(self.bound(start, o, Aspect::High(d), Aspect::Low(d))),
             Event::Drop(o, _) => {
-                let own = self.take_covers(o);
-                self.link(start, o, Aspect::Places, &own)
+                self.close_covers(o);
+                Ok(self.link(start, o, Aspect::Places))
             }
-            Event::Gone(o) => {
-                let mut leans = self.take_covers(o);
-                leans.insert(o, Aspect::Places);
-                let end = self.covers_end;
-                self.end(Span { start, end, leans })
-            }
+            Event::Gone(o) => self.gone(start, o),
             Event::Dead(i) => {
                 let mut leans = Leans::new();
                 insert_number(&mut leans, self.conditions, i);
@@ -182,11 +176,11 @@ impl<'a> Backwards<'a> {
 
 // What both parts of a split of the object lean on. The first part has the place or the end that
 // the split gives it, whatever it was before, and the second part has the end.
-fn of_both(
+fn of_both<const K: usize>(
     o: ObjId,
-    (first, in_first): (Leans, Aspect),
-    (second, in_second): (Leans, Aspect),
-) -> Leans {
+    (first, in_first): (Leans<K>, Aspect),
+    (second, in_second): (Leans<K>, Aspect),
+) -> Leans<K> {
     let (mut leans, mut others) = (first, second);
     leans.remove(o, in_first);
     match in_second {
@@ -197,20 +191,31 @@ fn of_both(
     leans
 }
 
-// The events that stay.
-fn kept(alloc: Global, events: &[Event], jumps: &[usize]) -> Result<Log, AllocError> {
-    let mut kept = Log::new(alloc);
-    let mut next = 0;
-    for (at, (e, jump)) in events.iter().zip(jumps).enumerate() {
+// Puts an event of the record where another one stands.
+fn put_at(log: &mut Log, to: usize, from: usize) {
+    let events = log.events();
+    if to < events.len() && from < events.len() {
+        let e = events[from];
+        log.set(to, e);
+    }
+}
+
+// Takes out of the record what the jumps leave out.
+fn leave_out(log: &mut Log, jumps: &[usize]) {
+    let mut next: usize = 0;
+    let mut stays: usize = 0;
+    for (at, jump) in jumps.iter().enumerate() {
         if next <= at {
             if *jump > at {
                 next = *jump;
             } else {
-                kept.add(*e)?;
+                put_at(log, stays, at);
+                stays = stays.saturating_add(1);
             }
         }
     }
-    Ok(kept)
+    let end = stays.min(log.mark());
+    log.cut_back(end);
 }
 
 /// The same events in a record of their own.
@@ -224,17 +229,37 @@ pub fn copied(alloc: Global, events: &[Event]) -> Result<Log, AllocError>
     Ok(copy)
 }
 
-/// The events of a derivation without those that no later step leans on. What is no derivation is
-/// left as it is.
-pub fn needed(alloc: Global, conditions: &[Cond], events: &[Event]) -> Result<Log, AllocError> {
-    let mut read = Backwards::start(alloc, conditions, events.len())?;
+// For each event where the derivation goes on if it is left out, or 0 where it stays; none where
+// the events are no derivation.
+fn jumps_of<const K: usize>(
+    alloc: Global,
+    conditions: &[Cond],
+    events: &[Event],
+) -> Result<Option<Vec<usize>>, AllocError>
+    requires { K ≤ MAX_DIMS }
+{
+    let mut read = Backwards::<K>::start(alloc, conditions, events.len())?;
     let mut end = events.len();
     for e in events.iter().rev() {
         let start = end.saturating_sub(1);
         if !read.take(start, end, *e)? {
-            return copied(alloc, events);
+            return Ok(None);
         }
         end = start;
     }
-    kept(alloc, events, read.jumps.as_slice())
+    Ok(Some(read.jumps))
+}
+
+/// Takes out of a derivation what no later step leans on. What is no derivation is left as it is.
+pub fn drop_needless<const K: usize>(
+    alloc: Global,
+    conditions: &[Cond],
+    log: &mut Log,
+) -> Result<(), AllocError>
+    requires { K ≤ MAX_DIMS }
+{
+    if let Some(jumps) = jumps_of::<K>(alloc, conditions, log.events())? {
+        leave_out(log, jumps.as_slice());
+    }
+    Ok(())
 }

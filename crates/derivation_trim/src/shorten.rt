@@ -2,8 +2,8 @@
 
 ghost use Rattle.std.specs.Prelude.{◌≤◌, IfOk, length};
 
-use crate::joins::joined;
-use crate::needed::{copied, needed};
+use crate::joins::join_ends;
+use crate::needed::{copied, drop_needless};
 use crate::walk::with_simpler_covers;
 use derivation::Log;
 use geo_base::MAX_DIMS;
@@ -21,9 +21,9 @@ pub fn shortened<const K: usize>(
     requires { K ≤ MAX_DIMS }
     ensures { IfOk result (λ shorter. length shorter.events ≤ length log.now.events) }
 {
-    let simpler = with_simpler_covers(alloc, conditions, first, log.events())?;
-    let kept = needed(alloc, conditions, simpler.events())?;
-    let shorter = joined(alloc, kept.events())?;
+    let mut shorter = with_simpler_covers(alloc, conditions, first, log.events())?;
+    drop_needless::<K>(alloc, conditions, &mut shorter)?;
+    join_ends(&mut shorter);
     if shorter.events().len() <= log.events().len() {
         Ok(shorter)
     } else {

@@ -50,22 +50,22 @@ fn mend<const K: usize, R: Recorder>(
     ensures grows { Grows R.keeps R.list R.refusals rec.old rec.new result }
 {
     match defect {
-        Defect::Gone(o) => match record_gone(cs, t.state(), o, rec) {
-            Err(e) => Err(e),
-            Ok(()) => Ok(false),
-        },
-        Defect::NoPoint(o, place) => match take(cs, t, o, place, rec) {
-            Err(e) => Err(e),
-            Ok(()) => Ok(true),
-        },
-        Defect::NoLow(o, d) => match raise(cs, t, o, d, rec) {
-            Err(e) => Err(e),
-            Ok(()) => Ok(true),
-        },
-        Defect::NoHigh(o, d) => match lower(cs, t, o, d, rec) {
-            Err(e) => Err(e),
-            Ok(()) => Ok(true),
-        },
+        Defect::Gone(o) => {
+            record_gone(cs, t.state(), o, rec)?;
+            Ok(false)
+        }
+        Defect::NoPoint(o, place) => {
+            take(cs, t, o, place, rec)?;
+            Ok(true)
+        }
+        Defect::NoLow(o, d) => {
+            raise(cs, t, o, d, rec)?;
+            Ok(true)
+        }
+        Defect::NoHigh(o, d) => {
+            lower(cs, t, o, d, rec)?;
+            Ok(true)
+        }
     }
 }
 
@@ -88,13 +88,9 @@ fn take<const K: usize, R: Recorder>(
         → IsLed cs.now t.old.state t.new.state (R.list rec.old) (R.list rec.new)) }
     ensures grows { Grows R.keeps R.list R.refusals rec.old rec.new result }
 {
-    match record_drop(cs, t.state(), o, place, rec) {
-        Err(e) => Err(e),
-        Ok(()) => {
-            t.drop_shape(o, place);
-            Ok(())
-        }
-    }
+    record_drop(cs, t.state(), o, place, rec)?;
+    t.drop_shape(o, place);
+    Ok(())
 }
 
 /// Takes away a low end that has no point.
@@ -121,13 +117,9 @@ fn raise<const K: usize, R: Recorder>(
     let region = state.region(o);
     let _high = region.hi.get(d);
     let low = region.lo.get(d);
-    match record_raise(cs, state, o, d, rec) {
-        Err(e) => Err(e),
-        Ok(()) => {
-            t.set_low(o, d, low + 1);
-            Ok(())
-        }
-    }
+    record_raise(cs, state, o, d, rec)?;
+    t.set_low(o, d, low + 1);
+    Ok(())
 }
 
 /// Takes away a high end that has no point.
@@ -154,13 +146,9 @@ fn lower<const K: usize, R: Recorder>(
     let region = state.region(o);
     let _low = region.lo.get(d);
     let high = region.hi.get(d);
-    match record_lower(cs, state, o, d, rec) {
-        Err(e) => Err(e),
-        Ok(()) => {
-            t.set_high(o, d, high - 1);
-            Ok(())
-        }
-    }
+    record_lower(cs, state, o, d, rec)?;
+    t.set_high(o, d, high - 1);
+    Ok(())
 }
 
 /// Narrows one object until nothing is wrong with it.
@@ -212,10 +200,8 @@ pub fn pass<const K: usize, R: Recorder>(
     ensures grows { Grows R.keeps R.list R.refusals rec.old rec.new result }
 {
     if let Some(i) = first_refuted(cs, t.state()) {
-        return match record_dead(cs, t.state(), i, rec) {
-            Err(e) => Err(e),
-            Ok(()) => Ok(Outcome::Dead),
-        };
+        record_dead(cs, t.state(), i, rec)?;
+        return Ok(Outcome::Dead);
     }
     let mut changed = false;
     let objects = t.state().objects();

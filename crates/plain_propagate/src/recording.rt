@@ -28,10 +28,7 @@ fn record_event<R: Recorder>(rec: &mut R, e: Event) -> Result<(), AllocError>
     ensures added { OnOk result (R.keeps ≡ true → R.list rec.new ≡ R.list rec.old ++ e ∷ []) }
     ensures grows { Grows R.keeps R.list R.refusals rec.old rec.new result }
 {
-    match rec.add(e) {
-        Err(error) => Err(error),
-        Ok(()) => Ok(()),
-    }
+    rec.add(e)
 }
 
 /// Names a condition that is refuted with the object at that place in that box.
@@ -54,10 +51,7 @@ fn record_refuted<const K: usize, R: Recorder>(
 {
     match first_refuted_at(cs, s, o, place, b) {
         None => Ok(()),
-        Some(i) => match record_event(rec, Event::By(i as u32)) {
-            Err(e) => Err(e),
-            Ok(()) => Ok(()),
-        },
+        Some(i) => record_event(rec, Event::By(i as u32)),
     }
 }
 
@@ -88,16 +82,10 @@ fn record_points<const K: usize, R: Recorder>(
     ensures grows { Grows R.keeps R.list R.refusals rec.old rec.new result }
 {
     if b.is_empty() {
-        return match record_event(rec, Event::By(1)) {
-            Err(e) => Err(e),
-            Ok(()) => Ok(()),
-        };
+        return record_event(rec, Event::By(1));
     }
     if d == K {
-        return match record_refuted(cs, s, o, place, b, rec) {
-            Err(e) => Err(e),
-            Ok(()) => Ok(()),
-        };
+        return record_refuted(cs, s, o, place, b, rec);
     }
     let _objects = s.objects();
     let last = b.hi.get(d);
@@ -105,10 +93,7 @@ fn record_points<const K: usize, R: Recorder>(
         record_event(rec, Event::Cut(d, v))?;
         record_points(cs, s, o, place, &cut_to(b, d, v), d + 1, rec)?;
     }
-    match record_points(cs, s, o, place, &cut_to(b, d, last), d + 1, rec) {
-        Err(e) => Err(e),
-        Ok(()) => Ok(()),
-    }
+    record_points(cs, s, o, place, &cut_to(b, d, last), d + 1, rec)
 }
 
 /// Records the cover of a place, if it is there.
@@ -167,10 +152,7 @@ fn record_places<const K: usize, R: Recorder>(
     for place in 1..17u8 {
         record_place(cs, s, o, place, b, rec)?;
     }
-    match record_event(rec, Event::EndCovers) {
-        Err(e) => Err(e),
-        Ok(()) => Ok(()),
-    }
+    record_event(rec, Event::EndCovers)
 }
 
 /// Records that the condition of that number is refuted.
@@ -187,10 +169,7 @@ pub fn record_dead<const K: usize, R: Recorder>(
         → IsClosed cs.now s.now (R.list rec.old) (R.list rec.new)) }
     ensures grows { Grows R.keeps R.list R.refusals rec.old rec.new result }
 {
-    match record_event(rec, Event::Dead(i as u32)) {
-        Err(e) => Err(e),
-        Ok(()) => Ok(()),
-    }
+    record_event(rec, Event::Dead(i as u32))
 }
 
 /// Records that the object has no point, at any place.

@@ -9,10 +9,11 @@ use Rattle.geo_state.proofs.Numbers.{kept64, small_kept}
 use Rattle.geo_state.proofs.Shapes.{lo_long, hi_long}
 use Rattle.plain_propagate.proofs.Recorded.{led_from}
 use Rattle.plain_propagate.proofs.Narrowed.{high_mended}
+use Rattle.derivation.proofs.Continuing.{growth_failed}
 use Rattle.plain_propagate.proofs.mending.lower.Goals as goal
 
-pub returns-in-Ok-clause-narrower : goal.returns-in-Ok-clause-narrower
-returns-in-Ok-clause-narrower g c =
+pub returns-clause-narrower : goal.returns-clause-narrower
+returns-clause-narrower g c =
     let S = c.args.t.now.state in
     let o = c.args.o.0 in
     let d = c.args.d in
@@ -26,8 +27,8 @@ returns-in-Ok-clause-narrower g c =
     (lo_long g.row.K S o shape c.requires.defect.object ∙ sym (hi_long g.row.K S o shape c.requires.defect.object))
     (small_kept v within ∙ ap (λ (z : ℤ). z +ℤ negsuc 0) at) c.set_high.ensures.state
 
-pub returns-in-Ok-clause-led : goal.returns-in-Ok-clause-led
-returns-in-Ok-clause-led g c = λ kept.
+pub returns-clause-led : goal.returns-clause-led
+returns-clause-led g c = λ kept.
     let S = c.args.t.now.state in
     let o = c.args.o.0 in
     let d = c.args.d in
@@ -37,7 +38,7 @@ returns-in-Ok-clause-led g c = λ kept.
     let v : ℤ = to_z w64 (of_z w64 c.get-high.result) +ℤ negsuc 0 in
     let within : IsSmallNumber v = (omega (arith, ints, at, c.requires.defect.wide, (small o d).0, (small o d).1), omega (arith, ints, at, c.requires.defect.wide, (small o d).0, (small o d).1)) in
     led_from c.args.cs.now S c.state-state.result.now c.set_high.new.self.state (λ (X : State). set X o (with_high (reach X o) d (high X o d +ℤ negsuc 0))) _ _ e
-    (c.set_high.ensures.state ∙ ap (λ (z : ℤ). set S o (with_high (reach S o) d z)) (small_kept v within ∙ ap (λ (z : ℤ). z +ℤ negsuc 0) at)) (c.in-Ok.ensures.led kept)
+    (c.set_high.ensures.state ∙ ap (λ (z : ℤ). set S o (with_high (reach S o) d z)) (small_kept v within ∙ ap (λ (z : ℤ). z +ℤ negsuc 0) at)) (c.in_ok-record_lower.ensures.led kept)
 
 pub set_high-requires : goal.set_high-requires
 set_high-requires g c =
@@ -55,8 +56,8 @@ set_high-requires g c =
     let narrower : to_z w64 (of_z w64 v) ≤ℤ high S o d = subst (λ (z : ℤ). z ≤ℤ high S o d) (sym (small_kept v within)) (omega (arith, ints, at)) in
     search rules
 
-pub returns-in-Err-clause-grows : goal.returns-in-Err-clause-grows
-returns-in-Err-clause-grows g c = c.in-Err.ensures.grows
+pub returns-in_err-record_lower-clause-grows : goal.returns-in_err-record_lower-clause-grows
+returns-in_err-record_lower-clause-grows g c = growth_failed c.in_err-record_lower.ensures.grows _ c.from_residual.ensures.0
 
-pub returns-in-Ok-clause-grows : goal.returns-in-Ok-clause-grows
-returns-in-Ok-clause-grows g c = c.in-Ok.ensures.grows
+pub returns-clause-grows : goal.returns-clause-grows
+returns-clause-grows g c = c.in_ok-record_lower.ensures.grows

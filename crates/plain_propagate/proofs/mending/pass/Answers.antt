@@ -17,8 +17,8 @@ use Rattle.plain_propagate.proofs.Passing.{Along, along_changed, along_fine}
 use Rattle.plain_propagate.proofs.mending.pass.Goals as goal
 use Rattle.plain_propagate.proofs.mending.pass.Goals.{in-Changed, in-Fine}
 
-pub returns-in-Ok-clause-passes : goal.returns-in-Ok-clause-passes
-returns-in-Ok-clause-passes g c =
+pub returns-in-Some-clause-passes : goal.returns-in-Some-clause-passes
+returns-in-Some-clause-passes g c =
     let cs = c.args.cs.now in (
       subst (NoneInside cs) c.state.ensures.value (refuted_hopeless cs c.state.result.now (some_refuted cs c.in-Some.i c.state.result.now c.in-Some.ensures.found)),
       inside_self c.args.t.now.state,
@@ -76,14 +76,14 @@ returns-else-changed-clause-passes g c =
           (λ o h. all o (omega (arith, h, c.objects-objects.ensures.number, ap length c.state-2.ensures.value, c.loop-o-test.false))),
     )
 
-pub returns-in-Err-clause-grows : goal.returns-in-Err-clause-grows
-returns-in-Err-clause-grows g c = c.in-Err.ensures.grows
+pub returns-in_err-record_dead-clause-grows : goal.returns-in_err-record_dead-clause-grows
+returns-in_err-record_dead-clause-grows g c = growth_failed c.in_err-record_dead.ensures.grows _ c.from_residual.ensures.0
 
-pub returns-in-Ok-clause-grows : goal.returns-in-Ok-clause-grows
-returns-in-Ok-clause-grows g c = c.in-Ok.ensures.grows
+pub returns-in-Some-clause-grows : goal.returns-in-Some-clause-grows
+returns-in-Some-clause-grows g c = c.in_ok-record_dead.ensures.grows
 
 pub returns-in_err-outcome-clause-grows : goal.returns-in_err-outcome-clause-grows
-returns-in_err-outcome-clause-grows g c = growth_failed (growth_on c.loop-o.invariant.grows c.in_err-outcome.ensures.grows) _ c.from_residual.ensures.0
+returns-in_err-outcome-clause-grows g c = growth_failed (growth_on c.loop-o.invariant.grows c.in_err-outcome.ensures.grows) _ c.from_residual-in_err-outcome.ensures.0
 
 pub returns-in-Dead-clause-grows : goal.returns-in-Dead-clause-grows
 returns-in-Dead-clause-grows g c = growth_on c.loop-o.invariant.grows c.in_ok-outcome.ensures.grows

@@ -2,6 +2,7 @@ use Rattle.std.proofs.Common.{rules, length, ◌≡◌, ◌<◌, ◌+◌, ℕ, a
 use Rattle.std.specs.Int.{w64}
 use mir.Val.{to_z, of_z}
 use Rattle.std.proofs.lemmas.Int.{ints}
+use Rattle.std.proofs.lemmas.Result.{on_ok_weaker}
 use Rattle.geo_base.specs.Boxes.{coordinate}
 use Rattle.geo_conditions.specs.Reach.{with_at, dims}
 use Rattle.geo_conditions.specs.Regions.{region_of}
@@ -14,9 +15,9 @@ use Rattle.plain_propagate.proofs.Recorded.{RecordedUpTo, crossed_empty, cover_e
 use Rattle.derivation.proofs.Continuing.{growth_none, growth_on, growth_failed}
 use Rattle.plain_propagate.proofs.recording.+record_points.Goals as goal
 
-pub returns-in-Ok-clause-cover : goal.returns-in-Ok-clause-cover
-returns-in-Ok-clause-cover g t c = λ kept.
-    cover_empty c.args.cs.now c.args.s.now c.args.o.0 c.args.place (region_of c.args.b.now) (g.R.Recorder.list c.args.rec.now) (g.R.Recorder.list c.record_event.new.rec) (crossed_empty g.row.K (region_of c.args.b.now) c.requires.lows c.requires.highs c.if-is_empty.ensures.ends) (c.in-Ok.ensures.added kept)
+pub returns-then-is_empty-clause-cover : goal.returns-then-is_empty-clause-cover
+returns-then-is_empty-clause-cover g t c = on_ok_weaker c.record_event.result (λ ok kept.
+    cover_empty c.args.cs.now c.args.s.now c.args.o.0 c.args.place (region_of c.args.b.now) (g.R.Recorder.list c.args.rec.now) (g.R.Recorder.list c.record_event.new.rec) (crossed_empty g.row.K (region_of c.args.b.now) c.requires.lows c.requires.highs c.if-is_empty.ensures.ends) (ok kept)) c.record_event.ensures.added
 
 pub record_refuted-requires : goal.record_refuted-requires
 record_refuted-requires g t c =
@@ -69,19 +70,19 @@ record_points-requires-2 g t c κs within =
     let none : HasNoPoint c.args.cs.now c.args.s.now c.args.o.0 c.args.place (region_of c.cut_to-2.result) = cut_none c.args.cs.now c.args.s.now c.args.o.0 c.args.place b (region_of c.cut_to-2.result) c.args.d _ k l (omega (arith, ints, c.get-last.ensures, c.if-is_empty.ensures.ends c.args.d d)) (omega (arith, ints, c.get-last.ensures)) c.cut_to-2.ensures c.requires.none in
     search rules
 
-pub returns-in-Ok-record_points-clause-cover : goal.returns-in-Ok-record_points-clause-cover
-returns-in-Ok-record_points-clause-cover g t c = λ kept.
+pub returns-clause-cover : goal.returns-clause-cover
+returns-clause-cover g t c = on_ok_weaker c.record_points-2.result (λ ok kept.
     let b = region_of c.args.b.now in
     let last = to_z w64 (of_z w64 c.get-last.result) in
     let at_end : to_z w64 c.loop-v.v-bits ≡ last = omega (arith, ints, c.loop-v.invariant.to, c.loop-v-test.false) in
-    upto_end c.args.cs.now c.args.s.now c.args.o.0 c.args.place b (region_of c.cut_to-2.result) c.args.d last _ _ _ (kept64 c.get-last.result c.get-last.type_inv ∙ c.get-last.ensures) c.cut_to-2.ensures (c.in-Ok-record_points.ensures.cover kept)
-    (subst (λ (v : ℤ). RecordedUpTo c.args.cs.now c.args.s.now c.args.o.0 c.args.place b c.args.d v (g.R.Recorder.list c.args.rec.now) (g.R.Recorder.list c.loop-v.rec)) at_end (c.loop-v.invariant.recorded kept))
+    upto_end c.args.cs.now c.args.s.now c.args.o.0 c.args.place b (region_of c.cut_to-2.result) c.args.d last _ _ _ (kept64 c.get-last.result c.get-last.type_inv ∙ c.get-last.ensures) c.cut_to-2.ensures (ok kept)
+    (subst (λ (v : ℤ). RecordedUpTo c.args.cs.now c.args.s.now c.args.o.0 c.args.place b c.args.d v (g.R.Recorder.list c.args.rec.now) (g.R.Recorder.list c.loop-v.rec)) at_end (c.loop-v.invariant.recorded kept))) c.record_points-2.ensures.cover
 
-pub returns-in-Err-clause-grows : goal.returns-in-Err-clause-grows
-returns-in-Err-clause-grows g t c = c.in-Err.ensures.grows
+pub returns-then-is_empty-clause-grows : goal.returns-then-is_empty-clause-grows
+returns-then-is_empty-clause-grows g t c = c.record_event.ensures.grows
 
-pub returns-in-Ok-clause-grows : goal.returns-in-Ok-clause-grows
-returns-in-Ok-clause-grows g t c = c.in-Ok.ensures.grows
+pub returns-then-d-clause-grows : goal.returns-then-d-clause-grows
+returns-then-d-clause-grows g t c = c.record_refuted.ensures.grows
 
 pub returns-in_err-record_event-clause-grows : goal.returns-in_err-record_event-clause-grows
 returns-in_err-record_event-clause-grows g t c = growth_failed (growth_on c.loop-v.invariant.grows c.in_err-record_event.ensures.grows) _ c.from_residual.ensures.0
@@ -89,8 +90,5 @@ returns-in_err-record_event-clause-grows g t c = growth_failed (growth_on c.loop
 pub returns-in_err-record_points-clause-grows : goal.returns-in_err-record_points-clause-grows
 returns-in_err-record_points-clause-grows g t c = growth_failed (growth_on (growth_on c.loop-v.invariant.grows c.in_ok-record_event.ensures.grows) c.in_err-record_points.ensures.grows) _ c.from_residual-in_err-record_points.ensures.0
 
-pub returns-in-Err-record_points-clause-grows : goal.returns-in-Err-record_points-clause-grows
-returns-in-Err-record_points-clause-grows g t c = growth_on c.loop-v.invariant.grows c.in-Err-record_points.ensures.grows
-
-pub returns-in-Ok-record_points-clause-grows : goal.returns-in-Ok-record_points-clause-grows
-returns-in-Ok-record_points-clause-grows g t c = growth_on c.loop-v.invariant.grows c.in-Ok-record_points.ensures.grows
+pub returns-clause-grows : goal.returns-clause-grows
+returns-clause-grows g t c = growth_on c.loop-v.invariant.grows c.record_points-2.ensures.grows
