@@ -3,3 +3,4 @@ pub mod Said
 pub mod Left
 pub mod Pairs
 pub mod Rules
+pub mod Steps

@@ -13,7 +13,9 @@ pub struct Fault {
 }
 
 /// Where each word stands in the order in which the words of one place are taken, in the order of the words.
-const RANKS: [u8; 19] = [6, 7, 8, 9, 10, 0, 1, 2, 3, 4, 5, 11, 12, 13, 14, 15, 16, 17, 18];
+const RANKS: [u8; 19] = [
+    6, 7, 8, 9, 10, 0, 1, 2, 3, 4, 5, 11, 12, 13, 14, 15, 16, 17, 18,
+];
 
 /// Where the word stands in the order in which the words of one place are taken.
 fn word_rank(word: FaultWord) -> u8

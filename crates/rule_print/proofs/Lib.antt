@@ -7,3 +7,4 @@ pub mod ExpressionsRead
 pub mod FormulasAgain
 pub mod FormulasRead
 pub mod ReadBack
+pub mod Loops

@@ -1,0 +1,51 @@
+-- One member more: what was spelled, and what is left to spell, is the whole.
+use Rattle.std.proofs.Common.{◌≡◌, ◌<◌, ◌+◌, ◌++◌, ◌∷◌, [], ℕ, List, Bool, true, false, map, drop, length, get_or, append_assoc, sym, ap, ◌∙◌, refl}
+use Rattle.std.proofs.lemmas.List.{append-nil, drop_more}
+use Rattle.geo_tokens.specs.declared.token.Keyword.{Keyword}
+use Rattle.rule_syntax.specs.declared.tree.Formula.{Formula}
+use Rattle.rule_syntax.specs.declared.tree.ProdStep.{ProdStep}
+use Rattle.rule_syntax.specs.declared.tree.SumStep.{SumStep}
+use Rattle.rule_syntax.specs.Tree.{sums, products, formulas}
+use Rattle.rule_syntax.specs.View.{sum_view, product_view, formula_view}
+use Rattle.rule_print.specs.Canonical.{Written, word}
+use Rattle.rule_print.specs.declared.rank.FormulaRank.{FormulaRank}
+use Rattle.rule_print.specs.Spelled.{formula_spelling, mark_before, more_operands_spelling, operands_spelling, sum_spelling, sum_step_spelling, product_spelling, product_step_spelling}
+use Rattle.rule_print.proofs.Printing.{left_operands}
+
+-- behind what was spelled, the next member, and the rest
+joined : {X : Type 0} (spell : List X → List Written) (one : X → List Written) → ((x : X) (xs : List X) → spell (x ∷ xs) ≡ one x ++ spell xs) →
+    (xs : List X) (i : ℕ) (x : X) (now later whole : List Written) → i < length xs → x ≡ get_or xs i x → later ≡ now ++ one x → now ++ spell (drop i xs) ≡ whole → later ++ spell (drop (i + 1) xs) ≡ whole
+joined spell one cons xs i x now later whole h e is k =
+    ap (λ l. l ++ spell (drop (i + 1) xs)) is
+    ∙ append_assoc now (one x) (spell (drop (i + 1) xs))
+    ∙ sym (ap (λ l. now ++ l) (ap spell (drop_more xs i x h) ∙ ap (λ y. spell (y ∷ drop (i + 1) xs)) (sym e) ∙ cons x (drop (i + 1) xs)))
+    ∙ k
+
+pub sums-step : (steps : List SumStep) (i : ℕ) (s : SumStep) (now later whole : List Written) → i < length steps → s ≡ get_or steps i s → later ≡ now ++ sum_step_spelling (sum_view s) →
+    now ++ sum_spelling (sums (map sum_view (drop i steps))) ≡ whole → later ++ sum_spelling (sums (map sum_view (drop (i + 1) steps))) ≡ whole
+sums-step = joined (λ xs. sum_spelling (sums (map sum_view xs))) (λ s. sum_step_spelling (sum_view s)) (λ x xs. refl)
+
+pub products-step : (steps : List ProdStep) (i : ℕ) (s : ProdStep) (now later whole : List Written) → i < length steps → s ≡ get_or steps i s → later ≡ now ++ product_step_spelling (product_view s) →
+    now ++ product_spelling (products (map product_view (drop i steps))) ≡ whole → later ++ product_spelling (products (map product_view (drop (i + 1) steps))) ≡ whole
+products-step = joined (λ xs. product_spelling (products (map product_view xs))) (λ s. product_step_spelling (product_view s)) (λ x xs. refl)
+
+operands-next : (fs : List Formula) (i : ℕ) (f : Formula) → i < length fs → f ≡ get_or fs i f → drop i fs ≡ f ∷ drop (i + 1) fs
+operands-next fs i f h e = drop_more fs i f h ∙ ap (λ y. y ∷ drop (i + 1) fs) (sym e)
+
+pub operands-step : (mark : Keyword) (r : FormulaRank) (b : Bool) (fs : List Formula) (i : ℕ) (f : Formula) (now marked later whole : List Written) → i < length fs → f ≡ get_or fs i f →
+    marked ≡ now ++ mark_before b mark → later ≡ marked ++ formula_spelling r (formula_view f) →
+    now ++ left_operands mark r b (formulas (map formula_view (drop i fs))) ≡ whole → later ++ left_operands mark r false (formulas (map formula_view (drop (i + 1) fs))) ≡ whole
+operands-step mark r true fs i f now marked later whole h e m is k =
+    let rest = more_operands_spelling mark r (formulas (map formula_view (drop (i + 1) fs))) in
+    let own = formula_spelling r (formula_view f) in
+    ap (λ l. l ++ rest) (is ∙ ap (λ l. l ++ own) (m ∙ append-nil now))
+    ∙ append_assoc now own rest
+    ∙ sym (ap (λ xs. now ++ operands_spelling mark r (formulas (map formula_view xs))) (operands-next fs i f h e))
+    ∙ k
+operands-step mark r false fs i f now marked later whole h e m is k =
+    let rest = more_operands_spelling mark r (formulas (map formula_view (drop (i + 1) fs))) in
+    let own = formula_spelling r (formula_view f) in
+    ap (λ l. l ++ rest) (is ∙ ap (λ l. l ++ own) m ∙ append_assoc now (word mark ∷ []) own)
+    ∙ append_assoc now (word mark ∷ own) rest
+    ∙ sym (ap (λ xs. now ++ more_operands_spelling mark r (formulas (map formula_view xs))) (operands-next fs i f h e))
+    ∙ k
