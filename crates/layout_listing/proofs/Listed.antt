@@ -1,5 +1,5 @@
 -- What a search has listed, and how its listing goes on and ends.
-use Rattle.std.proofs.Common.{◌≡◌, ◌≤◌, ◌<◌, ℕ, ℤ, Bool, true, false, List, [], ◌∷◌, ◌++◌, length, map, take, drop, sym, ap, ◌∙◌, subst, arith, refl, Option, Some, None}
+use Rattle.std.proofs.Common.{◌≡◌, ◌≤◌, ◌<◌, ℕ, ℤ, Bool, true, false, List, [], ◌∷◌, ◌++◌, length, map, take, drop, sym, ap, ◌∙◌, subst, arith, refl, None, Some}
 use Rattle.std.specs.Prelude.{All, filter, if◌then◌else◌}
 use Rattle.std.proofs.lemmas.List.{length-map, append-nil, length-take, length-take-le, map-append, take-append-drop}
 use Rattle.std.proofs.Math.Seq.{take-append_seam}
@@ -9,13 +9,13 @@ use Rattle.geo_conditions.specs.Walk.{Tree, IsFront, IsIn, IsWhole, GoesOn, is_f
 use Rattle.geo_conditions.proofs.Fronts.{fronts_agree}
 use Rattle.geo_conditions.proofs.Beginnings.{front_begins, take_front}
 use Rattle.geo_conditions.proofs.Steps.{front_none}
+use Rattle.layout_search.proofs.Outcomes.{same-some}
 use Rattle.layout_search.proofs.Walked.{none-kept}
 use Rattle.problem_data.specs.Problem.{ProblemData}
 use Rattle.problem_data.specs.Cells.{IsTuple}
 use Rattle.problem_data.specs.Layouts.{IsLayout}
 use Rattle.problem_data.specs.WellFormed.{IsWellFormed}
-use Rattle.trail_search.specs.Next.{Quest, Answers, AsBefore, HasFound, Steps}
-use Rattle.trail_search.specs.declared.step.Step.{Step}
+use Rattle.trail_search.specs.Next.{Quest, Answers, HasFound}
 use Rattle.trail_search.specs.declared.step.Step.TheVariants.{Found, Ended, Budget}
 use Rattle.walk_listings.proofs.Listings.{goes_on_from}
 use Rattle.layout_listing.specs.Page.{IsWalkOf, IsPage}
@@ -41,13 +41,6 @@ since W w u f g short none =
 
 alone : (W : Tree) (q : List ℤ) → is_full W q ≡ true → filter (is_full W) (q ∷ []) ≡ q ∷ []
 alone W q e = subst (λ (b : Bool). (if b then q ∷ [] else []) ≡ q ∷ []) (sym e) refl
-
-same-some : {X : Type 0} (x y : X) → Some x ≡ Some y → x ≡ y
-same-some x y e = cc
-
--- an answer of a search that was not over
-pub answered : (a b : Quest) (s : Step) → a.over ≡ None → Steps a s b → Answers a s b
-answered a b s none h = subst (λ (o : Option Step). AsBefore o a s b) none h.2
 
 module _ (p : ProblemData) (W : Tree) (n : ℕ) (well : IsWellFormed p) (of : IsWalkOf p W) where
   pub none-listed : (a : Quest) → a.walk ≡ W → a.budget ≡ n → a.over ≡ None → a.walked ≡ 0 → HasListed p W n a []

@@ -3,5 +3,5 @@ pub mod Alike
 pub mod AlikeRows
 pub mod States
 pub mod Members
-mod Outcomes
+pub mod Outcomes
 mod Spots

@@ -5,7 +5,9 @@ use Rattle.geo_base.specs.Tuple.{Tuple}
 use Rattle.geo_conditions.specs.declared.cond.Cond.{Cond}
 use Rattle.geo_conditions.specs.Reach.{IsState}
 use Rattle.geo_conditions.specs.Walk.{Tree, Order, variables_in, values, is_full, IsFront, IsWhole, GoesOn, Precedes}
-use Rattle.layout_search.proofs.Members.{values-tell}
+use Rattle.layout_search.proofs.Members.{found-tuple, values-tell}
+use Rattle.layout_search.proofs.States.{state-is}
+use Rattle.layout_search.specs.Found.{HasFoundIn}
 use Rattle.problem_data.specs.Problem.{ProblemData}
 use Rattle.problem_data.specs.Cells.{IsTuple}
 use Rattle.problem_data.specs.Layouts.{IsLayout}
@@ -23,12 +25,12 @@ use Rattle.layout_search.specs.declared.first.Outcome.TheVariants as outcomes
 use Rattle.layout_search.proofs.Walked.{IsGood, found-listed, found-first, ended-listed, ended-none, spent-listed}
 
 -- a search that has not set off, over that walk and within that budget
-pub record IsFresh (W : Tree) (n : ℕ) (a : Quest) : Type 0 where
-  pub walk : a.walk ≡ W
-  pub budget : a.budget ≡ n
-  pub walked : a.walked ≡ 0
+record IsFresh (W : Tree) (n : ℕ) (a : Quest) : Type 0 where
+  walk : a.walk ≡ W
+  budget : a.budget ≡ n
+  walked : a.walked ≡ 0
 
-same-some : {X : Type 0} (x y : X) → Some x ≡ Some y → x ≡ y
+pub same-some : {X : Type 0} (x y : X) → Some x ≡ Some y → x ≡ y
 same-some x y e = cc
 
 module _ (p : ProblemData) (cs : List Cond) (well : IsWellFormed p) (state : IsState p.dims (first_state p)) (are : AreConditionsOf p cs) where
@@ -66,30 +68,68 @@ module _ (p : ProblemData) (cs : List Cond) (well : IsWellFormed p) (state : IsS
     found-once t u it iu ht hu =
         values-tell p u t well iu it (subst (λ (V : Tree). values V.variables u ≡ values V.variables t) (same ∙ fresh.walk) (same-some (values b.walk.variables u) (values b.walk.variables t) (sym hu ∙ ht)))
 
-    pub found-lists : (t : Tuple) → Answers a Found b → IsTuple p t → HasFound b t → Lists {R = Unit {0}} p cs n (outcomes.Found t)
+    found-lists : (t : Tuple) → Answers a Found b → IsTuple p t → HasFound b t → Lists {R = Unit {0}} p cs n (outcomes.Found t)
     found-lists t h it ht = let f = first-found h in subst (λ (u : Tuple). Lists {R = Unit {0}} p cs n (outcomes.Found u)) (found-once t f.0 it f.1 ht f.2) f.4
 
-    pub found-finds : (t : Tuple) → Answers a Found b → IsTuple p t → HasFound b t → IsFirstLayout p t
+    found-finds : (t : Tuple) → Answers a Found b → IsTuple p t → HasFound b t → IsFirstLayout p t
     found-finds t h it ht = let f = first-found h in subst (IsFirstLayout p) (found-once t f.0 it f.1 ht f.2) f.3
 
-    pub ended-lists : {R : Type 0} (rec : R) → Answers a Ended b → Lists p cs n (outcomes.Nothing rec)
+    ended-lists : {R : Type 0} (rec : R) → Answers a Ended b → Lists p cs n (outcomes.Nothing rec)
     ended-lists rec (w, (front, count), whole, none, few, over) =
         ended-listed p.dims cs (first_state p) (order_of p) well.some state are.fit (names-each p well) w n (none-before w none)
         (of-walk (λ (V : Tree). IsFront V w) front) (subst (λ (V : Tree). IsWhole V w) fresh.walk whole) (omega (arith, count, few, fresh.budget))
 
-    pub ended-finds : Answers a Ended b → HasNoLayout p
+    ended-finds : Answers a Ended b → HasNoLayout p
     ended-finds (w, (front, count), whole, none, few, over) t l =
         ended-none p.dims cs (first_state p) (order_of p) well.some state are.fit (names-each p well) w n (none-before w none)
         (of-walk (λ (V : Tree). IsFront V w) front) (subst (λ (V : Tree). IsWhole V w) fresh.walk whole) t (good t l)
 
-    pub ended-derives : (es : List Event) → es ≡ b.events → HasDerived b → IsDerivation cs (first_state p) es
+    ended-derives : (es : List Event) → es ≡ b.events → HasDerived b → IsDerivation cs (first_state p) es
     ended-derives es e h = subst (IsDerivation cs (first_state p)) (sym e) (of-walk (λ (V : Tree). IsDerivation V.conditions V.first b.events) h)
 
-    pub budget-lists : Answers a Budget b → Lists {R = Unit {0}} p cs n outcomes.OutOfBudget
+    budget-lists : Answers a Budget b → Lists {R = Unit {0}} p cs n outcomes.OutOfBudget
     budget-lists (w, (front, count), spent, more, none, over) =
         spent-listed p.dims cs (first_state p) (order_of p) well.some state are.fit (names-each p well) w n (none-before w none)
         (of-walk (λ (V : Tree). IsFront V w) front) (subst (λ (V : Tree). GoesOn V w) fresh.walk more) (count ∙ spent ∙ fresh.budget)
 
--- what the first answer of a search that is not over says
-pub first-answer : (a b : Quest) (s : Step) → a.over ≡ None → Steps a s b → (b.walk ≡ a.walk) × Answers a s b
-first-answer a b s none h = (h.0, subst (λ (o : Option Step). AsBefore o a s b) none h.2)
+-- an answer of a search that was not over
+pub answered : (a b : Quest) (s : Step) → a.over ≡ None → Steps a s b → Answers a s b
+answered a b s none h = subst (λ (o : Option Step). AsBefore o a s b) none h.2
+
+-- a search over the walk of a problem, within a budget, and what its first answer leaves of it
+pub record Begins (p : ProblemData) (cs : List Cond) (n : ℕ) (a b : Quest) (s : Step) : Type 0 where
+  pub well : IsWellFormed p
+  pub are : AreConditionsOf p cs
+  pub walk : a.walk ≡ walk_of p cs
+  pub budget : a.budget ≡ n
+  pub walked : a.walked ≡ 0
+  pub over : a.over ≡ None
+  pub steps : Steps a s b
+
+module _ (p : ProblemData) (cs : List Cond) (n : ℕ) (a b : Quest) where
+  fresh-of : (s : Step) → Begins p cs n a b s → IsFresh (walk_of p cs) n a
+  fresh-of s h = record { walk = h.walk; budget = h.budget; walked = h.walked }
+
+  pub first-tuple : Begins p cs n a b Found → (b.walk.first ≡ first_state p) × HasFoundIn p b
+  first-tuple h = (
+    ap (λ (W : Tree). W.first) (h.steps.0 ∙ h.walk),
+    found-tuple p cs None h.well h.are.fit a b h.walk h.steps.0 (answered a b Found h.over h.steps),
+  )
+
+  pub first-lists : Begins p cs n a b Found → (t : Tuple) → HasFound b t × IsTuple p t → Lists {R = Unit {0}} p cs n (outcomes.Found t)
+  first-lists h t f = found-lists p cs h.well (state-is p h.well) h.are n a b (fresh-of Found h) h.steps.0 t (answered a b Found h.over h.steps) f.1 f.0
+
+  pub first-finds : Begins p cs n a b Found → (t : Tuple) → HasFound b t × IsTuple p t → IsFirstLayout p t
+  first-finds h t f = found-finds p cs h.well (state-is p h.well) h.are n a b (fresh-of Found h) h.steps.0 t (answered a b Found h.over h.steps) f.1 f.0
+
+  pub none-lists : Begins p cs n a b Ended → {R : Type 0} → (rec : R) → Lists p cs n (outcomes.Nothing rec)
+  none-lists h rec = ended-lists p cs h.well (state-is p h.well) h.are n a b (fresh-of Ended h) h.steps.0 rec (answered a b Ended h.over h.steps)
+
+  pub none-finds : Begins p cs n a b Ended → HasNoLayout p
+  none-finds h = ended-finds p cs h.well (state-is p h.well) h.are n a b (fresh-of Ended h) h.steps.0 (answered a b Ended h.over h.steps)
+
+  pub none-derives : Begins p cs n a b Ended → (es : List Event) → es ≡ b.events → HasDerived b → IsDerivation cs (first_state p) es
+  none-derives h = ended-derives p cs h.well (state-is p h.well) h.are n a b (fresh-of Ended h) h.steps.0
+
+  pub spent-lists : Begins p cs n a b Budget → Lists {R = Unit {0}} p cs n outcomes.OutOfBudget
+  spent-lists h = budget-lists p cs h.well (state-is p h.well) h.are n a b (fresh-of Budget h) h.steps.0 (answered a b Budget h.over h.steps)

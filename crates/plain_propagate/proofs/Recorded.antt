@@ -24,7 +24,7 @@ use Rattle.derivation.proofs.Empty.{fork_is, covers_empty}
 use Rattle.derivation.proofs.Parts.{ranges_of}
 use Rattle.plain_propagate.specs.Points.{cut_to, IsSmallRegion}
 use Rattle.plain_propagate.specs.Defects.{LacksAll, LacksPoint, LacksLow, LacksHigh}
-use Rattle.derivation.specs.Chains.{IsLed, IsClosed}
+use Rattle.derivation.specs.Chains.{IsLed}
 use Rattle.plain_propagate.specs.Recorded.{RecordedCover}
 use Rattle.plain_propagate.proofs.PointSearch.{same_list, same_box, cut_in}
 

@@ -1,4 +1,4 @@
-use Rattle.std.proofs.Common.{◌≡◌, ◌≤◌, true}
+use Rattle.std.proofs.Common.{◌≡◌, true}
 use Rattle.derivation.specs.Chains.{IsLed}
 use Rattle.derivation.specs.Events.{HasGrown}
 use Rattle.plain_propagate.proofs.Narrowed.{Going, Unless, FineBelow}

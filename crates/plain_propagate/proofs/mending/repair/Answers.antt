@@ -1,4 +1,4 @@
-use Rattle.std.proofs.Common.{◌≡◌, Bool, ◌∙◌, subst, arith, Option}
+use Rattle.std.proofs.Common.{◌≡◌, Bool, ◌∙◌, subst, Option}
 use Rattle.std.specs.Prelude.{MatchBool, MatchOption}
 use Rattle.geo_conditions.specs.Reach.{State}
 use Rattle.geo_conditions.specs.Supported.{NoneInside}

@@ -1,4 +1,4 @@
-use Rattle.std.proofs.Common.{◌≡◌, ◌≤◌, true}
+use Rattle.std.proofs.Common.{◌≡◌, true}
 use Rattle.geo_conditions.specs.Keeps.{size}
 use Rattle.derivation.specs.Chains.{IsLed}
 use Rattle.derivation.specs.Events.{HasGrown}

@@ -1,4 +1,4 @@
-use Rattle.std.proofs.Common.{rules, length, ◌≡◌, ◌<◌, ◌+◌, ℕ, arith, refl, subst, ◌∙◌, ℤ}
+use Rattle.std.proofs.Common.{rules, length, ◌≡◌, ◌<◌, ◌+◌, ℕ, arith, subst, ◌∙◌, ℤ}
 use Rattle.std.specs.Int.{w64}
 use mir.Val.{to_z, of_z}
 use Rattle.std.proofs.lemmas.Int.{ints}

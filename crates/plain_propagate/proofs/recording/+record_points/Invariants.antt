@@ -1,4 +1,4 @@
-use Rattle.std.proofs.Common.{◌≡◌, ◌≤◌, ◌-◌, true, ◌≤ℤ◌}
+use Rattle.std.proofs.Common.{◌≡◌, ◌-◌, true, ◌≤ℤ◌}
 use Rattle.geo_base.specs.Boxes.{coordinate}
 use Rattle.geo_conditions.specs.Regions.{region_of}
 use Rattle.derivation.specs.Events.{HasGrown}

@@ -1,4 +1,4 @@
-use Rattle.std.proofs.Common.{◌≡◌, ◌≤◌, true}
+use Rattle.std.proofs.Common.{◌≡◌, true}
 use Rattle.geo_conditions.specs.Regions.{region_of}
 use Rattle.derivation.specs.Events.{HasGrown}
 use Rattle.derivation.specs.PlaceCovers.{RecordedBelow}
