@@ -8,3 +8,4 @@ pub mod Overlapping
 pub mod ApartForm
 pub mod PutBoxes
 pub mod TwoLengths
+pub mod Unnamed

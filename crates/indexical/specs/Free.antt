@@ -5,6 +5,10 @@ use Rattle.geo_conditions.specs.Reach.{State, just, with_at}
 use Rattle.geo_conditions.specs.Conditions.{possible}
 use Rattle.indexical.specs.Names.{names}
 
+-- wherever the object o is put at the place s, the condition is possible
+abbrev pub Spares : Cond → State → ℕ → ℕ → Type 0
+Spares c S o s = (p : List ℤ) → possible c (with_at S o s (just p)) ≡ true
+
 -- wherever an object that the condition names, but u, is put, the condition is possible
 abbrev pub LeavesFree : Cond → State → ℕ → Type 0
 LeavesFree c S u = (o s : ℕ) (p : List ℤ) → o ≢ u → names o c ≡ true → possible c (with_at S o s (just p)) ≡ true

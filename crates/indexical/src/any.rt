@@ -1,5 +1,4 @@
-ghost use Rattle.std.specs.Prelude.{◌≡◌, ◌==◌, ◌<◌, ◌≤◌, not, is_some, true, length, IsTrue, MatchOption};
-ghost use Rattle.std.specs.List.{list_any};
+ghost use Rattle.std.specs.Prelude.{◌≡◌, ◌<◌, ◌≤◌, not, is_some, true, length, IsTrue, MatchOption};
 ghost use Rattle.std.specs.Option.{ForSome};
 ghost use Rattle.geo_base.specs.Boxes.{Has};
 ghost use Rattle.geo_conditions.specs.Reach.{with_at, just};
@@ -7,15 +6,16 @@ ghost use Rattle.geo_conditions.specs.Regions.{region_of};
 ghost use Rattle.geo_conditions.specs.Conditions.{possible, FitsIn};
 ghost use Rattle.indexical.specs.Apart.{SaysApart};
 ghost use Rattle.indexical.specs.Forbidden.{IsForbiddenBox};
-ghost use Rattle.indexical.specs.Free.{LeavesFree};
+ghost use Rattle.indexical.specs.Free.{LeavesFree, Spares};
 ghost use Rattle.indexical.specs.Names.{IsFirstBefore, names};
 
 use super::apart::ApartIndexical;
 use super::indexical::Indexical;
+use super::spared::{is_named, tree_spares};
 use super::tree::forbid_tree;
 use super::two_boxes::two_boxes;
 use geo_base::{KBox, MAX_DIMS, Point, Steps, Way};
-use geo_conditions::{Cond, Form, MAX_OBJECTS, ObjId, State, refuted};
+use geo_conditions::{Cond, MAX_OBJECTS, ObjId, State, refuted};
 use std::sync::ledger::Ledger;
 
 /// A condition of any kind. One that says that two boxes do not overlap is met by its boxes, each
@@ -95,35 +95,6 @@ impl<const K: usize> AnyIndexical<K> {
     }
 }
 
-fn is_in_form(f: &Form, o: ObjId) -> bool
-    ensures { result ≡ list_any (λ t. t.object.0 == o.0) f.now.terms }
-{
-    for term in f.terms() {
-        if term.object.0 == o.0 {
-            return true;
-        }
-    }
-    false
-}
-
-fn is_named(c: &Cond, o: ObjId) -> bool
-    ensures { result ≡ names o.0 c.now }
-{
-    match c {
-        Cond::Lin(f) => is_in_form(f, o),
-        Cond::Shape(u, _) => u.0 == o.0,
-        Cond::NotShape(u, _) => u.0 == o.0,
-        Cond::AtLeast(_, children) => {
-            for child in children.as_slice() {
-                if is_named(child, o) {
-                    return true;
-                }
-            }
-            false
-        }
-    }
-}
-
 /// The first object that the condition names, of those from `from` on and before `end`.
 fn first_in_tree(c: &Cond, from: usize, end: usize) -> Option<ObjId>
     requires { end ≤ MAX_OBJECTS }
@@ -162,6 +133,19 @@ fn forbid_any<const K: usize>(
     }
 }
 
+/// Whether a condition of any kind surely spares the object at that place.
+fn any_spares<const K: usize>(x: &AnyIndexical<K>, s: &State<K>, o: ObjId, place: u8) -> bool
+    requires k { K ≤ MAX_DIMS }
+    requires fits { FitsIn x.now.cond s.now }
+    requires object { o.0 < length s.now }
+    ensures { IsTrue result → Spares x.now.cond s.now o.0 place }
+{
+    match &x.boxes {
+        Some(boxes) => boxes.surely_spares(s, o, place),
+        None => tree_spares(&x.cond, s, o, place),
+    }
+}
+
 impl<const K: usize> Indexical<K> for AnyIndexical<K> {
     ghost cond = { λ x. x.cond };
 
@@ -177,5 +161,9 @@ impl<const K: usize> Indexical<K> for AnyIndexical<K> {
     ) -> Option<KBox<K>> {
         steps.tick();
         forbid_any(self, s, o, place, c, region, way)
+    }
+
+    fn surely_spares(&self, s: &State<K>, o: ObjId, place: u8) -> bool {
+        any_spares(self, s, o, place)
     }
 }

@@ -2,7 +2,7 @@ ghost use Rattle.std.specs.Prelude.{ℕ, ◌<◌, ◌≤◌, ◌^◌, length};
 ghost use Rattle.geo_base.specs.declared.TheConstants.{MAX_DIMS};
 ghost use Rattle.indexical.specs.Apart.{apart_parts};
 
-use super::overlap::{covers_some, must_overlap, overlap_beside};
+use super::overlap::{covers_some, must_overlap, overlap_beside, spares_beside};
 use super::placed::PlacedBox;
 use geo_base::{KBox, MAX_DIMS, Point};
 use geo_conditions::{ObjId, State};
@@ -102,6 +102,23 @@ impl<const K: usize> ApartIndexical<K> {
             !covers_some(&self.second, &self.first, s)
         } else if self.second.object().0 == u.0 {
             !covers_some(&self.first, &self.second, s)
+        } else {
+            false
+        }
+    }
+
+    /// Whether the object o is surely spared at that place: wherever it is put there, the boxes need not overlap. It is false where
+    /// neither box is o's.
+    pub fn surely_spares(&self, s: &State<K>, o: ObjId, place: u8) -> bool
+        requires first { self.now.first.object.0 < length s.now }
+        requires second { self.now.second.object.0 < length s.now }
+        ensures { IsTrue result → (p : List ℤ)
+            → MustOverlap self.now.first self.now.second (with_at s.now o.0 place (just p)) → ⊥ }
+    {
+        if self.first.object().0 == o.0 {
+            spares_beside(&self.first, &self.second, s, place)
+        } else if self.second.object().0 == o.0 {
+            spares_beside(&self.second, &self.first, s, place)
         } else {
             false
         }

@@ -1,10 +1,11 @@
-ghost use Rattle.std.specs.Prelude.{◌≡◌, ℕ, ◌<◌, true, length, MatchOption};
+ghost use Rattle.std.specs.Prelude.{◌≡◌, ℕ, ◌<◌, true, length, IsTrue, MatchOption};
 ghost use Rattle.geo_base.specs.Boxes.{Has};
 ghost use Rattle.geo_conditions.specs.Reach.{with_at, just};
 ghost use Rattle.geo_conditions.specs.Conditions.{possible, FitsIn};
 ghost use Rattle.geo_conditions.specs.Regions.{region_of};
 ghost use Rattle.indexical.specs.Apart.{apart};
 ghost use Rattle.indexical.specs.Forbidden.{IsForbiddenBox};
+ghost use Rattle.indexical.specs.Free.{Spares};
 
 use super::apart::ApartIndexical;
 use super::indexical::Indexical;
@@ -33,6 +34,14 @@ fn forbid_apart<const K: usize>(
     x.overlap(s, o, place, c, region)
 }
 
+/// Whether the condition of two boxes surely spares the object at that place.
+fn apart_spares<const K: usize>(x: &ApartIndexical<K>, s: &State<K>, o: ObjId, place: u8) -> bool
+    requires fits { FitsIn (apart x.now.first x.now.second x.now.short) s.now }
+    ensures { IsTrue result → Spares (apart x.now.first x.now.second x.now.short) s.now o.0 place }
+{
+    x.surely_spares(s, o, place)
+}
+
 impl<const K: usize> Indexical<K> for ApartIndexical<K> {
     ghost use Rattle.indexical.specs.Apart.{apart};
 
@@ -50,5 +59,9 @@ impl<const K: usize> Indexical<K> for ApartIndexical<K> {
     ) -> Option<KBox<K>> {
         steps.tick();
         forbid_apart(self, s, o, place, c, region, way)
+    }
+
+    fn surely_spares(&self, s: &State<K>, o: ObjId, place: u8) -> bool {
+        apart_spares(self, s, o, place)
     }
 }

@@ -46,4 +46,8 @@ impl<const K: usize, I: Indexical<K>> Indexical<K> for Counted<I> {
         self.questions.set(self.questions.get().wrapping_add(1));
         self.inner.forbid(s, o, place, c, region, way, steps)
     }
+
+    fn surely_spares(&self, s: &State<K>, o: ObjId, place: u8) -> bool {
+        self.inner.surely_spares(s, o, place)
+    }
 }

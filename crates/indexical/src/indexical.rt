@@ -1,11 +1,12 @@
-ghost use Rattle.std.specs.Prelude.{◌≡◌, ℕ, ◌+◌, ◌<◌, true, List, length, ℤ, IfSome, IfNone};
+ghost use Rattle.std.specs.Prelude.{◌≡◌, ℕ, ◌+◌, ◌<◌, ◌≤◌, true, List, length, ℤ, IfSome, IfNone, IsTrue};
 ghost use Rattle.geo_base.specs.Boxes.{Has};
 ghost use Rattle.geo_conditions.specs.Reach.{with_at, just};
 ghost use Rattle.geo_conditions.specs.Conditions.{possible, FitsIn, IsRefuted};
 ghost use Rattle.geo_conditions.specs.Regions.{region_of};
 ghost use Rattle.indexical.specs.Disjunctions.{IsDisjunction};
+ghost use Rattle.indexical.specs.Free.{Spares};
 
-use geo_base::{KBox, Point, Steps, Way};
+use geo_base::{KBox, MAX_DIMS, Point, Steps, Way};
 use geo_conditions::{ObjId, State};
 use std::sync::ledger::Ledger;
 
@@ -51,4 +52,12 @@ pub trait Indexical<const K: usize> {
         ensures none { IfNone result
             (possible (cond self.now) (with_at s.now o.0 place (just c.now.coordinates)) ≡ true) }
         ensures asked { steps.new ≡ steps.old + 1 };
+
+    /// Whether the condition surely spares the object at that place: as the state has the others, it is
+    /// possible wherever the object is put there. It may be false where that is so. It takes no memory.
+    fn surely_spares(&self, s: &State<K>, o: ObjId, place: u8) -> bool
+        requires k { K ≤ MAX_DIMS }
+        requires fits { FitsIn (cond self.now) s.now }
+        requires object { o.0 < length s.now }
+        ensures { IsTrue result → Spares (cond self.now) s.now o.0 place };
 }

@@ -195,6 +195,24 @@ pub fn covers_some<const K: usize>(a: &PlacedBox<K>, b: &PlacedBox<K>, s: &State
     true
 }
 
+/// Whether a's object has another shape at that place, or b covers no origin of a: wherever a's object is put there, the boxes
+/// need not overlap.
+pub fn spares_beside<const K: usize>(
+    a: &PlacedBox<K>,
+    b: &PlacedBox<K>,
+    s: &State<K>,
+    place: u8,
+) -> bool
+    requires k { K ≤ MAX_DIMS }
+    requires first { a.now.object.0 < length s.now }
+    requires second { b.now.object.0 < length s.now }
+    requires objects { b.now.object.0 ≢ a.now.object.0 }
+    ensures { IsTrue result → (p : List ℤ)
+        → MustOverlap a.now b.now (with_at s.now a.now.object.0 place (just p)) → ⊥ }
+{
+    !stands(a, place) || !covers_some(a, b, s)
+}
+
 /// Whether the boxes must overlap on the state.
 pub fn must_overlap<const K: usize>(a: &PlacedBox<K>, b: &PlacedBox<K>, s: &State<K>) -> bool
     requires k { K ≤ MAX_DIMS }

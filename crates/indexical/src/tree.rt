@@ -7,6 +7,7 @@ ghost use Rattle.indexical.specs.Forbidden.{IsForbiddenBox, IsOnShape};
 
 use super::form::forbid_form;
 use super::indexical::Indexical;
+use super::spared::tree_spares;
 use geo_base::{KBox, Point, Steps, Way};
 use geo_conditions::{Cond, ObjId, State, refuted_at};
 use std::sync::ledger::Ledger;
@@ -123,5 +124,9 @@ impl<const K: usize> Indexical<K> for TreeIndexical {
     ) -> Option<KBox<K>> {
         steps.tick();
         forbid_tree(&self.cond, s, o, place, c, region, way)
+    }
+
+    fn surely_spares(&self, s: &State<K>, o: ObjId, place: u8) -> bool {
+        tree_spares(&self.cond, s, o, place)
     }
 }

@@ -3,3 +3,4 @@ pub mod Ends
 pub mod Cases
 pub mod Supports
 pub mod Record
+pub mod LivePicks

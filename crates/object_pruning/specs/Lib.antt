@@ -3,3 +3,4 @@ pub mod Pruning
 pub mod Ends
 pub mod Kept
 pub mod Record
+pub mod Gathered

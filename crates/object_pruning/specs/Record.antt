@@ -1,5 +1,5 @@
 -- What a pruning adds to a record.
-use Rattle.std.specs.Prelude.{◌≡◌, ◌<◌, ◌+◌, ◌≤ℤ◌, ℕ, ℤ, Bool, true, false, List, ◌++◌, length, slice_set, Option, None, Some}
+use Rattle.std.specs.Prelude.{◌<◌, ◌+◌, ◌≤ℤ◌, ℕ, ℤ, Bool, true, false, List, length, slice_set, Option, None, Some}
 use Rattle.geo_base.specs.Boxes.{coordinate}
 use Rattle.geo_base.specs.Ways.{toward}
 use Rattle.geo_conditions.specs.declared.cond.Cond.{Cond}

@@ -3,6 +3,7 @@
 
 mod counted;
 mod first_point;
+mod gathering;
 mod hints;
 mod kept;
 mod lasting;

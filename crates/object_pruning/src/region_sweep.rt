@@ -10,6 +10,7 @@ ghost use Rattle.sweep.specs.Sweep.{IsCovered, part_before};
 ghost use Rattle.object_pruning.specs.Pruning.{IsSmallBox};
 
 use super::counted::{Counted, answer};
+use super::gathering::{GATHERED, gather};
 use derivation::Recorder;
 use geo_base::{KBox, MAX_DIMS, Point, Steps, Way};
 use geo_conditions::{ObjId, State};
@@ -74,10 +75,10 @@ impl<'a, const K: usize, I: Indexical<K> + 'a, R: Recorder> Counted<
     }
 }
 
-/// The first point of a region, in the way's order, at which no picked condition is refuted with the object at
-/// that place. None where there is no such point. The events that are added are a cover of the region, or of the part of it
-/// that comes before the point in the lead dimension. The only error is want of memory, and then a refusal was counted.
-pub fn first_point_in<const K: usize, I: Indexical<K>, R: Recorder>(
+// The first point of a region, in the way's order, at which no picked condition is refuted with the object at
+// that place. None where there is no such point. The events that are added are a cover of the region, or of the part of it
+// that comes before the point in the lead dimension. The only error is want of memory, and then a refusal was counted.
+fn sweep_region<const K: usize, I: Indexical<K>, R: Recorder>(
     s: &State<K>,
     o: ObjId,
     place: u8,
@@ -116,4 +117,41 @@ pub fn first_point_in<const K: usize, I: Indexical<K>, R: Recorder>(
         },
         rec,
     )
+}
+
+/// The first point of a region, in the way's order, at which no picked condition is refuted with the object at
+/// that place. None where there is no such point. The events that are added are a cover of the region, or of the part of it
+/// that comes before the point in the lead dimension. The only error is want of memory, and then a refusal was counted.
+pub fn first_point_in<const K: usize, I: Indexical<K>, R: Recorder>(
+    s: &State<K>,
+    o: ObjId,
+    place: u8,
+    region: &KBox<K>,
+    list: &[I],
+    picks: &[u32],
+    way: &Way<K>,
+    rec: &mut R,
+) -> Result<Option<Point<K>>, AllocError>
+    requires k { K ≤ MAX_DIMS }
+    requires fits { AllFit (map I.cond list.now) s.now }
+    requires object { o.0 < length s.now }
+    requires picks { ArePicks (length list.now) picks.now }
+    requires small { IsSmallBox region.now }
+    ensures point { let cs = picked (map I.cond list.now) picks.now in
+        let b = region_of region.now in
+        IfOk result (λ r. MatchOption r (HasNoPoint cs s.now o.0 place b)
+        (λ p. IsFirstPoint K way.now.lead way.now.up cs s.now o.0 place b p.coordinates)) }
+    ensures covered { let cs = map I.cond list.now in
+        let b = region_of region.now in
+        IfOk result (λ r. R.keeps ≡ true → MatchOption r
+        (IsCovered K cs picks.now s.now o.0 place b (R.list rec.old) (R.list rec.new))
+        (λ p. IsCovered K cs picks.now s.now o.0 place
+        (part_before way.now.lead way.now.up p.coordinates b) (R.list rec.old) (R.list rec.new))) }
+    ensures grows { Grows R.keeps R.list R.refusals rec.old rec.new result }
+{
+    let mut live = [0u32; GATHERED];
+    match gather(s, o, place, list, picks, &mut live) {
+        Some(count) => sweep_region(s, o, place, region, list, &live[0..count], way, rec),
+        None => sweep_region(s, o, place, region, list, picks, way, rec),
+    }
 }

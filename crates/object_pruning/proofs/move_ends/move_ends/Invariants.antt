@@ -1,4 +1,4 @@
-use Rattle.std.specs.Prelude.{true, map, ◌≡◌, ◌≤◌}
+use Rattle.std.specs.Prelude.{true, map, ◌≡◌}
 use Rattle.derivation.specs.Events.{HasGrown}
 use Rattle.sweep.specs.Picks.{picked}
 use Rattle.object_pruning.specs.Kept.{AllSupport}

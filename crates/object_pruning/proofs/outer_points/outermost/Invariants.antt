@@ -1,4 +1,4 @@
-use Rattle.std.specs.Prelude.{true, map, ◌+◌, ◌≡◌, ◌≤◌, ℤ}
+use Rattle.std.specs.Prelude.{true, map, ◌+◌, ◌≡◌, ℤ}
 use Rattle.derivation.specs.Events.{HasGrown}
 use Rattle.sweep.specs.Picks.{picked}
 use Rattle.object_pruning.specs.Record.{IsNotBeyond, AreListedBelow}

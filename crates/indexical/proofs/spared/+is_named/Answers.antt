@@ -5,7 +5,7 @@ use Rattle.std.proofs.lemmas.Bool.{or_left}
 use Rattle.std.proofs.lemmas.List.{drop_all}
 use Rattle.indexical.specs.Names.{names}
 use Rattle.indexical.proofs.Children.{names_at_least}
-use Rattle.indexical.proofs.any.+is_named.Goals as goal
+use Rattle.indexical.proofs.spared.+is_named.Goals as goal
 
 pub returns-then-is_named : goal.returns-then-is_named
 returns-then-is_named t c =

@@ -1,7 +1,7 @@
 use Rattle.std.proofs.Common.{◌≡◌, drop}
 use Rattle.std.specs.List.{list_any}
 use Rattle.indexical.specs.Names.{names}
-use Rattle.indexical.proofs.any.+is_named.Given as goal
+use Rattle.indexical.proofs.spared.+is_named.Given as goal
 
 -- the parts that were passed do not name the object
 abbrev pub invariant-loop-child : goal.invariant-loop-child

@@ -1,7 +1,7 @@
 use Rattle.std.proofs.Common.{◌≡◌, drop}
 use Rattle.std.specs.Prelude.{◌==◌}
 use Rattle.std.specs.List.{list_any}
-use Rattle.indexical.proofs.any.is_in_form.Given as goal
+use Rattle.indexical.proofs.spared.is_in_form.Given as goal
 
 -- the terms that were passed are of other objects
 abbrev pub invariant-loop-term : goal.invariant-loop-term

@@ -1,0 +1,89 @@
+//! Which objects a condition names, and which it spares wherever they are put.
+
+ghost use Rattle.std.specs.Prelude.{◌≡◌, ◌==◌, ◌<◌, ◌≤◌, length, IsTrue};
+ghost use Rattle.std.specs.List.{list_any};
+ghost use Rattle.geo_conditions.specs.Conditions.{FitsIn};
+ghost use Rattle.indexical.specs.Forbidden.{IsOnShape};
+ghost use Rattle.indexical.specs.Free.{Spares};
+ghost use Rattle.indexical.specs.Names.{names};
+
+use geo_base::MAX_DIMS;
+use geo_conditions::{Cond, Form, ObjId, State, refuted, refuted_at};
+
+fn is_in_form(f: &Form, o: ObjId) -> bool
+    ensures { result ≡ list_any (λ t. t.object.0 == o.0) f.now.terms }
+{
+    for term in f.terms() {
+        if term.object.0 == o.0 {
+            return true;
+        }
+    }
+    false
+}
+
+/// Whether the condition names the object.
+pub fn is_named(c: &Cond, o: ObjId) -> bool
+    ensures { result ≡ names o.0 c.now }
+{
+    match c {
+        Cond::Lin(f) => is_in_form(f, o),
+        Cond::Shape(u, _) => u.0 == o.0,
+        Cond::NotShape(u, _) => u.0 == o.0,
+        Cond::AtLeast(_, children) => {
+            for child in children.as_slice() {
+                if is_named(child, o) {
+                    return true;
+                }
+            }
+            false
+        }
+    }
+}
+
+/// Whether a literal on a shape is possible with the object at that place.
+fn shape_spares<const K: usize>(c: &Cond, s: &State<K>, o: ObjId, place: u8) -> bool
+    requires k { K ≤ MAX_DIMS }
+    requires fits { FitsIn c.now s.now }
+    requires object { o.0 < length s.now }
+    requires literal { IsOnShape c.now }
+    ensures { IsTrue result → Spares c.now s.now o.0 place }
+{
+    !refuted_at(c, s, o, place, &s.region(o))
+}
+
+/// Whether a condition is possible and does not name the object.
+fn spares_unnamed<const K: usize>(c: &Cond, s: &State<K>, o: ObjId, place: u8) -> bool
+    requires k { K ≤ MAX_DIMS }
+    requires fits { FitsIn c.now s.now }
+    ensures { IsTrue result → Spares c.now s.now o.0 place }
+{
+    !is_named(c, o) && !refuted(c, s)
+}
+
+/// Whether enough parts of the condition spare the object at that place: a literal on a shape that is possible then, a form that
+/// does not name the object and is possible.
+pub fn tree_spares<const K: usize>(c: &Cond, s: &State<K>, o: ObjId, place: u8) -> bool
+    requires k { K ≤ MAX_DIMS }
+    requires fits { FitsIn c.now s.now }
+    requires object { o.0 < length s.now }
+    ensures { IsTrue result → Spares c.now s.now o.0 place }
+{
+    match c {
+        Cond::Lin(_) => spares_unnamed(c, s, o, place),
+        Cond::Shape(_, _) => shape_spares(c, s, o, place),
+        Cond::NotShape(_, _) => shape_spares(c, s, o, place),
+        Cond::AtLeast(n, children) => {
+            let least = i128::from(*n);
+            let mut sparing: usize = 0;
+            for child in children.as_slice() {
+                if tree_spares(child, s, o, place) {
+                    sparing += 1;
+                    if least <= sparing as i128 {
+                        return true;
+                    }
+                }
+            }
+            false
+        }
+    }
+}
