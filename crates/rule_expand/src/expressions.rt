@@ -76,7 +76,8 @@ pub fn expand_expr(
 ) -> Result<PlainExpr, ExpandFault>
     requires { IsSource source.now }
     ensures { GivesExpr
-        (expr_expanded (expansions_of source.now.problem.now in_sight) source.now.problem.now (expr_view e.now)
+        (expr_expanded (expansions_of source.now.problem.now in_sight) source.now.problem.now
+        (expr_view e.now)
         (scope_view source.now.problem.now scope.now)) room.old deep room.new result }
 {
     match e {
@@ -136,7 +137,8 @@ fn expand_negative(
     requires { IsSource source.now }
     ensures { GivesExpr
         (plain.negative
-        (expr_expanded (expansions_of source.now.problem.now in_sight) source.now.problem.now (expr_view e.now)
+        (expr_expanded (expansions_of source.now.problem.now in_sight) source.now.problem.now
+        (expr_view e.now)
         (scope_view source.now.problem.now scope.now))) room.old deep room.new result }
 {
     if !take_node(room, deep) {
@@ -161,7 +163,8 @@ fn expand_least(
         let sub = scope_view source.now.problem.now scope.now in
         GivesExpr
         (plain.least (expr_expanded x source.now.problem.now (expr_view a.now) sub)
-        (expr_expanded x source.now.problem.now (expr_view b.now) sub)) room.old deep room.new result }
+        (expr_expanded x source.now.problem.now (expr_view b.now) sub)) room.old deep room.new
+        result }
 {
     if !take_node(room, deep) {
         return Err(ExpandFault::TooLarge);
@@ -185,7 +188,8 @@ fn expand_greatest(
     ensures { let x = expansions_of source.now.problem.now in_sight in
         let sub = scope_view source.now.problem.now scope.now in
         GivesExpr (plain.greatest (expr_expanded x source.now.problem.now (expr_view a.now) sub)
-        (expr_expanded x source.now.problem.now (expr_view b.now) sub)) room.old deep room.new result }
+        (expr_expanded x source.now.problem.now (expr_view b.now) sub)) room.old deep room.new
+        result }
 {
     if !take_node(room, deep) {
         return Err(ExpandFault::TooLarge);
@@ -230,7 +234,8 @@ fn expand_sum_steps(
     deep: u32,
 ) -> Result<Vec<PlainSum>, ExpandFault>
     requires { IsSource source.now }
-    ensures { let t = sums_expanded (expansions_of source.now.problem.now in_sight) source.now.problem.now
+    ensures { let t = sums_expanded (expansions_of source.now.problem.now in_sight)
+        source.now.problem.now
         (tree.sums (map sum_view steps.now)) (scope_view source.now.problem.now scope.now) in
         MatchResult result (λ v. SumsMade t room.old deep room.new v.items)
         (λ f. IsLimitFault (sums_nodes t) (sums_depth t) room.old deep f) }
@@ -253,7 +258,8 @@ fn expand_sum_step(
     deep: u32,
 ) -> Result<PlainSum, ExpandFault>
     requires { IsSource source.now }
-    ensures { let t = sum_expanded (expansions_of source.now.problem.now in_sight) source.now.problem.now
+    ensures { let t = sum_expanded (expansions_of source.now.problem.now in_sight)
+        source.now.problem.now
         (sum_view step.now) (scope_view source.now.problem.now scope.now) in
         MatchResult result (λ s. SumMade t room.old deep room.new s)
         (λ f. IsLimitFault (sum_nodes t) (sum_depth t) room.old deep f) }
@@ -303,8 +309,10 @@ fn expand_product_steps(
     deep: u32,
 ) -> Result<Vec<PlainProd>, ExpandFault>
     requires { IsSource source.now }
-    ensures { let t = products_expanded (expansions_of source.now.problem.now in_sight) source.now.problem.now
-        (tree.products (map product_view steps.now)) (scope_view source.now.problem.now scope.now) in
+    ensures { let t = products_expanded (expansions_of source.now.problem.now in_sight)
+        source.now.problem.now
+        (tree.products (map product_view steps.now)) (scope_view source.now.problem.now scope.now)
+        in
         MatchResult result (λ v. ProductsMade t room.old deep room.new v.items)
         (λ f. IsLimitFault (products_nodes t) (products_depth t) room.old deep f) }
 {
@@ -326,7 +334,8 @@ fn expand_product_step(
     deep: u32,
 ) -> Result<PlainProd, ExpandFault>
     requires { IsSource source.now }
-    ensures { let t = product_expanded (expansions_of source.now.problem.now in_sight) source.now.problem.now
+    ensures { let t = product_expanded (expansions_of source.now.problem.now in_sight)
+        source.now.problem.now
         (product_view step.now) (scope_view source.now.problem.now scope.now) in
         MatchResult result (λ s. ProductMade t room.old deep room.new s)
         (λ f. IsLimitFault (product_nodes t) (product_depth t) room.old deep f) }

@@ -58,7 +58,8 @@ fn positions_listed(source: &Source, names: &[PlacedName]) -> Result<Vec<usize>,
 fn expand_coll(source: &Source, coll: &Coll, scope: &Scope) -> Result<PlainColl, ExpandFault>
     requires { IsSource source.now }
     ensures { MatchResult result (λ q. plain_coll_view q
-        ≡ coll_expanded source.now.problem.now (coll_view coll.now) (scope_view source.now.problem.now scope.now))
+        ≡ coll_expanded source.now.problem.now (coll_view coll.now) (scope_view
+        source.now.problem.now scope.now))
         (λ e. e ≡ ExpandFault.Memory) }
 {
     match coll {
@@ -91,8 +92,10 @@ fn expand_comparison(
     requires { IsSource source.now }
     ensures { let x = expansions_of source.now.problem.now in_sight in
         let sub = scope_view source.now.problem.now scope.now in
-        GivesUnbound (plain.comparison (expr_expanded x source.now.problem.now (expr_view a.now) sub) rel
-        (expr_expanded x source.now.problem.now (expr_view b.now) sub)) room.old deep room.new result }
+        GivesUnbound (plain.comparison (expr_expanded x source.now.problem.now (expr_view a.now)
+        sub) rel
+        (expr_expanded x source.now.problem.now (expr_view b.now) sub)) room.old deep room.new
+        result }
 {
     if !take_node(room, deep) {
         return Err(ExpandFault::TooLarge);
@@ -116,9 +119,11 @@ pub fn expand_formula(
 ) -> Result<PlainFormula, ExpandFault>
     requires known { IsSource source.now }
     requires numbers { next.old + room.old < 2 ^ 32 }
-    ensures { GivesFormula (formula_expanded (expansions_of source.now.problem.now in_sight) source.now.problem.now
+    ensures { GivesFormula (formula_expanded (expansions_of source.now.problem.now in_sight)
+        source.now.problem.now
         (formula_view f.now)
-        (scope_view source.now.problem.now scope.now) next.old) next.old room.old deep next.new room.new
+        (scope_view source.now.problem.now scope.now) next.old) next.old room.old deep next.new
+        room.new
         result }
 {
     match f {
@@ -168,9 +173,11 @@ fn expand_negation(
     requires known { IsSource source.now }
     requires numbers { next.old + room.old < 2 ^ 32 }
     ensures { GivesFormula
-        (plain.negation (formula_expanded (expansions_of source.now.problem.now in_sight) source.now.problem.now
+        (plain.negation (formula_expanded (expansions_of source.now.problem.now in_sight)
+        source.now.problem.now
         (formula_view f.now)
-        (scope_view source.now.problem.now scope.now) next.old)) next.old room.old deep next.new room.new
+        (scope_view source.now.problem.now scope.now) next.old)) next.old room.old deep next.new
+        room.new
         result }
 {
     if !take_node(room, deep) {
@@ -193,9 +200,11 @@ fn expand_all_of(
     requires known { IsSource source.now }
     requires numbers { next.old + room.old < 2 ^ 32 }
     ensures { GivesFormula
-        (plain.all_of (formulas_expanded (expansions_of source.now.problem.now in_sight) source.now.problem.now
+        (plain.all_of (formulas_expanded (expansions_of source.now.problem.now in_sight)
+        source.now.problem.now
         (tree.formulas (map formula_view fs.now))
-        (scope_view source.now.problem.now scope.now) next.old)) next.old room.old deep next.new room.new
+        (scope_view source.now.problem.now scope.now) next.old)) next.old room.old deep next.new
+        room.new
         result }
 {
     if !take_node(room, deep) {
@@ -218,9 +227,11 @@ fn expand_any_of(
     requires known { IsSource source.now }
     requires numbers { next.old + room.old < 2 ^ 32 }
     ensures { GivesFormula
-        (plain.any_of (formulas_expanded (expansions_of source.now.problem.now in_sight) source.now.problem.now
+        (plain.any_of (formulas_expanded (expansions_of source.now.problem.now in_sight)
+        source.now.problem.now
         (tree.formulas (map formula_view fs.now))
-        (scope_view source.now.problem.now scope.now) next.old)) next.old room.old deep next.new room.new
+        (scope_view source.now.problem.now scope.now) next.old)) next.old room.old deep next.new
+        room.new
         result }
 {
     if !take_node(room, deep) {
@@ -243,8 +254,10 @@ fn expand_each(
 ) -> Result<Vec<PlainFormula>, ExpandFault>
     requires known { IsSource source.now }
     requires numbers { next.old + room.old < 2 ^ 32 }
-    ensures { let t = formulas_expanded (expansions_of source.now.problem.now in_sight) source.now.problem.now
-        (tree.formulas (map formula_view fs.now)) (scope_view source.now.problem.now scope.now) next.old in
+    ensures { let t = formulas_expanded (expansions_of source.now.problem.now in_sight)
+        source.now.problem.now
+        (tree.formulas (map formula_view fs.now)) (scope_view source.now.problem.now scope.now)
+        next.old in
         MatchResult result (λ v. FormulasMade t next.old room.old deep next.new room.new v.items)
         (λ e. IsLimitFault (nodes_in t) (depth_in t) room.old deep e) }
 {
@@ -273,7 +286,8 @@ fn expand_pair(
     ensures { let x = expansions_of source.now.problem.now in_sight in
         let sub = scope_view source.now.problem.now scope.now in
         let t = formula_expanded x source.now.problem.now (formula_view f.now) sub next.old in
-        let u = formula_expanded x source.now.problem.now (formula_view g.now) sub (next.old + binders t) in
+        let u = formula_expanded x source.now.problem.now (formula_view g.now) sub (next.old +
+        binders t) in
         MatchResult result (λ r. PairMade t u next.old room.old deep next.new room.new r.0 r.1)
         (λ e. IsLimitFault (nodes t + nodes u) (max (depth t) (depth u)) room.old deep e) }
 {
@@ -354,9 +368,11 @@ fn expand_quantified(
 ) -> Result<PlainFormula, ExpandFault>
     requires known { IsSource source.now }
     requires numbers { next.old + room.old < 2 ^ 32 }
-    ensures { GivesFormula (formula_expanded (expansions_of source.now.problem.now in_sight) source.now.problem.now
+    ensures { GivesFormula (formula_expanded (expansions_of source.now.problem.now in_sight)
+        source.now.problem.now
         (tree.quantified 0 kind v.now (coll_view coll.now) (formula_view f.now))
-        (scope_view source.now.problem.now scope.now) next.old) next.old room.old deep next.new room.new
+        (scope_view source.now.problem.now scope.now) next.old) next.old room.old deep next.new
+        room.new
         result }
 {
     if !take_node(room, deep) {
@@ -391,9 +407,11 @@ fn expand_formula_call(
 ) -> Result<PlainFormula, ExpandFault>
     requires known { IsSource source.now }
     requires numbers { next.old + room.old < 2 ^ 32 }
-    ensures { GivesFormula (formula_expanded (expansions_of source.now.problem.now in_sight) source.now.problem.now
+    ensures { GivesFormula (formula_expanded (expansions_of source.now.problem.now in_sight)
+        source.now.problem.now
         (tree.formula_call 0 m.now (tree.arguments (map argument_view args.now)))
-        (scope_view source.now.problem.now scope.now) next.old) next.old room.old deep next.new room.new
+        (scope_view source.now.problem.now scope.now) next.old) next.old room.old deep next.new
+        room.new
         result }
 {
     match formula_macro(source, in_sight, &m.name) {

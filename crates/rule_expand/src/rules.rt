@@ -32,7 +32,8 @@ fn copied(alloc: Global, ranges: &[RangeDef]) -> Result<Vec<RangeDef>, AllocErro
 /// A rule without its macros.
 fn expand_rule(source: &Source, rule: &RuleDef) -> Result<PlainRule, ExpandFault>
     requires { IsSource source.now }
-    ensures { MatchResult result (λ r. (plain_rule_data r ≡ rule_expanded source.now.problem.now rule.now)
+    ensures { MatchResult result (λ r. (plain_rule_data r ≡ rule_expanded source.now.problem.now
+        rule.now)
         × (is_large (rule_expanded source.now.problem.now rule.now).demand ≡ false))
         (λ e. IsRuleFault (rule_expanded source.now.problem.now rule.now) e) }
 {
@@ -78,7 +79,8 @@ fn add_rule(rules: &mut Vec<PlainRule>, rule: PlainRule) -> Result<(), AllocErro
 /// The rules in file order, each without its macros, where none is too large.
 fn expand_rules(source: &Source) -> Result<Vec<PlainRule>, TextFault>
     requires { IsSource source.now }
-    ensures { MatchResult result (λ v. (map plain_rule_data v.items ≡ rules_expanded source.now.problem.now)
+    ensures { MatchResult result (λ v. (map plain_rule_data v.items ≡ rules_expanded
+        source.now.problem.now)
         × (first_place is_large (rules_expanded source.now.problem.now) ≡ None))
         (λ e. IsFaultOf (large_fault source.now.problem.now) e) }
 {

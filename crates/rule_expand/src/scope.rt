@@ -67,7 +67,8 @@ pub fn parameter_index(params: &[ParamDef], count: usize, name: &Name) -> Option
 /// The object of this name.
 fn object_named<'a>(source: &Source, name: &Name) -> Found<'a>
     requires { IsSource source.now }
-    ensures meant { found_meant source.now.problem.now result ≡ meant_by source.now.problem.now name.now [] }
+    ensures meant { found_meant source.now.problem.now result ≡ meant_by source.now.problem.now
+        name.now [] }
     ensures cost { found_cost source.now.problem.now result ≡ 0 }
 {
     match position_of(&source.names.objects, name.as_bytes()) {
@@ -118,7 +119,8 @@ pub fn look_up<'a>(source: &Source, scope: &'a Scope<'a>, name: &Name) -> Found<
     requires { IsSource source.now }
     ensures meant { found_meant source.now.problem.now result
         ≡ meant_by source.now.problem.now name.now (scope_view source.now.problem.now scope.now) }
-    ensures cost { found_cost source.now.problem.now result ≤ cost_by name.now (prices source.now.problem.now scope.now) }
+    ensures cost { found_cost source.now.problem.now result ≤ cost_by name.now (prices
+        source.now.problem.now scope.now) }
 {
     match scope {
         Scope::Objects => object_named(source, name),
