@@ -91,16 +91,16 @@ module _ (es : List Entry) (marks starts : List ℕ) (h : IsUndoable es marks st
     -- each level restores what it did
     pub saves_restored : (S : State) (x : Reach) → r ≡ reach S o → restored (set S o x) more starts ≡ restored S es starts
     saves_restored S x is = map_same (λ n. state_before (set S o x) (drop n more)) (λ n. state_before S (drop n es)) starts 0 (λ i b.
-      ap (state_before (set S o x)) (drop-append-le (get_or starts i 0) es (entry ∷ []) (start_within i b))
-      ∙ undone_saved (λ e. e.reach) S (drop (get_or starts i 0) es) entry x nowhere is)
+        ap (state_before (set S o x)) (drop-append-le (get_or starts i 0) es (entry ∷ []) (start_within i b))
+        ∙ undone_saved (λ e. e.reach) S (drop (get_or starts i 0) es) entry x nowhere is)
 
     -- an object that the last level has saved may change
     pub keeps_restored : (S : State) (x : Reach) → length starts ≤ get_or marks o 0 → restored (set S o x) es starts ≡ restored S es starts
     keeps_restored S x le = map_same (λ n. state_before (set S o x) (drop n es)) (λ n. state_before S (drop n es)) starts 0 (λ i b.
-      undone_anyway S marks (drop (get_or starts i 0) es) o x (λ same.
-      let level : get_or (marks_by es marks starts i) o 0 ≤ i = at_most (marks_by es marks starts i) i (h.levels i (omega arith)) o in
-      let at : marks_by es marks starts i ≡ marks_before marks (drop (get_or starts i 0) es) = ap (λ (n : ℕ). marks_before marks (drop n es)) (saved_at es starts i b) in
-      omega (arith, level, same, ap (λ (l : List ℕ). get_or l o 0) at, le)))
+        undone_anyway S marks (drop (get_or starts i 0) es) o x (λ same.
+        let level : get_or (marks_by es marks starts i) o 0 ≤ i = at_most (marks_by es marks starts i) i (h.levels i (omega arith)) o in
+        let at : marks_by es marks starts i ≡ marks_before marks (drop (get_or starts i 0) es) = ap (λ (n : ℕ). marks_before marks (drop n es)) (saved_at es starts i b) in
+        omega (arith, level, same, ap (λ (l : List ℕ). get_or l o 0) at, le)))
       where
         at_most : (ms : List ℕ) (n : ℕ) → All (λ m. m ≤ n) ms → (k : ℕ) → get_or ms k 0 ≤ n
         at_most ms n a k = elim (cases_lt k (length ms)) [

@@ -155,7 +155,7 @@ module _ (S : State) (es : List Entry) (marks starts : List ℕ) (depth spare : 
       let shut = last m n e en in
       let u = subst (IsUndoable es marks) shut t.undoable in
       let back : restored S es levels ≡ restored T ds (take m starts) ++ T ∷ [] =
-          ap (restored S es) shut ∙ closes_restored es marks (take m starts) n u S ∙ (λ i. restored (sym et i) (sym ed i) (take m starts) ++ sym et i ∷ []) in
+      ap (restored S es) shut ∙ closes_restored es marks (take m starts) n u S ∙ (λ i. restored (sym et i) (sym ed i) (take m starts) ++ sym et i ∷ []) in
       let p = trail_pop S T (restored T ds (take m starts)) (subst (IsTrail S) back t.trail) in
       let long : length T ≡ length S = ap length et ∙ length_undone (λ d. d.reach) S (drop n es) in (
         record {
@@ -195,9 +195,9 @@ last_of all xs ys e front ends =
     let same : ys ++ e ∷ [] ≡ take (length ys) all ++ get_or all (length ys) e ∷ [] = sym ends ∙ front ∙ ap (λ (k : ℕ). take k all) count ∙ cut in
     let long : length (take (length ys) all) ≡ length ys = length-take-le (length ys) all (omega arith) in
     let there : e ≡ get_or all (length ys) e =
-        sym (get_or-append_seam ys e [] e) ∙ ap (λ (l : List Entry). get_or l (length ys) e) same
-        ∙ ap (λ (k : ℕ). get_or (take (length ys) all ++ get_or all (length ys) e ∷ []) k e) (sym long)
-        ∙ get_or-append_seam (take (length ys) all) (get_or all (length ys) e) [] e in
+    sym (get_or-append_seam ys e [] e) ∙ ap (λ (l : List Entry). get_or l (length ys) e) same
+    ∙ ap (λ (k : ℕ). get_or (take (length ys) all ++ get_or all (length ys) e ∷ []) k e) (sym long)
+    ∙ get_or-append_seam (take (length ys) all) (get_or all (length ys) e) [] e in
     record {
       count = count;
       left = sym (take-append_seam ys (e ∷ [])) ∙ ap (take (length ys)) same

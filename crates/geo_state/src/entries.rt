@@ -104,7 +104,7 @@ pub fn save<const K: usize>(
     requires room { slice_index marks.old o.0 < depth → 0 < saved.old.spare }
     ensures marks { marks.new ≡ slice_set marks.old o.0 depth }
     ensures items { ((slice_index marks.old o.0 < depth) × (saved.new.items ≡ saved.old.items
-            ++ entry_of state.now o.0 (slice_index marks.old o.0) ∷ []))
+        ++ entry_of state.now o.0 (slice_index marks.old o.0) ∷ []))
         ⊎ ((depth ≤ slice_index marks.old o.0) × (saved.new.items ≡ saved.old.items)) }
     ensures room { length saved.new.items + saved.new.spare
         ≡ length saved.old.items + saved.old.spare }

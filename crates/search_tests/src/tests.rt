@@ -1,3 +1,4 @@
 mod checking;
 mod lines;
 mod records;
+mod trail;

@@ -10,11 +10,25 @@ save-requires g c =
     let p = c.self.inside in let o = c.args.o.0 in let t = c.self.invariant in
     let e : c.args.self.now.state ≡ p.state = sym (ap (λ (t : Trail). t.state) c.self.view_is) in
     let b : o < length p.state = subst (λ (S : State). o < length S) e c.requires.object in
-    let same = c.deref_mut.ensures.value in
-    (lit< tt, (search rules, (c.requires.k, (b, (ap length same ∙ t.objects, (
-      subst (λ (ms : List ℕ). get_or ms o 0 ≤ p.depth) (sym same) (trailed_mark p.state p.saved.items p.marks.items p.starts.items p.depth p.saved.spare t o),
-      subst (λ (ms : List ℕ). get_or ms o 0 < p.depth → 0 < p.saved.spare) (sym same) (trailed_room p.state p.saved.items p.marks.items p.starts.items p.depth p.saved.spare t o b),
-    ))))))
+    let same = c.deref_mut.ensures.value in (
+      lit< tt,
+      (
+        search rules,
+        (
+          c.requires.k,
+          (
+            b,
+            (
+              ap length same ∙ t.objects,
+              (
+                subst (λ (ms : List ℕ). get_or ms o 0 ≤ p.depth) (sym same) (trailed_mark p.state p.saved.items p.marks.items p.starts.items p.depth p.saved.spare t o),
+                subst (λ (ms : List ℕ). get_or ms o 0 < p.depth → 0 < p.saved.spare) (sym same) (trailed_room p.state p.saved.items p.marks.items p.starts.items p.depth p.saved.spare t o b),
+              ),
+            ),
+          ),
+        ),
+      ),
+    )
 
 pub invariant_of-self : goal.invariant_of-self
 invariant_of-self g c =

@@ -9,11 +9,19 @@ pub put_back-requires : goal.put_back-requires
 put_back-requires g c =
     let p = c.self.inside in let t = c.self.invariant in
     let several : length (restored p.state p.saved.items (take p.depth p.starts.items)) ≡ length c.args.self.now.restores = ap (λ (t : Trail). length t.restores) c.self.view_is in
-    let deep : p.depth ≡ suc (p.depth - 1) = omega (arith, several, c.requires.depth, open_levels p.state p.saved.items p.marks.items p.starts.items p.depth p.saved.spare t) in
-    (lit< tt, (search rules, (c.requires.k, (
-      trailed_least p.state p.saved.items p.marks.items p.starts.items p.depth p.saved.spare t (p.depth - 1) c.index-left.result.now deep c.index-left.ensures,
-      (ap length c.deref_mut.ensures.value ∙ t.objects, t.exist),
-    ))))
+    let deep : p.depth ≡ suc (p.depth - 1) = omega (arith, several, c.requires.depth, open_levels p.state p.saved.items p.marks.items p.starts.items p.depth p.saved.spare t) in (
+      lit< tt,
+      (
+        search rules,
+        (
+          c.requires.k,
+          (
+            trailed_least p.state p.saved.items p.marks.items p.starts.items p.depth p.saved.spare t (p.depth - 1) c.index-left.result.now deep c.index-left.ensures,
+            (ap length c.deref_mut.ensures.value ∙ t.objects, t.exist),
+          ),
+        ),
+      ),
+    )
 
 pub invariant_of-self : goal.invariant_of-self
 invariant_of-self g c =
