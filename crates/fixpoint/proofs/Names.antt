@@ -1,14 +1,11 @@
 -- A condition that does not name an object does not see it.
-use Rattle.std.proofs.Common.{◌≡◌, ◌≢◌, ℕ, zero, suc, ◌+◌, ◌<◌, Bool, true, false, List, [], ◌∷◌, length, get_or, refl, sym, ap, ◌∙◌, subst, inl, inr, ◌⊎◌, arith, ℤ, pos, ◌+ℤ◌, eqb, eq-eqb, not}
-use lib.Signed.{le_z}
-use Rattle.std.specs.List.{list_any}
-use Rattle.std.proofs.lemmas.Bool.{cases_eq, cases_lt, false≢true, or_left, or_right}
+use Rattle.std.proofs.Common.{◌≡◌, ◌≢◌, ℕ, zero, suc, ◌<◌, Bool, true, false, List, length, get_or, refl, sym, ap, ◌∙◌, subst, inl, inr, ◌⊎◌, arith, ℤ}
+use Rattle.std.proofs.lemmas.Bool.{cases_eq, cases_lt, false≢true}
 use Rattle.std.proofs.lemmas.List.{get_or_past}
 use Rattle.geo_base.specs.Boxes.{coordinate}
-use Rattle.geo_conditions.specs.declared.cond.Cond.{Cond, Lin, Shape, NotShape, AtLeast', Row_of-Cond, end_of-Cond, more_of-Cond}
-use Rattle.geo_conditions.specs.declared.form.Term.{Term}
-use Rattle.geo_conditions.specs.Reach.{State, Reach, Region, reach, nowhere, place_in, has, is_only, just, InBox, with_at, NotEmpty, HasNoEmpty, count}
-use Rattle.geo_conditions.specs.Conditions.{possible, how_many_possible, least_term, least_product, sum_of}
+use Rattle.geo_conditions.specs.declared.cond.Cond.{Cond}
+use Rattle.geo_conditions.specs.Reach.{State, Reach, Region, reach, nowhere, place_in, has, just, InBox, with_at, NotEmpty, HasNoEmpty}
+use Rattle.geo_conditions.specs.Conditions.{possible}
 use Rattle.geo_conditions.specs.Supported.{IsSupported, Supports, NoneRefuted}
 use Rattle.geo_conditions.proofs.Monotone.{possible_wider}
 use Rattle.geo_conditions.proofs.Points.{reach_same, reach_other, with_length, point_within, point_not_empty, place_from_1, put_inside, put_not_empty}
