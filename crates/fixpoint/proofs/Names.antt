@@ -1,44 +1,21 @@
 -- A condition that does not name an object does not see it.
-use Rattle.std.proofs.Common.{◌≡◌, ◌≢◌, ℕ, zero, suc, ◌+◌, ◌<◌, Bool, true, false, List, [], ◌∷◌, length, get_or, refl, sym, ap, ◌∙◌, subst, inl, inr, ◌⊎◌, arith, ℤ, pos, ◌+ℤ◌, eqb, eq-eqb, not}
-use lib.Signed.{le_z}
-use Rattle.std.specs.List.{list_any}
-use Rattle.std.proofs.lemmas.Bool.{cases_eq, cases_lt, false≢true, or_left, or_right}
+use Rattle.std.proofs.Common.{◌≡◌, ◌≢◌, ℕ, zero, suc, ◌<◌, Bool, true, false, List, length, get_or, refl, sym, ap, ◌∙◌, subst, inl, inr, ◌⊎◌, arith, ℤ}
+use Rattle.std.proofs.lemmas.Bool.{cases_eq, cases_lt, false≢true}
 use Rattle.std.proofs.lemmas.List.{get_or_past}
 use Rattle.geo_base.specs.Boxes.{coordinate}
-use Rattle.geo_conditions.specs.declared.cond.Cond.{Cond, Lin, Shape, NotShape, AtLeast', Row_of-Cond, end_of-Cond, more_of-Cond}
-use Rattle.geo_conditions.specs.declared.form.Term.{Term}
-use Rattle.geo_conditions.specs.Reach.{State, Reach, Region, reach, nowhere, place_in, has, is_only, just, InBox, with_at, NotEmpty, HasNoEmpty, count}
-use Rattle.geo_conditions.specs.Conditions.{possible, how_many_possible, least_term, least_product, sum_of}
+use Rattle.geo_conditions.specs.declared.cond.Cond.{Cond}
+use Rattle.geo_conditions.specs.Reach.{State, Reach, Region, reach, nowhere, place_in, has, just, InBox, with_at, NotEmpty, HasNoEmpty}
+use Rattle.geo_conditions.specs.Conditions.{possible}
 use Rattle.geo_conditions.specs.Supported.{IsSupported, Supports, NoneRefuted}
 use Rattle.geo_conditions.proofs.Monotone.{possible_wider}
 use Rattle.geo_conditions.proofs.Points.{reach_same, reach_other, with_length, point_within, point_not_empty, place_from_1, put_inside, put_not_empty}
-use Rattle.indexical.specs.Names.{names, any_names}
+use Rattle.indexical.specs.Names.{names}
+use Rattle.indexical.proofs.Unnamed.{same_answer}
 use Rattle.object_pruning.specs.Same.{SameBut}
 use Rattle.fixpoint.specs.Near.{AreApart, IsUntouched, NearSupports, IsFine, BarePossible}
 
-same_terms : (S T : State) (ts : List Term) → ((u : ℕ) → list_any (λ (t : Term). eqb t.object.0 u) ts ≡ true → reach S u ≡ reach T u) → sum_of (least_term S) ts ≡ sum_of (least_term T) ts
-same_terms S T [] b = refl
-same_terms S T (t ∷ ts) b =
-    let e : reach S t.object.0 ≡ reach T t.object.0 = b t.object.0 (or_left (eqb t.object.0 t.object.0) (list_any (λ (u : Term). eqb u.object.0 t.object.0) ts) (eq-eqb t.object.0 t.object.0 refl)) in
-    ap (λ (r : Reach). least_product t.factor (coordinate r.region.lo t.dimension) (coordinate r.region.hi t.dimension) +ℤ sum_of (least_term S) ts) e
-    ∙ ap (λ (z : ℤ). least_term T t +ℤ z) (same_terms S T ts (λ u n. b u (or_right (eqb t.object.0 u) (list_any (λ (v : Term). eqb v.object.0 u) ts) n)))
-
 abbrev place_of : Reach → ℕ → Bool
 place_of r s = place_in r.places s
-
-mutual
-  -- a condition has the same answer where the objects that it names are the same
-  pub same_answer : (c : Cond) (S T : State) → ((u : ℕ) → names u c ≡ true → reach S u ≡ reach T u) → possible c S ≡ possible c T
-  same_answer (Lin f) S T b = ap (λ (z : ℤ). le_z (f.constant +ℤ z) (pos 0)) (same_terms S T f.terms b)
-  same_answer (Shape u s) S T b = ap (λ (r : Reach). place_of r s) (b u.0 (eq-eqb u.0 u.0 refl))
-  same_answer (NotShape u s) S T b = ap (λ (r : Reach). not (is_only r.places s)) (b u.0 (eq-eqb u.0 u.0 refl))
-  same_answer (AtLeast' n shape cs) S T b = ap (λ (m : ℕ). le_z n (pos m)) (same_row cs S T b)
-
-  same_row : {m : _} → (cs : Row_of-Cond m) (S T : State) → ((u : ℕ) → any_names u cs ≡ true → reach S u ≡ reach T u) → how_many_possible cs S ≡ how_many_possible cs T
-  same_row end_of-Cond S T b = refl
-  same_row (more_of-Cond c cs) S T b =
-      ap (λ (a : Bool). count a + how_many_possible cs S) (same_answer c S T (λ u n. b u (or_left (names u c) (any_names u cs) n)))
-      ∙ ap (λ (m : ℕ). count (possible c T) + m) (same_row cs S T (λ u n. b u (or_right (names u c) (any_names u cs) n)))
 
 -- what a condition that does not name the object sees
 same_seen : (c : Cond) (S T : State) (o : ℕ) → SameBut o S T → names o c ≡ false → (u : ℕ) → names u c ≡ true → reach S u ≡ reach T u

@@ -1,5 +1,5 @@
 -- The record of the loop over the queue.
-use Rattle.std.proofs.Common.{◌≡◌, ℕ, ◌+◌, ◌-◌, true, false, List, [], ◌++◌, length, sym, ap, ◌∙◌, subst, arith, append_assoc, slice_index}
+use Rattle.std.proofs.Common.{◌≡◌, ℕ, ◌+◌, ◌-◌, true, false, List, [], length, sym, subst, arith, slice_index}
 use Rattle.std.proofs.lemmas.List.{append-nil}
 use Rattle.std.proofs.lemmas.Option.{get_or_from_slice_get}
 use Rattle.geo_conditions.specs.declared.cond.Cond.{Cond}
@@ -7,7 +7,6 @@ use Rattle.geo_conditions.specs.Conditions.{possible}
 use Rattle.geo_conditions.specs.Reach.{State}
 use Rattle.derivation.specs.declared.event.Event.{Event}
 use Rattle.derivation.specs.Covers.{refutes}
-use Rattle.derivation.specs.Events.{Continues}
 use Rattle.derivation.proofs.Chains.{leads_nil, led_on, led_closed}
 use Rattle.geo_state.specs.declared.propagate.Settled.TheVariants.{Kept, Dead}
 use Rattle.geo_state.specs.Settle.{Records}

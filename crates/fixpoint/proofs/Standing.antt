@@ -23,7 +23,7 @@ use Rattle.fixpoint.specs.declared.links.Links.{Links}
 use Rattle.fixpoint.specs.Links.{PicksOf, NamedBy, is_among, row, AreLinks}
 use Rattle.fixpoint.specs.Near.{NearUnrefuted}
 use Rattle.fixpoint.specs.Kept.{Slots, kept_at, IsBlank, AllStand, StayFrom, Retries, BothUnrefuted, RetriesNear, StandsAlone}
-use Rattle.fixpoint.proofs.Names.{same_answer}
+use Rattle.indexical.proofs.Unnamed.{same_answer}
 use Rattle.fixpoint.proofs.Linking.{index_of, named_all, row_set_same, row_set_other, among_more}
 
 some_same : {X : Type 0} {a b : X} → Some a ≡ Some b → a ≡ b

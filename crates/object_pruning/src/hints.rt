@@ -17,7 +17,8 @@ use geo_base::MAX_DIMS;
 use geo_conditions::{ObjId, State};
 use indexical::Indexical;
 
-// Whether the condition that the k-th pick names is possible with the object there.
+// Whether the condition that the k-th pick names is possible with the object there. Most are at that place for certain, which is
+// soon known.
 fn is_pick_possible<const K: usize, I: Indexical<K>>(
     s: &State<K>,
     o: ObjId,
@@ -34,7 +35,8 @@ fn is_pick_possible<const K: usize, I: Indexical<K>>(
     ensures { (x : Cond) → PicksAt (map I.cond list.now) picks.now k x
         → result ≡ possible x (placed s.now o.0 q.now) }
 {
-    is_possible_at(s, o, q, &list[picks[k] as usize - 1])
+    let x = &list[picks[k] as usize - 1];
+    x.surely_spares(s, o, q.place) || is_possible_at(s, o, q, x)
 }
 
 // Whether no picked condition is refuted with the object there.

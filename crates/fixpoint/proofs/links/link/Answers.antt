@@ -1,6 +1,5 @@
-use Rattle.std.proofs.Common.{◌≡◌, ◌<◌, ◌≤◌, ◌+◌, ◌++◌, ◌∷◌, [], ℕ, List, true, length, set, sym, ap, subst, ◌∙◌, refl, arith}
+use Rattle.std.proofs.Common.{◌≡◌, ◌<◌, ◌+◌, ◌++◌, ◌∷◌, [], ℕ, List, length, set, sym, ap, subst, ◌∙◌, refl, arith}
 use Rattle.geo_conditions.specs.declared.object.ObjId.{ObjId}
-use Rattle.indexical.specs.Names.{names}
 use Rattle.fixpoint.specs.Links.{row}
 use Rattle.fixpoint.proofs.Linking.{LinkedBelow, linked_start, linked_upto, linked_more, row_get}
 use Rattle.fixpoint.proofs.links.link.Goals as goal

@@ -1,4 +1,4 @@
-use Rattle.std.proofs.Common.{ℕ, ◌-◌, ◌≤◌}
+use Rattle.std.proofs.Common.{◌-◌, ◌≤◌}
 use Rattle.fixpoint.proofs.Linking.{LinkedBelow}
 use Rattle.fixpoint.proofs.links.link.Given as goal
 
