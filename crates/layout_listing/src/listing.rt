@@ -121,7 +121,11 @@ fn write_layouts<const K: usize, W: Sink>(
 }
 
 /// Writes the block of a layout: in one piece, where a page has room for it.
-pub fn write_block<W: Sink>(problem: &Problem, layout: &Layout, sink: &mut W) -> Result<(), PutFault>
+pub fn write_block<W: Sink>(
+    problem: &Problem,
+    layout: &Layout,
+    sink: &mut W,
+) -> Result<(), PutFault>
     requires { IsShaped problem.now layout.now }
     ensures { Prints W.written W.faults W.quiet sink.old sink.new result
         (block_of problem.now layout.now) }

@@ -88,14 +88,14 @@ returns-in-Ended-clause-derivation g c =
     let none : b.some_found ≡ false = c.next.ensures.some_found ∙ ap (λ (x : Bool). x || is_found c.next.result) c.in_ok-search.ensures.some_found ∙ ap is_found c.in-Ended.is in
     let empty : a.began_empty ≡ true = c.in_ok-search.ensures.began_empty refl ∙ ap (λ (es : List Event). length es == 0) c.new-record.ensures.events in (
       none-derives c.args.problem.now c.args.conditions.items c.args.budget c.in_ok-search.search c.next.new.self (record {
-      well = c.is_said.ensures.formed;
-      are = c.requires.conditions;
-      walk = c.in_ok-search.ensures.walk;
-      budget = c.in_ok-search.ensures.budget;
-      walked = c.in_ok-search.ensures.walked;
-      over = c.in_ok-search.ensures.over;
-      steps = c.in-Ended.ensures.steps;
-    })
-      c.into_recorder.result.events c.into_recorder.ensures.events (c.next.ensures.derived refl c.in-Ended.is none empty (ap (λ (W : Tree). W.after) c.in_ok-search.ensures.walk)),
+        well = c.is_said.ensures.formed;
+        are = c.requires.conditions;
+        walk = c.in_ok-search.ensures.walk;
+        budget = c.in_ok-search.ensures.budget;
+        walked = c.in_ok-search.ensures.walked;
+        over = c.in_ok-search.ensures.over;
+        steps = c.in-Ended.ensures.steps;
+      })
+          c.into_recorder.result.events c.into_recorder.ensures.events (c.next.ensures.derived refl c.in-Ended.is none empty (ap (λ (W : Tree). W.after) c.in_ok-search.ensures.walk)),
       c.in_ok-search.ensures.few,
     )
