@@ -1,14 +1,14 @@
 -- What the calls of a trailed state keep.
-use Rattle.std.proofs.Common.{◌≡◌, ℕ, zero, suc, ◌+◌, ◌-◌, ◌*◌, ◌<◌, ◌≤◌, ◌⊎◌, List, [], ◌∷◌, ◌++◌, length, take, drop, set, get_or, replicate, refl, sym, ap, ◌∙◌, subst, inl, inr, arith}
+use Rattle.std.proofs.Common.{◌≡◌, ℕ, suc, ◌+◌, ◌*◌, ◌<◌, ◌≤◌, ◌⊎◌, List, [], ◌∷◌, ◌++◌, length, take, drop, set, get_or, replicate, refl, sym, ap, ◌∙◌, subst, inl, inr, arith}
 use Rattle.std.specs.List.{All}
 use Rattle.std.proofs.lemmas.Bool.{cases_lt}
-use Rattle.std.proofs.lemmas.List.{length-append, length-map, length-set, length-take, length-take-le, set-get_or, get_or_past, drop_all, take_all, take-append-le, append-nil}
+use Rattle.std.proofs.lemmas.List.{length-append, length-map, length-set, length-take, length-take-le, set-get_or, get_or_past, drop_all, take_all, append-nil}
 use Rattle.std.proofs.lemmas.List.Elements.{All-nil, All-push, All-take, All-replicate}
 use Rattle.std.proofs.Math.Seq.{take-suc, take-suc-set, take-append_seam, get_or-append_seam, drop-cons}
 use Rattle.std.proofs.Math.ListN.{length-replicate}
 use Rattle.std.proofs.Math.Nat.{mul-le-mul_right}
 use Rattle.geo_conditions.specs.Reach.{State, Reach, reach, Inside}
-use Rattle.geo_state.specs.Undo.{Entry, entry_of, undone, state_before, marks_before, restored, saved_by, marks_by, IsUndoable}
+use Rattle.geo_state.specs.Undo.{Entry, entry_of, state_before, marks_before, restored, saved_by, IsUndoable}
 use Rattle.geo_state.specs.Trail.{IsSmall, IsTrail, IsTrailed}
 use Rattle.geo_state.proofs.Undo.{length_undone, now_within}
 use Rattle.geo_state.proofs.Levels.{saves, saves_room, saves_restored, keeps_restored, opens, opens_restored, closes, closes_restored, m_within}

@@ -1,12 +1,11 @@
 -- Entries that are put back.
-use Rattle.std.proofs.Common.{◌≡◌, ◌≢◌, ℕ, zero, suc, ◌+◌, ◌-◌, ◌*◌, ◌<◌, ◌≤◌, eqb, List, [], ◌∷◌, ◌++◌, length, take, drop, map, set, get_or, refl, sym, ap, ◌∙◌, subst, inl, inr, arith}
+use Rattle.std.proofs.Common.{◌≡◌, ◌≢◌, ℕ, zero, suc, ◌+◌, ◌-◌, ◌*◌, ◌<◌, ◌≤◌, eqb, List, [], ◌∷◌, ◌++◌, length, drop, set, get_or, refl, sym, ap, ◌∙◌, subst, inl, inr, arith}
 use Rattle.std.specs.List.{All}
-use Rattle.std.proofs.lemmas.Bool.{cases_eq, cases_lt, eq-eqb, ne_eqb}
-use Rattle.std.proofs.lemmas.List.{length-append, length-set, length-take-le, get_or_append_left, get_or-set_same, get_or-set_other, set-set, set_comm, set-get_or, set_past, drop-append-le, drop_all, take-append-le, take-append-drop, take-take, map-append}
-use Rattle.std.proofs.lemmas.List.Elements.{All-set, All-weaker}
+use Rattle.std.proofs.lemmas.Bool.{cases_eq, eq-eqb, ne_eqb}
+use Rattle.std.proofs.lemmas.List.{length-set, get_or_append_left, get_or-set_other, set-set, set_comm, set-get_or, drop_all}
 use Rattle.std.proofs.Math.Seq.{get_or-append_seam}
 use Rattle.geo_conditions.specs.Reach.{Reach, State, count}
-use Rattle.geo_state.specs.Undo.{Entry, undone, state_before, marks_before, restored, count_of, saved_by, marks_by, IsUndoable}
+use Rattle.geo_state.specs.Undo.{Entry, undone, state_before, marks_before, count_of, saved_by, marks_by, IsUndoable}
 
 -- ---- a list with entries put back
 

@@ -1,7 +1,7 @@
-use Rattle.std.proofs.Common.{rules, ◌≡◌, ◌+◌, ◌<◌, ◌≤◌, ◌∷◌, [], ◌++◌, List, ℕ, suc, length, take, drop, set, refl, sym, ap, ◌∙◌, subst, arith, lit<}
+use Rattle.std.proofs.Common.{rules, ◌≡◌, ◌<◌, ℕ, length, take, drop, set, refl, sym, ap, ◌∙◌, subst, arith, lit<}
 use Rattle.std.proofs.lemmas.List.{drop_all, take_all}
 use Rattle.geo_conditions.specs.Reach.{State}
-use Rattle.geo_state.specs.Undo.{Entry, state_before, marks_before}
+use Rattle.geo_state.specs.Undo.{state_before, marks_before}
 use Rattle.geo_state.proofs.Undo.{length_undone}
 use Rattle.geo_state.proofs.Trailings.{last_of}
 use Rattle.geo_state.proofs.entries.put_back.Goals as goal

@@ -1,9 +1,9 @@
-use Rattle.std.proofs.Common.{◌≡◌, ◌+◌, ◌<◌, length, ap, sym, ◌∙◌, set, ℤ, ℕ, subst}
-use Rattle.geo_conditions.specs.Reach.{State, Reach, reach, nowhere, with_interval}
+use Rattle.std.proofs.Common.{◌≡◌, ◌<◌, length, ap, sym, ◌∙◌, set, ℕ, subst}
+use Rattle.geo_conditions.specs.Reach.{State, reach, nowhere, with_interval}
 use Rattle.geo_base.specs.Boxes.{coordinate}
 use Rattle.geo_state.specs.Undo.{Entry}
 use Rattle.geo_state.proofs.Numbers.{kept64}
-use Rattle.geo_state.proofs.Regions.{half, half_more}
+use Rattle.geo_state.proofs.Regions.{half_more}
 use Rattle.geo_state.proofs.entries.Saved.put_back.Goals as goal
 
 pub loop-d-preserved : goal.loop-d-preserved

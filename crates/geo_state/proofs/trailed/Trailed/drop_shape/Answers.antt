@@ -1,4 +1,4 @@
-use Rattle.std.proofs.Common.{rules, ◌≡◌, ◌<◌, ◌≤◌, ℕ, ℤ, List, length, get_or, set, sym, ap, ◌∙◌, subst, lit<}
+use Rattle.std.proofs.Common.{rules, ◌≡◌, ◌<◌, ◌≤◌, ℕ, List, length, get_or, sym, ap, ◌∙◌, subst, lit<}
 use Rattle.geo_conditions.specs.Reach.{State, reach, without}
 use Rattle.geo_state.specs.Trail.{Trail}
 use Rattle.geo_state.proofs.Trails.{narrows_without}

@@ -1,4 +1,4 @@
-use Rattle.std.proofs.Common.{◌≡◌, ◌+◌, ◌∷◌, [], ◌++◌, ◌<◌, List, ℕ, suc, arith, ap, sym, ◌∙◌, subst, length, take, set}
+use Rattle.std.proofs.Common.{◌≡◌, ◌+◌, ◌∷◌, [], ◌++◌, ◌<◌, ℕ, arith, ap, sym, ◌∙◌, subst, length, take, set}
 use Rattle.geo_state.specs.Trail.{Trail, IsTrailed}
 use Rattle.geo_state.specs.Undo.{restored}
 use Rattle.geo_state.proofs.Trailings.{trailed_open, open_levels}

@@ -1,4 +1,4 @@
-use Rattle.std.proofs.Common.{◌≡◌, ◌*◌, ◌≤◌, List, length, ap, sym, ◌∙◌, refl, arith, replicate, ℕ}
+use Rattle.std.proofs.Common.{◌≡◌, ◌*◌, length, ap, ◌∙◌, arith, replicate, ℕ}
 use Rattle.trail_arena.specs.Stack.{Pile}
 use Rattle.geo_state.specs.Undo.{Entry}
 use Rattle.geo_state.proofs.Trailings.{trailed_start}

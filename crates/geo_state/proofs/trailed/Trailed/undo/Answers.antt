@@ -1,4 +1,4 @@
-use Rattle.std.proofs.Common.{rules, ◌≡◌, ◌-◌, ◌∷◌, [], ◌++◌, suc, List, length, take, sym, ap, ◌∙◌, subst, arith, lit<}
+use Rattle.std.proofs.Common.{rules, ◌≡◌, ◌-◌, suc, length, take, sym, ap, ◌∙◌, subst, arith, lit<}
 use Rattle.geo_conditions.specs.Reach.{State, Inside}
 use Rattle.geo_state.specs.Trail.{Trail}
 use Rattle.geo_state.specs.Undo.{restored}
