@@ -112,30 +112,58 @@ fn said(alloc: Global, part: Part, text: &[u8]) -> Result<String, AllocError> {
     }
 }
 
-/// What is asked, and rows of a text and what it says, or its fault.
-type Table = (Part, &'static [(&'static [u8], &'static str)]);
-
-const TABLES: &[Table] = &[
-    (Part::Tokens, TOKENS),
-    (Part::End, ENDS),
-    (Part::Formula, FORMULAS),
-    (Part::Formula, FORMULA_LEVELS),
-    (Part::Statements, STATEMENTS),
-    (Part::Statements, STATEMENT_LEVELS),
-    (Part::Problem, PROBLEMS),
-    (Part::Problem, CANONICAL_FORMULAS),
-    (Part::Mistake, NAMES),
-    (Part::Mistake, KINDS),
-    (Part::Mistake, RIGHT),
-];
+/// What the first row's text says that says something else than the row wants, with what that is; nothing where there is none.
+fn wrong_row(alloc: Global, part: Part, rows: &[(&[u8], &str)]) -> Result<String, AllocError> {
+    for (text, wanted) in rows {
+        let found = said(alloc, part, text)?;
+        if found.as_str() != *wanted {
+            return format!(in alloc; "{found} in place of {wanted}");
+        }
+    }
+    Ok(String::new(alloc))
+}
 
 #[test]
-fn each_text_says_what_its_row_wants(rt: HostRuntime) -> Result<(), Fail> {
-    for (part, rows) in TABLES {
-        for (text, wanted) in *rows {
-            let found = said(rt.alloc(), *part, text)?;
-            assert!(rt; found.as_str() == *wanted, "{}", found.as_str());
-        }
+fn texts_are_cut_into_tokens(rt: HostRuntime) -> Result<(), Fail> {
+    for (part, rows) in [(Part::Tokens, TOKENS), (Part::End, ENDS)] {
+        let wrong = wrong_row(rt.alloc(), part, rows)?;
+        assert!(rt; wrong.is_empty(), "{wrong}");
+    }
+    Ok(())
+}
+
+#[test]
+fn formulas_are_read(rt: HostRuntime) -> Result<(), Fail> {
+    for rows in [FORMULAS, FORMULA_LEVELS] {
+        let wrong = wrong_row(rt.alloc(), Part::Formula, rows)?;
+        assert!(rt; wrong.is_empty(), "{wrong}");
+    }
+    Ok(())
+}
+
+#[test]
+fn statements_are_read(rt: HostRuntime) -> Result<(), Fail> {
+    for rows in [STATEMENTS, STATEMENT_LEVELS] {
+        let wrong = wrong_row(rt.alloc(), Part::Statements, rows)?;
+        assert!(rt; wrong.is_empty(), "{wrong}");
+    }
+    Ok(())
+}
+
+#[test]
+fn problems_are_read_and_printed(rt: HostRuntime) -> Result<(), Fail> {
+    for rows in [PROBLEMS, CANONICAL_FORMULAS] {
+        let wrong = wrong_row(rt.alloc(), Part::Problem, rows)?;
+        assert!(rt; wrong.is_empty(), "{wrong}");
+    }
+    Ok(())
+}
+
+#[test]
+fn names_are_checked(rt: HostRuntime) -> Result<(), Fail> {
+    for rows in [NAMES, KINDS, RIGHT] {
+        let wrong = wrong_row(rt.alloc(), Part::Mistake, rows)?;
+        assert!(rt; wrong.is_empty(), "{wrong}");
     }
     Ok(())
 }
