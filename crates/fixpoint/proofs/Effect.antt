@@ -6,6 +6,7 @@ use Rattle.std.proofs.lemmas.Int.{ints}
 use Rattle.std.proofs.lemmas.Bool.{cases_lt, cases_eq}
 use Rattle.std.proofs.lemmas.List.{get_or_past}
 use Rattle.std.proofs.lemmas.List.Elements.{All-head, All-tail}
+use Rattle.std.proofs.lemmas.Option.{same_Some}
 use Rattle.geo_conditions.specs.declared.cond.Cond.{Cond}
 use Rattle.geo_conditions.specs.Conditions.{possible}
 use Rattle.geo_conditions.specs.Reach.{State, reach, low, high, dims, just, with_at, Within, Inside, HasNoEmpty}
@@ -26,12 +27,9 @@ use Rattle.fixpoint.specs.Links.{PicksOf, BareOf, names_none}
 use Rattle.fixpoint.specs.Queue.{Prunes}
 use Rattle.fixpoint.proofs.Linking.{named_all, numbers_all, none_named}
 
-some_same : {X : Type 0} {a b : X} → Some a ≡ Some b → a ≡ b
-some_same e = cc
-
 got : {X : Type 0} (P : X → Type 0) (xs : List X) (i : ℕ) (x : X) → All P xs → slice_get xs i ≡ Some x → P x
 got P [] i x a e = absurd (cc)
-got P (y ∷ xs) zero x a e = subst P (some_same e) (All-head P y xs a)
+got P (y ∷ xs) zero x a e = subst P (same_Some _ _ e) (All-head P y xs a)
 got P (y ∷ xs) (suc i) x a e = got P xs i x (All-tail P y xs a) e
 
 -- what is picked is in the list

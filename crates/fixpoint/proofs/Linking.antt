@@ -15,6 +15,7 @@ use Rattle.sweep.specs.Picks.{ArePicks, picked}
 use Rattle.sweep.proofs.PickedConditions.{picked_at, pick_in}
 use Rattle.std.specs.declared.vec.Vec.{Vec}
 use Rattle.std.specs.declared.alloc.Global.{Global}
+use Rattle.std.proofs.Math.Bool.{or-false}
 use Rattle.geo_conditions.specs.declared.object.ObjId.{ObjId}
 use Rattle.fixpoint.specs.declared.links.Links.{Links}
 use Rattle.fixpoint.specs.Near.{AreApart}
@@ -101,10 +102,6 @@ past_picks n (x ∷ picks) a =
 wider_picks : (n : ℕ) (picks : List ℕ) → ArePicks n picks → ArePicks (n + 1) picks
 wider_picks n picks a k d h = let b = a k d h in (b.0, omega (arith, b.1))
 
-or_false : (b : Bool) → (b || false) ≡ b
-or_false true = refl
-or_false false = refl
-
 numbers_skip : (test : Cond → Bool) (cs : List Cond) (n : ℕ) (numbers : List ℕ) → NumbersOf test cs n numbers → ((d : Cond) → test (get_or cs n d) ≡ false) → NumbersOf test cs (n + 1) numbers
 numbers_skip test cs n numbers p f = record {
   within = wider_picks n numbers p.within;
@@ -119,8 +116,8 @@ numbers_more test cs n numbers p t = record {
   within = All-append (λ i. (0 < i) × (i - 1 < n + 1)) numbers (suc n ∷ []) (wider_picks n numbers p.within) one;
   each = λ i d h. elim (cases_eq i n) [
     | inl e ↦ subst (λ (j : ℕ). list_any (nat_eq (suc j)) (numbers ++ suc n ∷ []) ≡ test (get_or cs j d)) (sym e)
-        (list_any-append (nat_eq (suc n)) numbers (suc n ∷ []) ∙ ap (λ (b : Bool). b || list_any (nat_eq (suc n)) (suc n ∷ [])) (past_picks n numbers p.within) ∙ or_false (nat_eq (suc n) (suc n)) ∙ eq-eqb (suc n) (suc n) refl ∙ sym (t d))
-    | inr ne ↦ list_any-append (nat_eq (suc i)) numbers (suc n ∷ []) ∙ ap (λ (b : Bool). list_any (nat_eq (suc i)) numbers || (b || false)) (nat_eq_other (suc i) (suc n) (λ q. ne (omega (arith, q)))) ∙ or_false (list_any (nat_eq (suc i)) numbers) ∙ p.each i d (omega arith)
+        (list_any-append (nat_eq (suc n)) numbers (suc n ∷ []) ∙ ap (λ (b : Bool). b || list_any (nat_eq (suc n)) (suc n ∷ [])) (past_picks n numbers p.within) ∙ or-false (nat_eq (suc n) (suc n)) ∙ eq-eqb (suc n) (suc n) refl ∙ sym (t d))
+    | inr ne ↦ list_any-append (nat_eq (suc i)) numbers (suc n ∷ []) ∙ ap (λ (b : Bool). list_any (nat_eq (suc i)) numbers || (b || false)) (nat_eq_other (suc i) (suc n) (λ q. ne (omega (arith, q)))) ∙ or-false (list_any (nat_eq (suc i)) numbers) ∙ p.each i d (omega arith)
   ];
 }
   where
@@ -163,8 +160,8 @@ named_more c n list u q p t = record {
   below = All-append (λ v. v.0 < n + 1) list (u ∷ []) (wider_named n list p.below) one;
   each = λ o h. elim (cases_eq o n) [
     | inl e ↦ subst (λ (j : ℕ). is_among j (list ++ u ∷ []) ≡ names j c) (sym e)
-        (list_any-append (λ (v : ObjId). nat_eq v.0 n) list (u ∷ []) ∙ ap (λ (b : Bool). b || (nat_eq u.0 n || false)) (past_named n list p.below) ∙ or_false (nat_eq u.0 n) ∙ eq-eqb u.0 n q ∙ sym t)
-    | inr ne ↦ list_any-append (λ (v : ObjId). nat_eq v.0 o) list (u ∷ []) ∙ ap (λ (b : Bool). is_among o list || (b || false)) (nat_eq_other u.0 o (λ r. ne (sym r ∙ q))) ∙ or_false (is_among o list) ∙ p.each o (omega arith)
+        (list_any-append (λ (v : ObjId). nat_eq v.0 n) list (u ∷ []) ∙ ap (λ (b : Bool). b || (nat_eq u.0 n || false)) (past_named n list p.below) ∙ or-false (nat_eq u.0 n) ∙ eq-eqb u.0 n q ∙ sym t)
+    | inr ne ↦ list_any-append (λ (v : ObjId). nat_eq v.0 o) list (u ∷ []) ∙ ap (λ (b : Bool). is_among o list || (b || false)) (nat_eq_other u.0 o (λ r. ne (sym r ∙ q))) ∙ or-false (is_among o list) ∙ p.each o (omega arith)
   ];
 }
   where
@@ -308,7 +305,7 @@ apart_of cs n u o l a hu ho f i d h t = by_test (names u (get_or cs i d)) refl
 -- ---- the loops that queue objects
 
 pub among_more : (v : ℕ) (list : List ObjId) (o : ObjId) → is_among v (list ++ o ∷ []) ≡ (is_among v list || nat_eq o.0 v)
-among_more v list o = list_any-append (λ (u : ObjId). nat_eq u.0 v) list (o ∷ []) ∙ ap (λ (b : Bool). is_among v list || b) (or_false (nat_eq o.0 v))
+among_more v list o = list_any-append (λ (u : ObjId). nat_eq u.0 v) list (o ∷ []) ∙ ap (λ (b : Bool). is_among v list || b) (or-false (nat_eq o.0 v))
 
 or_true : (a b : Bool) → (a || (b || true)) ≡ true
 or_true true b = refl
@@ -316,7 +313,7 @@ or_true false true = refl
 or_true false false = refl
 
 pub marks_start : (u : ℕ) (q : List Bool) → Marks u [] q q
-marks_start u q = record { objects = refl; itself = refl; others = λ o n h. sym (or_false (get_or q o false)) }
+marks_start u q = record { objects = refl; itself = refl; others = λ o n h. sym (or-false (get_or q o false)) }
 
 pub marks_put : (u : ℕ) (list : List ObjId) (o : ObjId) (old q : List Bool) → o.0 < length old → (o.0 ≡ u → ⊥) → Marks u list old q → Marks u (list ++ o ∷ []) old (set q o.0 true)
 marks_put u list o old q b n m = record {
@@ -325,7 +322,7 @@ marks_put u list o old q b n m = record {
   others = λ v nv h. elim (cases_eq v o.0) [
     | inl e ↦ subst (λ (z : ℕ). get_or (set q o.0 true) z false ≡ (get_or old z false || is_among z (list ++ o ∷ []))) (sym e)
         (get_or-set_same q o.0 true false (omega (arith, b, m.objects)) ∙ sym (ap (λ (x : Bool). get_or old o.0 false || x) (among_more o.0 list o ∙ ap (λ (x : Bool). is_among o.0 list || x) (eq-eqb o.0 o.0 refl)) ∙ or_true (get_or old o.0 false) (is_among o.0 list)))
-    | inr ne ↦ get_or-set_other q o.0 v true false ne ∙ m.others v nv h ∙ sym (ap (λ (x : Bool). get_or old v false || x) (among_more v list o ∙ ap (λ (x : Bool). is_among v list || x) (nat_eq_other o.0 v (λ e. ne (sym e))) ∙ or_false (is_among v list)))
+    | inr ne ↦ get_or-set_other q o.0 v true false ne ∙ m.others v nv h ∙ sym (ap (λ (x : Bool). get_or old v false || x) (among_more v list o ∙ ap (λ (x : Bool). is_among v list || x) (nat_eq_other o.0 v (λ e. ne (sym e))) ∙ or-false (is_among v list)))
   ];
 }
 
@@ -333,7 +330,7 @@ pub marks_skip : (u : ℕ) (list : List ObjId) (o : ObjId) (old q : List Bool) �
 marks_skip u list o old q e m = record {
   objects = m.objects;
   itself = m.itself;
-  others = λ v nv h. m.others v nv h ∙ sym (ap (λ (x : Bool). get_or old v false || x) (among_more v list o ∙ ap (λ (x : Bool). is_among v list || x) (nat_eq_other o.0 v (λ q. nv (sym q ∙ e))) ∙ or_false (is_among v list)));
+  others = λ v nv h. m.others v nv h ∙ sym (ap (λ (x : Bool). get_or old v false || x) (among_more v list o ∙ ap (λ (x : Bool). is_among v list || x) (nat_eq_other o.0 v (λ q. nv (sym q ∙ e))) ∙ or-false (is_among v list)));
 }
 
 -- the objects of the first k lists that have u are queued too

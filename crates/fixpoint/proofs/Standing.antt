@@ -4,7 +4,7 @@ use Rattle.std.specs.Prelude.{nat_eq, if◌then◌else◌, IfSome}
 use Rattle.std.specs.List.{All, list_any}
 use Rattle.std.proofs.lemmas.Bool.{false≢true, or_cases, or_left, or_right, cases_eq, cases_lt}
 use Rattle.std.proofs.lemmas.List.{get_or_past, get_or_default}
-use Rattle.std.proofs.lemmas.Option.{slice_get-get_or}
+use Rattle.std.proofs.lemmas.Option.{slice_get-get_or, same_Some}
 use Rattle.geo_conditions.specs.declared.cond.Cond.{Cond}
 use Rattle.geo_conditions.specs.declared.object.ObjId.{ObjId}
 use Rattle.geo_conditions.specs.Conditions.{possible}
@@ -25,9 +25,6 @@ use Rattle.fixpoint.specs.Near.{NearUnrefuted}
 use Rattle.fixpoint.specs.Kept.{Slots, kept_at, IsBlank, AllStand, StayFrom, Retries, BothUnrefuted, RetriesNear, StandsAlone}
 use Rattle.indexical.proofs.Unnamed.{same_answer}
 use Rattle.fixpoint.proofs.Linking.{index_of, named_all, row_set_same, row_set_other, among_more}
-
-some_same : {X : Type 0} {a b : X} → Some a ≡ Some b → a ≡ b
-some_same e = cc
 
 -- ---- what a condition sees
 
@@ -229,7 +226,7 @@ picked_named P cs o picks p a = picked_all P cs picks (λ k x y.
     let w = pick_in (length cs) picks k p.within y.0 in
     let j = slice_index picks k - 1 in
     let s : slice_index picks k ≡ suc j = omega (arith, w.0) in
-    let here : get_or cs j x ≡ x = some_same (sym (slice_get-get_or cs j x w.1) ∙ y.1) in
+    let here : get_or cs j x ≡ x = same_Some _ _ (sym (slice_get-get_or cs j x w.1) ∙ y.1) in
     let named : names o (get_or cs j x) ≡ true = sym (p.each j x w.1) ∙ any_at (suc j) picks k y.0 s in
     subst P here (a j x w.1 named))
 

@@ -14,13 +14,13 @@ use Rattle.problem_data.specs.Parts.{Parts, parts_of}
 use Rattle.problem_data.specs.Accepted.{most_bytes, Accepts}
 use Rattle.problem_data.specs.Meaning.{problem_of}
 use Rattle.problem_data.specs.WellFormed.{IsWellFormed}
-use Rattle.problem_data.specs.Problem.{MacroData, DemandData, apart, within, plain, RuleData, ProblemData}
+use Rattle.problem_data.specs.Problem.{MacroData, DemandData, apart, within, plain, RuleData, ProblemData, runs_down}
 use Rattle.problem_data.proofs.Sound.{sound}
 use Rattle.problem_syntax.specs.Reading.{problem_at}
 use Rattle.problem_syntax.proofs.Right.{problem_good}
 use Rattle.problem_syntax.proofs.Levels.{problem_reading}
 use Rattle.problem_syntax.proofs.WholeText.{is_whole}
-use Rattle.problem_text.specs.Canonical.{line_text, head_spelling, shape_names, object_names, shape_spelling, object_spelling, macro_spelling, rule_spelling, order_spelling, sides_spelling, counts_from, is_high, line_if, problem_text}
+use Rattle.problem_text.specs.Canonical.{line_text, head_spelling, shape_names, object_names, shape_spelling, object_spelling, macro_spelling, rule_spelling, order_spelling, sides_spelling, counts_from, line_if, problem_text}
 use Rattle.problem_text.specs.ReadBack.{bare_macro, bare_demand, bare_rule, bare_problem, ReadsBack}
 use Rattle.problem_text.proofs.BareParts.{bare_parts, parts_bare, meaning_bare}
 use Rattle.problem_text.proofs.CanonicalParts.{object_tree_of, canonical_parts, parts_canonical, canonical_meaning}
@@ -94,7 +94,7 @@ bare_text : (q : ProblemData) → map bare_macro q.macros ≡ [] → AllOf (λ (
 bare_text q none plain_rules = λ k.
     line_text (head_spelling q) ++ (flat_map (λ s. line_text (shape_spelling s)) q.shapes ++ (flat_map (λ o. line_text (object_spelling (shape_names q) o)) q.objects
     ++ (macro_lines q.macros none k ++ (line_if (not (counts_from 0 q.order)) (order_spelling (object_names q) q.order)
-    ++ (line_if (list_any is_high q.sides) (sides_spelling q.sides) ++ (rule_lines q.rules plain_rules k ++ line_text (word keywords.End ∷ [])))))))
+    ++ (line_if (list_any runs_down q.sides) (sides_spelling q.sides) ++ (rule_lines q.rules plain_rules k ++ line_text (word keywords.End ∷ [])))))))
 
 pub made_printed_again : (seed : ℕ) (q : ProblemData) → Accepts (made_text seed) q → problem_text q ≡ made_text seed
 made_printed_again seed q a =

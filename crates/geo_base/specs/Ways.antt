@@ -3,8 +3,8 @@ use Rattle.std.specs.Prelude.{◌≡◌, ◌≢◌, ℕ, ◌+◌, ◌-◌, ◌<�
 use Rattle.geo_base.specs.Boxes.{coordinate}
 
 -- the coordinates of p lie within the limits, so that one more or less does not overflow
-abbrev pub IsSmall : ℕ → List ℤ → Type 0
-IsSmall K p = (d : ℕ) → d < K → (negsuc 1999999 ≤ℤ coordinate p d) × (coordinate p d ≤ℤ pos 2000000)
+abbrev pub IsSmallPoint : ℕ → List ℤ → Type 0
+IsSmallPoint K p = (d : ℕ) → d < K → (negsuc 1999999 ≤ℤ coordinate p d) × (coordinate p d ≤ℤ pos 2000000)
 
 -- the dimension at a place of significance: the lead, those after it, and around
 abbrev pub dimension : ℕ → ℕ → ℕ → ℕ

@@ -1,7 +1,7 @@
 ghost use Rattle.std.specs.Prelude.{◌≡◌, ◌≢◌, ℕ, ◌+◌, ◌<◌, ◌≤◌, pos, negsuc, ◌+ℤ◌, ◌≤ℤ◌, ◌↔◌, IsTrue, MatchBool};
 ghost use Rattle.std.specs.Int.{int_min};
 ghost use Rattle.geo_base.specs.Boxes.{coordinate};
-ghost use Rattle.geo_base.specs.Ways.{dimension, toward, key, Before, start, end, one_past, Advances, RunsOut, IsSmall};
+ghost use Rattle.geo_base.specs.Ways.{dimension, toward, key, Before, start, end, one_past, Advances, RunsOut, IsSmallPoint};
 ghost use Rattle.geo_base.specs.declared.TheConstants.{MAX_DIMS};
 
 use super::MAX_DIMS;
@@ -114,7 +114,7 @@ impl<const K: usize> Way<K> {
     /// The point one past e in each dimension.
     #[inline(always)]
     pub fn one_past(&self, e: &Point<K>) -> Point<K>
-        requires { IsSmall K e.now.coordinates }
+        requires { IsSmallPoint K e.now.coordinates }
         ensures { (d : ℕ) → d < K → toward self.now.up (coordinate result.coordinates d)
             ≡ toward self.now.up (coordinate e.now.coordinates d) +ℤ pos 1 }
     {
@@ -128,7 +128,7 @@ impl<const K: usize> Way<K> {
     /// Draws the jump n in to one past the corner e, in each dimension where it lies further on.
     #[inline(always)]
     pub fn draw_in(&self, e: &Point<K>, n: &mut Point<K>)
-        requires { IsSmall K e.now.coordinates }
+        requires { IsSmallPoint K e.now.coordinates }
         ensures { (d : ℕ) → d < K → toward self.now.up (coordinate n.new.coordinates d)
             ≡ int_min (toward self.now.up (coordinate n.old.coordinates d))
             (toward self.now.up (coordinate e.now.coordinates d) +ℤ pos 1) }
@@ -142,7 +142,7 @@ impl<const K: usize> Way<K> {
     #[inline(always)]
     fn draw_in_at(&self, e: &Point<K>, n: &mut Point<K>, d: usize)
         requires dimension { d < K }
-        requires small { IsSmall K e.now.coordinates }
+        requires small { IsSmallPoint K e.now.coordinates }
         ensures same { toward self.now.up (coordinate n.new.coordinates d)
             ≡ int_min (toward self.now.up (coordinate n.old.coordinates d))
             (toward self.now.up (coordinate e.now.coordinates d) +ℤ pos 1) }
@@ -179,8 +179,8 @@ pub fn advance<const K: usize>(
     c: &mut Point<K>,
     n: &mut Point<K>,
 ) -> bool
-    requires low_corner { IsSmall K region.now.lo.coordinates }
-    requires high_corner { IsSmall K region.now.hi.coordinates }
+    requires low_corner { IsSmallPoint K region.now.lo.coordinates }
+    requires high_corner { IsSmallPoint K region.now.hi.coordinates }
     ensures { let lo = region.now.lo.coordinates in
         let hi = region.now.hi.coordinates in
         let k = key K way.now.lead way.now.up in

@@ -1,13 +1,16 @@
 -- The children of a condition as a list.
-use Rattle.std.proofs.Common.{◌≡◌, ℕ, suc, ◌+◌, ◌<◌, ◌≤◌, List, [], ◌∷◌, length, get_or, drop, refl, sym, ap, ◌∙◌, subst, below_more}
+use Rattle.std.proofs.Common.{◌≡◌, ℕ, suc, ◌+◌, ◌-◌, ◌<◌, ◌≤◌, List, [], ◌∷◌, length, get_or, drop, refl, sym, ap, ◌∙◌, subst, below_more}
 use Rattle.std.specs.List.{All}
 use Rattle.geo_conditions.specs.declared.cond.Cond.{Row_of-Cond, end_of-Cond, more_of-Cond, items-the_row-Cond, items_hidden-the_row-Cond-0, Cond, AtLeast, AtLeast'}
 use Rattle.geo_conditions.specs.declared.cond.Conds.{Conds}
-use Rattle.std.proofs.Common.{ℤ, pos}
+use Rattle.std.proofs.Common.{ℤ, pos, ◌≤ℤ◌, ◌<ℤ◌, Bool, true, false, arith, inl, inr}
+use Rattle.std.proofs.lemmas.Int.{ints}
+use Rattle.std.proofs.lemmas.Bool.{cases_Bool}
 use lib.Signed.{le_z}
+use borrow.Author.Differences.{le-true, true_is_le}
 use mathlib.Core.Former.{Count}
 use Rattle.std.proofs.Math.Seq.{drop-cons}
-use Rattle.std.proofs.lemmas.List.{drop_all}
+use Rattle.std.proofs.lemmas.List.{drop_all, length-drop}
 use Rattle.std.proofs.lemmas.List.Elements.{All-nil, All-cons, All-head, All-tail}
 use Rattle.geo_conditions.proofs.Defaults.{any_default}
 use Rattle.geo_conditions.specs.Reach.{State, count}
@@ -41,12 +44,50 @@ fit_out n children S h =
     let same = items_hidden-the_row-Cond-0 children.items in
     subst (All (λ c. FitsIn c S)) same (fit_is row.0 row.1 S h)
 
+count_most : (b : Bool) → count b ≤ 1
+count_most true = omega arith
+count_most false = omega arith
+
+pub many_most : (S : State) (cs : List Cond) → many_possible S cs ≤ length cs
+many_most S [] = omega arith
+many_most S (c ∷ cs) = let r = many_most S cs in let k = count_most (possible c S) in omega arith
+
+-- so many of the children are possible, which is enough
+pub enough_possible : (n : ℤ) (children : Conds) (S : State) (c : Cond) (xs : List Cond) (k : ℕ) → c ≡ AtLeast n children → xs ≡ children.items.items → n ≤ℤ pos k → k ≤ many_possible S xs → possible c S ≡ true
+enough_possible n children S c xs k e f l h =
+    ap (λ (x : Cond). possible x S) e ∙ at_least_is n children S ∙ ap (λ (ys : List Cond). le_z n (pos (many_possible S ys))) (sym f)
+    ∙ sym (true_is_le n (pos (many_possible S xs)) (omega (arith, ints)))
+
+-- no more of the children than that are possible, which is not enough
+pub too_few_possible : (n : ℤ) (children : Conds) (S : State) (c : Cond) (xs : List Cond) (k : ℕ) → c ≡ AtLeast n children → xs ≡ children.items.items → pos k <ℤ n → many_possible S xs ≤ k → possible c S ≡ false
+too_few_possible n children S c xs k e f l h =
+    let many : ℤ = pos (many_possible S xs) in
+    ap (λ (x : Cond). possible x S) e ∙ at_least_is n children S ∙ ap (λ (ys : List Cond). le_z n (pos (many_possible S ys))) (sym f)
+    ∙ elim (cases_Bool (le_z n many)) [
+      | inl q ↦ absurd (let w = le-true n many q in omega (arith, ints))
+      | inr q ↦ q
+    ]
+
 -- one child more
 pub many_step : (S : State) (cs : List Cond) (i : ℕ) (d : Cond) → i < length cs → many_possible S (drop i cs) ≡ count (possible (get_or cs i d) S) + many_possible S (drop (suc i) cs)
 many_step S cs i d h = ap (many_possible S) (drop-cons cs i d h)
 
 pub many_end : (S : State) (cs : List Cond) (i : ℕ) → length cs ≤ i → many_possible S (drop i cs) ≡ 0
 many_end S cs i h = ap (many_possible S) (drop_all i cs h)
+
+-- one more that is possible, behind the first i
+pub one_more : (S : State) (xs : List Cond) (i sure : ℕ) (x : Cond) → i < length xs → sure + many_possible S (drop i xs) ≡ many_possible S xs → possible (get_or xs i x) S ≡ true → sure + 1 ≤ many_possible S xs
+one_more S xs i sure x h v e =
+    let step : many_possible S (drop i xs) ≡ count (possible (get_or xs i x) S) + many_possible S (drop (suc i) xs) = many_step S xs i x h in
+    let one : count (possible (get_or xs i x) S) ≡ 1 = ap count e in omega arith
+
+-- one more that is not possible, behind the first i
+pub one_less : (S : State) (xs : List Cond) (i sure left : ℕ) (x : Cond) → i < length xs → sure + many_possible S (drop i xs) ≡ many_possible S xs → left + i ≡ length xs + sure → possible (get_or xs i x) S ≡ false → many_possible S xs ≤ left - 1
+one_less S xs i sure left x h v w e =
+    let step : many_possible S (drop i xs) ≡ count (possible (get_or xs i x) S) + many_possible S (drop (suc i) xs) = many_step S xs i x h in
+    let none : count (possible (get_or xs i x) S) ≡ 0 = ap count e in
+    let rest : many_possible S (drop (suc i) xs) ≤ length (drop (suc i) xs) = many_most S (drop (suc i) xs) in
+    let size : length (drop (suc i) xs) ≡ length xs - suc i = length-drop (suc i) xs in omega arith
 
 fit_back : (n : _) (row : Row_of-Cond n) (S : State) → All (λ c. FitsIn c S) (items-the_row-Cond n row) → AllFitIn row S
 fit_back n end_of-Cond S h = tt

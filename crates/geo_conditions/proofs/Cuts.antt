@@ -196,7 +196,7 @@ cut G (CoordinateOf o d false) u e n h f = elim (cases_ℤ (low G o d) (high G o
   | inl l ↦ inl (
     set G o (raised (reach G o) d),
     subst (λ (z : ℤ). Narrows G (set G o (raised (reach G o) d)) (λ T. z <ℤ low T o d)) f (past_low G o d h.0 h.1),
-    size_set G o (raised (reach G o) d) h.0 (let w = lo_narrower (reach G o).region.lo (reach G o).region.hi d h.1 (e o) l in omega arith),
+    size_set G o (raised (reach G o) d) h.0 (let w = lo_narrower (reach G o).region.lo (reach G o).region.hi d (coordinate (reach G o).region.lo d +ℤ pos 1) h.1 (e o) (omega (arith, ints)) l in omega arith),
   )
   | inr l ↦ inr (λ T t i p. let r = (t o (omega (arith, i.objects, h.0))).ranges d in absurd (omega (arith, ints, r, p, f, l, (i.each o).highs d)))
 ]
@@ -204,7 +204,7 @@ cut G (CoordinateOf o d true) u e n h f = elim (cases_ℤ (low G o d) (high G o 
   | inl l ↦ inl (
     set G o (lowered (reach G o) d),
     subst (λ (z : ℤ). Narrows G (set G o (lowered (reach G o) d)) (λ T. high T o d <ℤ z)) f (past_high G o d h.0 (omega (arith, h.1, e o))),
-    size_set G o (lowered (reach G o) d) h.0 (let w = hi_narrower (reach G o).region.lo (reach G o).region.hi d h.1 (e o) l in omega arith),
+    size_set G o (lowered (reach G o) d) h.0 (let w = hi_narrower (reach G o).region.lo (reach G o).region.hi d (coordinate (reach G o).region.hi d +ℤ negsuc 0) h.1 (e o) (omega (arith, ints)) l in omega arith),
   )
   | inr l ↦ inr (λ T t i p. let r = (t o (omega (arith, i.objects, h.0))).ranges d in absurd (omega (arith, ints, r, p, f, l, (i.each o).lows d)))
 ]

@@ -159,19 +159,19 @@ fewer (true ∷ bs) zero h = omega arith
 fewer (false ∷ bs) zero h = absurd (false≢true h)
 fewer (b ∷ bs) (suc k) h = let l : how_many (set bs k false) < how_many bs = fewer bs k h in omega arith
 
-pub lo_narrower : (ls hs : List ℤ) (d : ℕ) → d < length ls → length ls ≡ length hs → coordinate ls d <ℤ coordinate hs d → widths (set ls d (coordinate ls d +ℤ pos 1)) hs < widths ls hs
-lo_narrower [] hs d h e k = absurd (omega arith)
-lo_narrower (l ∷ ls) [] d h e k = absurd (omega arith)
-lo_narrower (l ∷ ls) (x ∷ hs) zero h e k = omega (arith, ints)
-lo_narrower (l ∷ ls) (x ∷ hs) (suc d) h e k =
-    let n : widths (set ls d (coordinate ls d +ℤ pos 1)) hs < widths ls hs = lo_narrower ls hs d (omega arith) (omega arith) k in omega arith
+pub lo_narrower : (ls hs : List ℤ) (d : ℕ) (v : ℤ) → d < length ls → length ls ≡ length hs → coordinate ls d <ℤ v → coordinate ls d <ℤ coordinate hs d → widths (set ls d v) hs < widths ls hs
+lo_narrower [] hs d v h e k m = absurd (omega arith)
+lo_narrower (l ∷ ls) [] d v h e k m = absurd (omega arith)
+lo_narrower (l ∷ ls) (x ∷ hs) zero v h e k m = omega (arith, ints)
+lo_narrower (l ∷ ls) (x ∷ hs) (suc d) v h e k m =
+    let n : widths (set ls d v) hs < widths ls hs = lo_narrower ls hs d v (omega arith) (omega arith) k m in omega arith
 
-pub hi_narrower : (ls hs : List ℤ) (d : ℕ) → d < length ls → length ls ≡ length hs → coordinate ls d <ℤ coordinate hs d → widths ls (set hs d (coordinate hs d +ℤ negsuc 0)) < widths ls hs
-hi_narrower [] hs d h e k = absurd (omega arith)
-hi_narrower (l ∷ ls) [] d h e k = absurd (omega arith)
-hi_narrower (l ∷ ls) (x ∷ hs) zero h e k = omega (arith, ints)
-hi_narrower (l ∷ ls) (x ∷ hs) (suc d) h e k =
-    let n : widths ls (set hs d (coordinate hs d +ℤ negsuc 0)) < widths ls hs = hi_narrower ls hs d (omega arith) (omega arith) k in omega arith
+pub hi_narrower : (ls hs : List ℤ) (d : ℕ) (v : ℤ) → d < length ls → length ls ≡ length hs → v <ℤ coordinate hs d → coordinate ls d <ℤ coordinate hs d → widths ls (set hs d v) < widths ls hs
+hi_narrower [] hs d v h e k m = absurd (omega arith)
+hi_narrower (l ∷ ls) [] d v h e k m = absurd (omega arith)
+hi_narrower (l ∷ ls) (x ∷ hs) zero v h e k m = omega (arith, ints)
+hi_narrower (l ∷ ls) (x ∷ hs) (suc d) v h e k m =
+    let n : widths ls (set hs d v) < widths ls hs = hi_narrower ls hs d v (omega arith) (omega arith) k m in omega arith
 
 -- ---- one step down
 
@@ -246,7 +246,7 @@ one_low cs S o d e h k = elim (decide_end cs S o d (low S o d)) [
     | inl l ↦ inr (inr (
       set S o (raised (reach S o) d),
       raise_keeps cs S o d h k n,
-      size_set S o (raised (reach S o) d) h (let w = lo_narrower (reach S o).region.lo (reach S o).region.hi d k (e o) l in omega arith),
+      size_set S o (raised (reach S o) d) h (let w = lo_narrower (reach S o).region.lo (reach S o).region.hi d (coordinate (reach S o).region.lo d +ℤ pos 1) k (e o) (omega (arith, ints)) l in omega arith),
     ))
     | inr l ↦ inr (inl (λ T s i. let g = low_above cs S T o d h k s i n in let m = (s.nonempty o (in_narrower T S o i h)).ranges d in absurd (omega (arith, ints, g, m, l, (i.each o).highs d))))
   ]
@@ -259,7 +259,7 @@ one_high cs S o d e h k = elim (decide_end cs S o d (high S o d)) [
     | inl l ↦ inr (inr (
       set S o (lowered (reach S o) d),
       lower_keeps cs S o d h k n,
-      size_set S o (lowered (reach S o) d) h (let w = hi_narrower (reach S o).region.lo (reach S o).region.hi d k (e o) l in omega arith),
+      size_set S o (lowered (reach S o) d) h (let w = hi_narrower (reach S o).region.lo (reach S o).region.hi d (coordinate (reach S o).region.hi d +ℤ negsuc 0) k (e o) (omega (arith, ints)) l in omega arith),
     ))
     | inr l ↦ inr (inl (λ T s i. let g = high_below cs S T o d h k s i n in let m = (s.nonempty o (in_narrower T S o i h)).ranges d in absurd (omega (arith, ints, g, m, l, (i.each o).lows d))))
   ]

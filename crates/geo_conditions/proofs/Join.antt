@@ -3,6 +3,7 @@ use Rattle.std.proofs.Common.{◌≡◌, ℕ, zero, suc, ◌<◌, Bool, true, fa
 use Rattle.std.proofs.lemmas.Int.{ints}
 use Rattle.std.proofs.lemmas.Bool.{cases_lt, cases_Bool, or_cases, or_left, or_right, cond-true, cond-false}
 use Rattle.std.proofs.lemmas.List.{get_or_past}
+use Rattle.std.proofs.Math.Bool.{or-false}
 use lib.Signed.{le_z}
 use borrow.Author.Differences.{le-true, le-false}
 use Rattle.geo_conditions.specs.declared.cond.Cond.{Cond}
@@ -33,15 +34,11 @@ same_shape k S T s t e = record {
   ];
 }
 
-or_false : (b : Bool) → b ≡ (b || false)
-or_false true = refl
-or_false false = refl
-
 pub place_either : (bs cs : List Bool) (s : ℕ) → place_in (either bs cs) s ≡ (place_in bs s || place_in cs s)
 place_either [] cs zero = refl
 place_either [] cs (suc s) = refl
 place_either (b ∷ bs) [] zero = refl
-place_either (b ∷ bs) [] (suc s) = or_false (place_in (b ∷ bs) (suc s))
+place_either (b ∷ bs) [] (suc s) = sym (or-false (place_in (b ∷ bs) (suc s)))
 place_either (b ∷ bs) (c ∷ cs) zero = refl
 place_either (b ∷ bs) (c ∷ cs) (suc zero) = refl
 place_either (b ∷ bs) (c ∷ cs) (suc (suc k)) = place_either bs cs (suc k)

@@ -1,5 +1,5 @@
 -- What is possible with an object in a box is possible with it in a wider box, whatever is empty.
-use Rattle.std.proofs.Common.{◌≡◌, ◌≢◌, ℕ, zero, suc, ◌<◌, ◌≤◌, Bool, true, false, not, List, [], ◌∷◌, length, refl, sym, ap, ◌∙◌, subst, inl, inr, arith, ℤ, pos, negsuc, ◌+ℤ◌, ◌≤ℤ◌}
+use Rattle.std.proofs.Common.{◌≡◌, ℕ, ◌<◌, ◌≤◌, Bool, true, not, List, [], ◌∷◌, length, sym, ap, ◌∙◌, subst, inl, inr, arith, ℤ, pos, ◌≤ℤ◌}
 use Rattle.std.specs.List.{All}
 use Rattle.std.proofs.lemmas.Int.{ints}
 use Rattle.std.proofs.lemmas.Bool.{cases_eq, false≢true, false_from_ne_true}
@@ -8,7 +8,7 @@ use borrow.Author.Differences.{at_most_in}
 use Rattle.geo_base.specs.Boxes.{coordinate}
 use Rattle.geo_conditions.specs.declared.form.Term.{Term}
 use Rattle.geo_conditions.specs.declared.cond.Cond.{Cond, Lin, Shape, NotShape, AtLeast', Row_of-Cond, end_of-Cond, more_of-Cond}
-use Rattle.geo_conditions.specs.Reach.{State, Reach, Region, reach, has, low, high, dims, is_only, place_in, count, with_at, Exists}
+use Rattle.geo_conditions.specs.Reach.{State, Reach, Region, reach, low, high, dims, is_only, place_in, count, with_at, Exists}
 use Rattle.geo_conditions.specs.Conditions.{sum_of, least_term, least_value, possible, how_many_possible, FitsIn, AllFitIn, IsRefuted}
 use Rattle.geo_conditions.proofs.Monotone.{add_le, least_product_le, test_le, count_le}
 use Rattle.geo_conditions.proofs.Points.{reach_same, reach_other}

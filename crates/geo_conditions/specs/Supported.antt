@@ -1,6 +1,6 @@
 -- Supported states, and the greatest one inside a state.
-use Rattle.std.specs.Prelude.{◌≡◌, ℕ, ◌<◌, ◌-◌, ◌⊎◌, Bool, true, false, List, [], ◌∷◌, ◌++◌, length, ℤ, ◌<ℤ◌}
-use Rattle.std.specs.List.{All, range_with_len}
+use Rattle.std.specs.Prelude.{◌≡◌, ℕ, ◌<◌, Bool, true, List, length, ℤ}
+use Rattle.std.specs.List.{All}
 use Rattle.geo_conditions.specs.declared.cond.Cond.{Cond}
 use Rattle.geo_base.specs.Boxes.{coordinate}
 use Rattle.geo_base.specs.Ways.{Before}

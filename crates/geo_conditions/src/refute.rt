@@ -2,7 +2,7 @@ ghost use Rattle.std.specs.Prelude.{◌≡◌, ◌<◌, ◌≤◌, length, not, 
 ghost use Rattle.std.specs.List.{All};
 ghost use Rattle.geo_conditions.specs.Conditions.{possible, least_value, least_term, FitsIn};
 ghost use Rattle.geo_conditions.specs.Form.{IsBounded};
-ghost use Rattle.geo_conditions.specs.Reach.{has, reach, with_at, is_only, dims, Exists, put_on};
+ghost use Rattle.geo_conditions.specs.Reach.{has, reach, low, high, with_at, is_only, Exists, put_on};
 ghost use Rattle.geo_conditions.specs.Regions.{region_of};
 ghost use Rattle.geo_conditions.specs.Puts.{put_of};
 ghost use Rattle.geo_conditions.specs.Sums.{InSum};
@@ -21,16 +21,27 @@ struct Put<const K: usize> {
     region: KBox<K>,
 }
 
-fn region_in<const K: usize>(s: &State<K>, put: &Option<Put<K>>, o: ObjId) -> KBox<K>
+fn low_in<const K: usize>(s: &State<K>, put: &Option<Put<K>>, o: ObjId, d: usize) -> i64
     requires k { K ≤ MAX_DIMS }
     requires object { o.0 < length s.now }
-    ensures value { region_of result ≡ (reach (put_on (put_of put.now) s.now) o.0).region }
-    ensures dimensions { dims s.now o.0 ≡ K }
+    requires dimension { d < K }
+    ensures { result ≡ low (put_on (put_of put.now) s.now) o.0 d }
 {
-    let held = s.region(o);
     match put {
-        Some(p) if p.object.0 == o.0 => p.region,
-        _ => held,
+        Some(p) if p.object.0 == o.0 => p.region.lo.get(d),
+        _ => s.interval(o, d).lo,
+    }
+}
+
+fn high_in<const K: usize>(s: &State<K>, put: &Option<Put<K>>, o: ObjId, d: usize) -> i64
+    requires k { K ≤ MAX_DIMS }
+    requires object { o.0 < length s.now }
+    requires dimension { d < K }
+    ensures { result ≡ high (put_on (put_of put.now) s.now) o.0 d }
+{
+    match put {
+        Some(p) if p.object.0 == o.0 => p.region.hi.get(d),
+        _ => s.interval(o, d).hi,
     }
 }
 
@@ -69,11 +80,11 @@ fn least_term<const K: usize>(term: &Term, s: &State<K>, put: &Option<Put<K>>) -
     ensures value { result ≡ least_term (put_on (put_of put.now) s.now) term.now }
     ensures bound { InSum 1 result }
 {
-    let region = region_in(s, put, term.object);
+    let _objects = s.objects();
     if term.factor < 0 {
-        product(term.factor, region.hi.get(term.dimension))
+        product(term.factor, high_in(s, put, term.object, term.dimension))
     } else {
-        product(term.factor, region.lo.get(term.dimension))
+        product(term.factor, low_in(s, put, term.object, term.dimension))
     }
 }
 
@@ -101,13 +112,23 @@ fn possible_in<const K: usize>(c: &Cond, s: &State<K>, put: &Option<Put<K>>) -> 
         Cond::Shape(o, place) => has_in(s, put, *o, *place),
         Cond::NotShape(o, place) => !is_only_in(s, put, *o, *place),
         Cond::AtLeast(n, children) => {
-            let mut count: usize = 0;
+            let least = i128::from(*n);
+            let mut sure: usize = 0;
+            let mut open = children.len();
             for child in children.as_slice() {
                 if possible_in(child, s, put) {
-                    count += 1;
+                    sure += 1;
+                    if least <= sure as i128 {
+                        return true;
+                    }
+                } else {
+                    open -= 1;
+                    if (open as i128) < least {
+                        return false;
+                    }
                 }
             }
-            i128::from(*n) <= count as i128
+            least <= sure as i128
         }
     }
 }

@@ -2,6 +2,7 @@
 use Rattle.std.proofs.Common.{◌≡◌, ◌&&◌, ◌||◌, Bool, true, false, not, List, [], ◌∷◌, map, ℤ, pos, ◌+ℤ◌, neg_ℤ, ap, ◌∙◌, refl, arith}
 use Rattle.std.proofs.lemmas.Int.{ints}
 use Rattle.std.specs.Prelude.{int_lt}
+use Rattle.std.proofs.Math.Bool.{or-false}
 use lib.Signed.{le_z}
 use Rattle.rule_syntax.specs.declared.tree.Rel.{Rel}
 use Rattle.rule_syntax.specs.declared.tree.Rel.TheVariants.{Lt, Le, Eq, Ne, Ge, Gt}
@@ -61,10 +62,6 @@ and_true : (b : Bool) → (b && true) ≡ b
 and_true true = refl
 and_true false = refl
 
-or_false : (b : Bool) → (b || false) ≡ b
-or_false true = refl
-or_false false = refl
-
 and_swap : (a b : Bool) → (a && (b && true)) ≡ (b && a)
 and_swap true true = refl
 and_swap true false = refl
@@ -87,7 +84,7 @@ leaves-true t Eq f a b e =
     ∙ ap (λ x. not (int_lt a b) && x) (linear-small t f _ e ∙ small_le a b _ refl)
 leaves-true t Ne f a b e =
     joined-true false t (fold_linear (plus_one f) ∷ (fold_linear (plus_one (negated f)) ∷ []))
-    ∙ ap (λ x. true_on t (fold_linear (plus_one f)) || x) (or_false (true_on t (fold_linear (plus_one (negated f)))))
+    ∙ ap (λ x. true_on t (fold_linear (plus_one f)) || x) (or-false (true_on t (fold_linear (plus_one (negated f)))))
     ∙ ap (λ x. x || true_on t (fold_linear (plus_one (negated f)))) (linear-small t (plus_one f) _ (plus-is t f _ e) ∙ small_lt a b _ refl)
     ∙ ap (λ x. int_lt a b || x) (linear-small t (plus_one (negated f)) _ (plus-is t (negated f) _ (negated-is t f _ e)) ∙ small_gt a b _ refl)
 

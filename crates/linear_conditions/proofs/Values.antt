@@ -5,7 +5,7 @@ use Rattle.std.specs.Option.{option_map_or}
 use Rattle.std.specs.Int.{int_min, int_max, int_div_euclid, int_rem_euclid}
 use Rattle.std.specs.Str.{bytes_eq}
 use Rattle.std.proofs.lemmas.Bool.Decides.{nat_tests}
-use Rattle.std.proofs.lemmas.Bool.{false≢true}
+use Rattle.std.proofs.lemmas.Bool.{false≢true, or_from}
 use Rattle.std.proofs.lemmas.Int.{ints}
 use Rattle.std.proofs.lemmas.List.{get_or_past}
 use Rattle.geo_base.specs.Tuple.{Spot, nothing_put}
@@ -101,9 +101,6 @@ mutual
       bare-products p rest env fix (product_step p f s env fix) (bare-factor p s env fix f b (left_false (product_has s) (products_have rest) h)) (right_false (product_has s) (products_have rest) h)
 
 -- what has no coordinates multiplies none
-or_false : (a b : Bool) → a ≡ false → b ≡ false → (a || b) ≡ false
-or_false a b h k = ap (λ x. x || b) h ∙ k
-
 mutual
   pub unbroken : (e : PlainExprTree) → has_coordinate e ≡ false → expr_breaks e ≡ false
   unbroken (number n) h = refl
@@ -111,9 +108,9 @@ mutual
   unbroken (shape_number s) h = refl
   unbroken (negative e) h = unbroken e h
   unbroken (sum e steps) h =
-      or_false (expr_breaks e) (sums_break steps) (unbroken e (left_false (has_coordinate e) (sums_have steps) h)) (unbroken-sums steps (right_false (has_coordinate e) (sums_have steps) h))
+      or_from (expr_breaks e) (sums_break steps) (unbroken e (left_false (has_coordinate e) (sums_have steps) h)) (unbroken-sums steps (right_false (has_coordinate e) (sums_have steps) h))
   unbroken (product e steps) h =
-      or_false (expr_breaks e) (products_break (has_coordinate e) steps) (unbroken e (left_false (has_coordinate e) (products_have steps) h))
+      or_from (expr_breaks e) (products_break (has_coordinate e) steps) (unbroken e (left_false (has_coordinate e) (products_have steps) h))
       (unbroken-products (has_coordinate e) steps (left_false (has_coordinate e) (products_have steps) h) (right_false (has_coordinate e) (products_have steps) h))
   unbroken (least a b) h = h
   unbroken (greatest a b) h = h
@@ -125,18 +122,18 @@ mutual
   unbroken-sums : (steps : PlainSums) → sums_have steps ≡ false → sums_break steps ≡ false
   unbroken-sums no_sums h = refl
   unbroken-sums (a_sum s rest) h =
-      or_false (sum_breaks s) (sums_break rest) (unbroken-sum s (left_false (sum_has s) (sums_have rest) h)) (unbroken-sums rest (right_false (sum_has s) (sums_have rest) h))
+      or_from (sum_breaks s) (sums_break rest) (unbroken-sum s (left_false (sum_has s) (sums_have rest) h)) (unbroken-sums rest (right_false (sum_has s) (sums_have rest) h))
 
   unbroken-product : (l : Bool) (s : PlainProductTree) → l ≡ false → product_has s ≡ false → product_breaks l s ≡ false
-  unbroken-product l (times e) k h = or_false (expr_breaks e) (l && has_coordinate e) (unbroken e h) (ap (λ x. x && has_coordinate e) k)
+  unbroken-product l (times e) k h = or_from (expr_breaks e) (l && has_coordinate e) (unbroken e h) (ap (λ x. x && has_coordinate e) k)
   unbroken-product l (over n) k h = k
   unbroken-product l (modulo n) k h = k
 
   unbroken-products : (l : Bool) (steps : PlainProducts) → l ≡ false → products_have steps ≡ false → products_break l steps ≡ false
   unbroken-products l no_products k h = refl
   unbroken-products l (a_product s rest) k h =
-      or_false (product_breaks l s) (products_break (l || product_has s) rest) (unbroken-product l s k (left_false (product_has s) (products_have rest) h))
-      (unbroken-products (l || product_has s) rest (or_false l (product_has s) k (left_false (product_has s) (products_have rest) h)) (right_false (product_has s) (products_have rest) h))
+      or_from (product_breaks l s) (products_break (l || product_has s) rest) (unbroken-product l s k (left_false (product_has s) (products_have rest) h))
+      (unbroken-products (l || product_has s) rest (or_from l (product_has s) k (left_false (product_has s) (products_have rest) h)) (right_false (product_has s) (products_have rest) h))
 
 regrouped : (f a b : ℤ) → (f +ℤ a) +ℤ b ≡ f +ℤ (a +ℤ b)
 regrouped f a b = omega (arith, ints)

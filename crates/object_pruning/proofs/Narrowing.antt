@@ -10,7 +10,7 @@ use Rattle.geo_conditions.specs.Reach.{State, Reach, Region, reach, nowhere, has
 use Rattle.geo_conditions.specs.Supported.{NoneRefuted, CanBeAt, HasNoPoint}
 use Rattle.geo_conditions.specs.Keeps.{size, widths}
 use Rattle.geo_conditions.proofs.Points.{at_only, in_box_wider, inside_trans}
-use Rattle.geo_conditions.proofs.Greatest.{set_kept, at_set, size_set, fewer}
+use Rattle.geo_conditions.proofs.Greatest.{set_kept, at_set, size_set, fewer, lo_narrower, hi_narrower}
 use Rattle.geo_state.proofs.Narrower.{low_within, high_within, without_within}
 use Rattle.object_pruning.specs.Same.{SameBut}
 use Rattle.object_pruning.specs.Pruning.{CanBe, HasSamePoints}
@@ -108,20 +108,6 @@ lowered_points cs S o d v h l first = same_points cs S o (with_high (reach S o) 
     below = at_set (λ e z. coordinate p e ≤ℤ z) (reach S o).region.hi d v (λ b. first s p y) y.point.point.below;
   },
 ))
-
-lo_narrower : (ls hs : List ℤ) (d : ℕ) (v : ℤ) → d < length ls → length ls ≡ length hs → coordinate ls d <ℤ v → coordinate ls d <ℤ coordinate hs d → widths (set ls d v) hs < widths ls hs
-lo_narrower [] hs d v h e k m = absurd (omega arith)
-lo_narrower (l ∷ ls) [] d v h e k m = absurd (omega arith)
-lo_narrower (l ∷ ls) (x ∷ hs) zero v h e k m = omega (arith, ints)
-lo_narrower (l ∷ ls) (x ∷ hs) (suc d) v h e k m =
-    let n : widths (set ls d v) hs < widths ls hs = lo_narrower ls hs d v (omega arith) (omega arith) k m in omega arith
-
-hi_narrower : (ls hs : List ℤ) (d : ℕ) (v : ℤ) → d < length ls → length ls ≡ length hs → v <ℤ coordinate hs d → coordinate ls d <ℤ coordinate hs d → widths ls (set hs d v) < widths ls hs
-hi_narrower [] hs d v h e k m = absurd (omega arith)
-hi_narrower (l ∷ ls) [] d v h e k m = absurd (omega arith)
-hi_narrower (l ∷ ls) (x ∷ hs) zero v h e k m = omega (arith, ints)
-hi_narrower (l ∷ ls) (x ∷ hs) (suc d) v h e k m =
-    let n : widths ls (set hs d v) < widths ls hs = hi_narrower ls hs d v (omega arith) (omega arith) k m in omega arith
 
 pub raised_smaller : (S : State) (o d : ℕ) (v : ℤ) → o < length S → d < dims S o → dims S o ≡ length (reach S o).region.hi → low S o d <ℤ v → v ≤ℤ high S o d → size (set S o (with_low (reach S o) d v)) < size S
 raised_smaller S o d v h b e l m = size_set S o (with_low (reach S o) d v) h (let w = lo_narrower (reach S o).region.lo (reach S o).region.hi d v b e l (omega (arith, ints)) in omega arith)

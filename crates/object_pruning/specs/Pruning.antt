@@ -1,7 +1,7 @@
 -- What the pruning of one object leaves.
 use Rattle.std.specs.Prelude.{◌≡◌, ℕ, ◌<◌, ◌↔◌, true, List, ℤ}
 use Rattle.geo_base.specs.Boxes.{coordinate}
-use Rattle.geo_base.specs.Ways.{IsSmall}
+use Rattle.geo_base.specs.Ways.{IsSmallPoint}
 use Rattle.geo_base.specs.declared.kbox.KBox.{KBox}
 use Rattle.geo_conditions.specs.declared.cond.Cond.{Cond}
 use Rattle.geo_conditions.specs.Reach.{State, reach, has, low, high, dims, Inside}
@@ -35,4 +35,4 @@ PrunesTo cs o S Empty T = ((s : ℕ) (p : List ℤ) → CanBe cs S o s p → ⊥
 
 -- the coordinates of both corners lie within the limits
 abbrev pub IsSmallBox : {K : ℕ} → KBox K → Type 0
-IsSmallBox {K} b = IsSmall K b.lo.coordinates × IsSmall K b.hi.coordinates
+IsSmallBox {K} b = IsSmallPoint K b.lo.coordinates × IsSmallPoint K b.hi.coordinates

@@ -23,7 +23,7 @@ low_mended cs S R o d v l e f q =
     let q' : R ≡ set S o (with_low (reach S o) d (low S o d +ℤ pos 1)) = q ∙ ap (λ (x : ℤ). set S o (with_low (reach S o) d x)) f in
     subst (Mended cs S) (sym q') (
       raise_keeps cs S o d l.object l.dimension l.lacks,
-      size_set S o (with_low (reach S o) d (low S o d +ℤ pos 1)) l.object (let w = lo_narrower (reach S o).region.lo (reach S o).region.hi d l.dimension e l.wide in omega arith),
+      size_set S o (with_low (reach S o) d (low S o d +ℤ pos 1)) l.object (let w = lo_narrower (reach S o).region.lo (reach S o).region.hi d (low S o d +ℤ pos 1) l.dimension e (omega (arith, ints)) l.wide in omega arith),
     )
 
 -- a high end without a point is lowered by 1
@@ -32,7 +32,7 @@ high_mended cs S R o d v l e f q =
     let q' : R ≡ set S o (with_high (reach S o) d (high S o d +ℤ negsuc 0)) = q ∙ ap (λ (x : ℤ). set S o (with_high (reach S o) d x)) f in
     subst (Mended cs S) (sym q') (
       lower_keeps cs S o d l.object l.dimension l.lacks,
-      size_set S o (with_high (reach S o) d (high S o d +ℤ negsuc 0)) l.object (let w = hi_narrower (reach S o).region.lo (reach S o).region.hi d l.dimension e l.wide in omega arith),
+      size_set S o (with_high (reach S o) d (high S o d +ℤ negsuc 0)) l.object (let w = hi_narrower (reach S o).region.lo (reach S o).region.hi d (high S o d +ℤ negsuc 0) l.dimension e (omega (arith, ints)) l.wide in omega arith),
     )
 
 -- a place without a point is taken away

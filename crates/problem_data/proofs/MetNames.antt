@@ -8,6 +8,7 @@ use Rattle.std.specs.Prelude.{not, position, if◌then◌else◌, fold}
 use Rattle.std.specs.List.{list_any, Contains, position_or_len}
 use Rattle.std.specs.Str.{bytes_eq}
 use Rattle.std.specs.Borrow.{Bor}
+use Rattle.std.proofs.Math.Bool.{or-false}
 use Rattle.problem_data.specs.Seen.{meet, met, bytes_at}
 
 -- ---- borrowed names
@@ -76,10 +77,6 @@ module _ (xs ys : List (Bor (List ℕ))) where
 
 meet_any : (n : List ℕ) (names : List (List ℕ)) (name : List ℕ) → list_any (bytes_eq n) (meet names name) ≡ (list_any (bytes_eq n) names || bytes_eq n name)
 meet_any n names name = by (list_any (bytes_eq name) names) refl where
-  or_false : (b : Bool) → (b || false) ≡ b
-  or_false true = refl
-  or_false false = refl
-
   there : (b t : Bool) → (t ≡ true → b ≡ true) → b ≡ (b || t)
   there true t h = refl
   there false true h = h refl
@@ -87,7 +84,7 @@ meet_any n names name = by (list_any (bytes_eq name) names) refl where
 
   by : (b : Bool) → list_any (bytes_eq name) names ≡ b → list_any (bytes_eq n) (if b then names else names ++ name ∷ []) ≡ (list_any (bytes_eq n) names || bytes_eq n name)
   by true e = there (list_any (bytes_eq n) names) (bytes_eq n name) (λ t. subst (λ (m : List ℕ). list_any (bytes_eq m) names ≡ true) (sym ((bytes_eq-Decides n name).0 t)) e)
-  by false e = list_any-append (bytes_eq n) names (name ∷ []) ∙ ap (λ b. list_any (bytes_eq n) names || b) (or_false (bytes_eq n name))
+  by false e = list_any-append (bytes_eq n) names (name ∷ []) ∙ ap (λ b. list_any (bytes_eq n) names || b) (or-false (bytes_eq n name))
 
 or_assoc : (a b c : Bool) → ((a || b) || c) ≡ (a || (b || c))
 or_assoc true b c = refl

@@ -1,8 +1,9 @@
 -- A problem as data. Places of shapes and objects in their lists count from 0.
-use Rattle.std.specs.Prelude.{ℕ, ℤ, List}
+use Rattle.std.specs.Prelude.{ℕ, Bool, true, false, ℤ, List}
 use Rattle.rule_syntax.specs.Tree.{FormulaTree}
 use Rattle.problem_data.specs.declared.tree.ParamKind.{ParamKind}
 use Rattle.problem_data.specs.declared.tree.Side.{Side}
+use Rattle.problem_data.specs.declared.tree.Side.TheVariants.{Low, High}
 use Rattle.problem_data.specs.Tree.{BodyTree}
 
 -- a box: in each dimension where it begins, as seen from the origin, and how many cells it has
@@ -63,3 +64,8 @@ pub record ProblemData : Type 0 where
   pub rules : List RuleData
   pub order : List ℕ
   pub sides : List Side
+
+-- the values of a coordinate are tried from the high end down
+abbrev pub runs_down : Side → Bool
+runs_down Low = false
+runs_down High = true

@@ -2,6 +2,9 @@
 //!
 //! A place is how many bytes of the text stand before a token.
 
+ghost use Rattle.std.specs.Prelude.{◌≡◌};
+ghost use Rattle.problem_data.specs.Problem.{runs_down};
+
 use rule_syntax::tree::{Expr, Formula, PlacedName};
 
 /// A whole number, with the place of its first token.
@@ -61,6 +64,18 @@ pub struct OrderText {
 pub enum Side {
     Low,
     High,
+}
+
+impl Side {
+    /// Whether values are tried from the high end down.
+    pub fn runs_down(self) -> bool
+        ensures { result ≡ runs_down self }
+    {
+        match self {
+            Side::Low => false,
+            Side::High => true,
+        }
+    }
 }
 
 /// A side, with its place.

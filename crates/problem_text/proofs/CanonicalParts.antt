@@ -11,8 +11,8 @@ use Rattle.problem_data.specs.Tree.{ShapeTree, ObjectTree, OrderTree, SidesTree,
 use Rattle.problem_data.specs.Parts.{Parts, parts_of, as_shape, as_object, as_order, as_sides, as_macro, as_rule}
 use Rattle.problem_data.specs.Faults.{shape_names, object_names}
 use Rattle.problem_data.specs.Meaning as meaning
-use Rattle.problem_data.specs.Problem.{BoxData, ShapeData, ObjectData, MacroData, DemandData, apart, within, plain, RuleData, ProblemData}
-use Rattle.problem_text.specs.Canonical.{name_at, counts_from, is_high, shape_spelling, object_spelling, macro_spelling, rule_spelling, order_spelling, sides_spelling}
+use Rattle.problem_data.specs.Problem.{BoxData, ShapeData, ObjectData, MacroData, DemandData, apart, within, plain, RuleData, ProblemData, runs_down}
+use Rattle.problem_text.specs.Canonical.{name_at, counts_from, shape_spelling, object_spelling, macro_spelling, rule_spelling, order_spelling, sides_spelling}
 use Rattle.problem_text.specs.Canonical as canonical
 use Rattle.problem_text.specs.ReadBack.{bare_macro, bare_demand, bare_rule, bare_problem}
 use Rattle.problem_text.proofs.PrintingParts.{int_of, name_of, range_of, box_of, attribute_of, param_of, side_of, demand_of, bare_body}
@@ -50,7 +50,7 @@ canonical_parts p = record {
   shapes = map shape_tree_of p.shapes;
   objects = map (object_tree_of (canonical.shape_names p)) p.objects;
   orders = one_if (not (counts_from 0 p.order)) (order_tree_of (canonical.object_names p) p.order);
-  sides = one_if (list_any is_high p.sides) (sides_tree_of p.sides);
+  sides = one_if (list_any runs_down p.sides) (sides_tree_of p.sides);
   macros = map macro_tree_of p.macros;
   rules = map rule_tree_of p.rules;
 }
@@ -99,7 +99,7 @@ module _ (p : ProblemData) where
   an_order_line = line_where (not (counts_from 0 p.order)) (order_of (canonical.object_names p) p.order, order_spelling (canonical.object_names p) p.order)
 
   abbrev sides_line : List Line
-  sides_line = line_where (list_any is_high p.sides) (sides_of p.sides, sides_spelling p.sides)
+  sides_line = line_where (list_any runs_down p.sides) (sides_of p.sides, sides_spelling p.sides)
 
   abbrev rules : List Line
   rules = map (λ r. (rule_of r, rule_spelling r)) p.rules
@@ -126,7 +126,7 @@ module _ (p : ProblemData) where
     no_order e = where_none pick (not (counts_from 0 p.order)) (order_of (canonical.object_names p) p.order, order_spelling (canonical.object_names p) p.order) e
 
     no_sides : pick (sides_of p.sides) ≡ None → picks pick sides_line ≡ []
-    no_sides e = where_none pick (list_any is_high p.sides) (sides_of p.sides, sides_spelling p.sides) e
+    no_sides e = where_none pick (list_any runs_down p.sides) (sides_of p.sides, sides_spelling p.sides) e
 
   shapes_there : picks as_shape (all_statements p) ≡ map shape_tree_of p.shapes
   shapes_there =
@@ -155,12 +155,12 @@ module _ (p : ProblemData) where
       ++ ((where_one as_order (not (counts_from 0 p.order)) (order_of (canonical.object_names p) p.order, order_spelling (canonical.object_names p) p.order) (order_tree_of (canonical.object_names p) p.order) refl i ++ no_sides as_order refl i) ++ no_rules as_order (λ r. refl) i))))
       ∙ append-nil (one ++ []) ∙ append-nil one
 
-  sides_there : picks as_sides (all_statements p) ≡ one_if (list_any is_high p.sides) (sides_tree_of p.sides)
+  sides_there : picks as_sides (all_statements p) ≡ one_if (list_any runs_down p.sides) (sides_tree_of p.sides)
   sides_there =
       split_picks as_sides
       ∙ (λ i. no_shapes as_sides (λ s. refl) i ++ (no_objects as_sides (λ o. refl) i ++ (no_macros as_sides (λ m. refl) i
-      ++ ((no_order as_sides refl i ++ where_one as_sides (list_any is_high p.sides) (sides_of p.sides, sides_spelling p.sides) (sides_tree_of p.sides) refl i) ++ no_rules as_sides (λ r. refl) i))))
-      ∙ append-nil (one_if (list_any is_high p.sides) (sides_tree_of p.sides))
+      ++ ((no_order as_sides refl i ++ where_one as_sides (list_any runs_down p.sides) (sides_of p.sides, sides_spelling p.sides) (sides_tree_of p.sides) refl i) ++ no_rules as_sides (λ r. refl) i))))
+      ∙ append-nil (one_if (list_any runs_down p.sides) (sides_tree_of p.sides))
 
   rules_there : picks as_rule (all_statements p) ≡ map rule_tree_of p.rules
   rules_there =
@@ -200,7 +200,7 @@ pub record IsConsistent (p : ProblemData) : Type 0 where
   pub shapes : HavePositions (canonical.shape_names p) p.objects
   pub order : counts_from 0 p.order ≡ false → ArePositions (canonical.object_names p) p.order
   pub file_order : counts_from 0 p.order ≡ true → range_with_len 0 (length (canonical.object_names p)) ≡ p.order
-  pub low_sides : list_any is_high p.sides ≡ false → replicate p.dims Low ≡ p.sides
+  pub low_sides : list_any runs_down p.sides ≡ false → replicate p.dims Low ≡ p.sides
 
 shape_names_back : (ss : List ShapeData) → shape_names (map shape_tree_of ss) ≡ map (λ (s : ShapeData). s.name) ss
 shape_names_back [] = refl
@@ -261,5 +261,5 @@ canonical_meaning p c = λ i. record {
   rules = map_after meaning.rule_of rule_tree_of bare_rule rule_back p.rules i;
   order = (ap (λ names. meaning.order_of names (one_if (not (counts_from 0 p.order)) (order_tree_of (canonical.object_names p) p.order))) (object_names_back (canonical.shape_names p) p.objects)
       ∙ order_back (counts_from 0 p.order) (canonical.object_names p) p.order c.file_order c.order) i;
-  sides = sides_back (list_any is_high p.sides) p.dims p.sides c.low_sides i;
+  sides = sides_back (list_any runs_down p.sides) p.dims p.sides c.low_sides i;
 }

@@ -19,8 +19,8 @@ use Rattle.problem_data.specs.Least.{fault}
 use Rattle.problem_data.specs.Parts.{Parts, parts_of}
 use Rattle.problem_data.specs.Faults.{Among, OrderFault, SidesFault, IsDims, IsFault, version, dims, shapes, objects, orders, sides, macros, rules, ShapesFault, ObjectsFault, RulesFault, shape_name, object_name, shape_names, object_names, count_of}
 use Rattle.problem_data.specs.Meaning as meaning
-use Rattle.problem_data.specs.Problem.{ProblemData}
-use Rattle.problem_text.specs.Canonical.{name_at, counts_from, is_high, problem_text}
+use Rattle.problem_data.specs.Problem.{ProblemData, runs_down}
+use Rattle.problem_text.specs.Canonical.{name_at, counts_from, problem_text}
 use Rattle.problem_data.specs.Accepted.{most_bytes, IsSaid}
 use Rattle.problem_text.specs.ReadBack.{IsSpelled, ReadsBack}
 use Rattle.problem_data.specs.WellFormed.{IsWellFormed}
@@ -196,7 +196,7 @@ module _ (o : Parts) (faultless : (f : Fault) → IsFault o f → ⊥) (well : I
       let r = objects_carried k (shape_names o.shapes) q.objects o.objects objects_like f (subst (λ (ns : List (List ℕ)). ObjectsFault k ns q.objects f) shape_names_like (subst (λ (n : ℕ). ObjectsFault n (shape_names q.shapes) q.objects f) k_like w)) in
       faultless r.0 (objects r.1)
   right_again f (orders w) = order_right f (subst (λ (ns : List (List ℕ)). Among (OrderFault ns) q.orders f) object_names_like w)
-  right_again f (sides w) = stated_sides (list_any is_high p.sides) (ap (λ (u : Parts). u.sides) same) f (subst (λ (n : ℕ). Among (SidesFault n) q.sides f) k_like w)
+  right_again f (sides w) = stated_sides (list_any runs_down p.sides) (ap (λ (u : Parts). u.sides) same) f (subst (λ (n : ℕ). Among (SidesFault n) q.sides f) k_like w)
   right_again f (macros w) = let r = macros_carried q.macros o.macros macros_like f w in faultless r.0 (macros r.1)
   right_again f (rules w) =
       let r = rules_carried k q.rules o.rules rules_like f (subst (λ (n : ℕ). RulesFault n q.rules f) k_like w) in faultless r.0 (rules r.1)

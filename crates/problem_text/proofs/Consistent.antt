@@ -17,8 +17,8 @@ use Rattle.problem_data.specs.Least.{fault}
 use Rattle.problem_data.specs.Parts.{Parts, parts_of}
 use Rattle.problem_data.specs.Faults.{Among, Repeated, text_of, first_place, side_place, OrderFault, SidesFault, IsComplete, IsFault, objects, orders, sides, shape_names, object_name, object_names, count_of}
 use Rattle.problem_data.specs.Meaning as meaning
-use Rattle.problem_data.specs.Problem.{ProblemData}
-use Rattle.problem_text.specs.Canonical.{name_at, counts_from, is_high}
+use Rattle.problem_data.specs.Problem.{ProblemData, runs_down}
+use Rattle.problem_text.specs.Canonical.{name_at, counts_from}
 use Rattle.problem_text.proofs.PrintingParts.{all_as}
 use Rattle.problem_text.proofs.ReadStatements.{mapped}
 use Rattle.problem_text.proofs.Positions.{Made, range_counts}
@@ -160,15 +160,15 @@ module _ (q : Parts) (faultless : (f : Fault) → IsFault q f → ⊥) where
   abbrev dims : ℕ
   dims = count_of q.dims.value
 
-  all_low : (ss : List SideText) → list_any is_high (map meaning.side_of ss) ≡ false → replicate (length ss) Low ≡ map meaning.side_of ss
+  all_low : (ss : List SideText) → list_any runs_down (map meaning.side_of ss) ≡ false → replicate (length ss) Low ≡ map meaning.side_of ss
   all_low [] e = refl
   all_low (s ∷ ss) e = first_low s.side ss e (all_low ss)
     where
-      first_low : (x : Side) (us : List SideText) → list_any is_high (x ∷ map meaning.side_of us) ≡ false → (list_any is_high (map meaning.side_of us) ≡ false → replicate (length us) Low ≡ map meaning.side_of us) → Low ∷ replicate (length us) Low ≡ x ∷ map meaning.side_of us
+      first_low : (x : Side) (us : List SideText) → list_any runs_down (x ∷ map meaning.side_of us) ≡ false → (list_any runs_down (map meaning.side_of us) ≡ false → replicate (length us) Low ≡ map meaning.side_of us) → Low ∷ replicate (length us) Low ≡ x ∷ map meaning.side_of us
       first_low Low us h f = ap (λ ys. Low ∷ ys) (f h)
       first_low High us h f = absurd cc
 
-  low_sides_of : (ss : List SidesTree) → ss ≡ q.sides → list_any is_high (meaning.sides_of dims ss) ≡ false → replicate dims Low ≡ meaning.sides_of dims ss
+  low_sides_of : (ss : List SidesTree) → ss ≡ q.sides → list_any runs_down (meaning.sides_of dims ss) ≡ false → replicate dims Low ≡ meaning.sides_of dims ss
   low_sides_of [] e low = refl
   low_sides_of (s ∷ ss) e low =
       let counted : length s.sides ≡ dims = elim (cases_Bool (length s.sides == dims)) [

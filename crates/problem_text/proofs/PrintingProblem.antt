@@ -15,8 +15,8 @@ use Rattle.rule_print.proofs.ShownTokens.{AllWritten, written_append}
 use Rattle.problem_data.specs.declared.tree.Side.{Side}
 use Rattle.problem_data.specs.Tree.{StatementTree, ProblemTree}
 use Rattle.problem_data.specs.Grammar.{problem_tree, StatementWords, ProblemWords}
-use Rattle.problem_data.specs.Problem.{ProblemData}
-use Rattle.problem_text.specs.Canonical.{line_text, line_if, head_spelling, shape_names, object_names, shape_spelling, object_spelling, macro_spelling, rule_spelling, order_spelling, sides_spelling, counts_from, is_high, problem_text}
+use Rattle.problem_data.specs.Problem.{ProblemData, runs_down}
+use Rattle.problem_text.specs.Canonical.{line_text, line_if, head_spelling, shape_names, object_names, shape_spelling, object_spelling, macro_spelling, rule_spelling, order_spelling, sides_spelling, counts_from, problem_text}
 use Rattle.problem_text.proofs.PrintingParts.{bare_int, int_of, each_map, all_as, IsSome}
 use Rattle.problem_text.proofs.PrintingStatements.{bare_statement, shape_of, object_of, order_of, sides_of, macro_of, rule_of, StatementAgain, CanWriteShape, shape_again, CanWriteNames, CanWriteObject, object_again, order_again, sides_again_line, CanWriteMacro, macro_again, CanWriteRule, rule_again}
 use Rattle.problem_text.proofs.PrintingText.{all_lexemes, lines_text, lines_tokens, EachWritten, lines_are_tokens, lines_stand_whole}
@@ -29,7 +29,7 @@ abbrev pub line_where : Bool → Line → List Line
 line_where needed l = if needed then l ∷ [] else []
 
 abbrev pub ways : ProblemData → List Line
-ways p = line_where (not (counts_from 0 p.order)) (order_of (object_names p) p.order, order_spelling (object_names p) p.order) ++ line_where (list_any is_high p.sides) (sides_of p.sides, sides_spelling p.sides)
+ways p = line_where (not (counts_from 0 p.order)) (order_of (object_names p) p.order, order_spelling (object_names p) p.order) ++ line_where (list_any runs_down p.sides) (sides_of p.sides, sides_spelling p.sides)
 
 -- the statements of a problem, in canonical order
 abbrev pub all_statements : ProblemData → List Line
@@ -70,7 +70,7 @@ line_again : (needed : Bool) (l : Line) → (needed ≡ true → LineAgain l) �
 line_again true l f = (f refl, tt)
 line_again false l f = tt
 
-high_some : (ss : List Side) → list_any is_high ss ≡ true → IsSome ss
+high_some : (ss : List Side) → list_any runs_down ss ≡ true → IsSome ss
 high_some [] h e = absurd cc
 high_some (s ∷ ss) h e = absurd cc
 
@@ -80,9 +80,9 @@ not_back false h = refl
 
 module _ (p : ProblemData) (h : CanWriteProblem p) where
   ways_again : AllOf LineAgain (ways p)
-  ways_again = all_both LineAgain (line_where (not (counts_from 0 p.order)) (order_of (object_names p) p.order, order_spelling (object_names p) p.order)) (line_where (list_any is_high p.sides) (sides_of p.sides, sides_spelling p.sides))
+  ways_again = all_both LineAgain (line_where (not (counts_from 0 p.order)) (order_of (object_names p) p.order, order_spelling (object_names p) p.order)) (line_where (list_any runs_down p.sides) (sides_of p.sides, sides_spelling p.sides))
       (line_again (not (counts_from 0 p.order)) (order_of (object_names p) p.order, order_spelling (object_names p) p.order) (λ e. order_again (object_names p) p.order (h.order (not_back (counts_from 0 p.order) e))))
-      (line_again (list_any is_high p.sides) (sides_of p.sides, sides_spelling p.sides) (λ e. sides_again_line p.sides (high_some p.sides e)))
+      (line_again (list_any runs_down p.sides) (sides_of p.sides, sides_spelling p.sides) (λ e. sides_again_line p.sides (high_some p.sides e)))
 
   all_again : AllOf LineAgain (all_statements p)
   all_again =
@@ -126,10 +126,10 @@ where_text : (needed : Bool) (l : Line) → statements_text (line_where needed l
 where_text true l = append-nil (line_text l.1)
 where_text false l = refl
 
-ways_text : (p : ProblemData) → statements_text (ways p) ≡ line_if (not (counts_from 0 p.order)) (order_spelling (object_names p) p.order) ++ line_if (list_any is_high p.sides) (sides_spelling p.sides)
+ways_text : (p : ProblemData) → statements_text (ways p) ≡ line_if (not (counts_from 0 p.order)) (order_spelling (object_names p) p.order) ++ line_if (list_any runs_down p.sides) (sides_spelling p.sides)
 ways_text p =
-    statements_both (line_where (not (counts_from 0 p.order)) (order_of (object_names p) p.order, order_spelling (object_names p) p.order)) (line_where (list_any is_high p.sides) (sides_of p.sides, sides_spelling p.sides))
-    ∙ (λ i. where_text (not (counts_from 0 p.order)) (order_of (object_names p) p.order, order_spelling (object_names p) p.order) i ++ where_text (list_any is_high p.sides) (sides_of p.sides, sides_spelling p.sides) i)
+    statements_both (line_where (not (counts_from 0 p.order)) (order_of (object_names p) p.order, order_spelling (object_names p) p.order)) (line_where (list_any runs_down p.sides) (sides_of p.sides, sides_spelling p.sides))
+    ∙ (λ i. where_text (not (counts_from 0 p.order)) (order_of (object_names p) p.order, order_spelling (object_names p) p.order) i ++ where_text (list_any runs_down p.sides) (sides_of p.sides, sides_spelling p.sides) i)
 
 -- the text of a problem is that of its lines
 lines_of_problem : (p : ProblemData) → problem_text p ≡ lines_text (problem_lines p)
@@ -142,7 +142,7 @@ lines_of_problem p =
     let object_texts : List ℕ = flat_map (λ o. line_text (object_spelling (shape_names p) o)) p.objects in
     let macro_texts : List ℕ = flat_map (λ m. line_text (macro_spelling m)) p.macros in
     let order_text : List ℕ = line_if (not (counts_from 0 p.order)) (order_spelling (object_names p) p.order) in
-    let sides_text : List ℕ = line_if (list_any is_high p.sides) (sides_spelling p.sides) in
+    let sides_text : List ℕ = line_if (list_any runs_down p.sides) (sides_spelling p.sides) in
     let rule_texts : List ℕ = flat_map (λ r. line_text (rule_spelling r)) p.rules in
     let one : statements_text (all_statements p) ≡ shape_texts ++ (object_texts ++ (macro_texts ++ ((order_text ++ sides_text) ++ rule_texts))) =
     statements_both shapes (objects ++ (macros ++ (ways p ++ rules)))

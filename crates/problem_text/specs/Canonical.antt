@@ -13,7 +13,7 @@ use Rattle.problem_data.specs.declared.tree.ParamKind.TheVariants.{Int, Object, 
 use Rattle.problem_data.specs.declared.tree.Side.{Side}
 use Rattle.problem_data.specs.declared.tree.Side.TheVariants.{Low, High}
 use Rattle.problem_data.specs.Tree.{BodyTree, means, equals}
-use Rattle.problem_data.specs.Problem.{BoxData, ShapeData, RangeData, AttributeData, ObjectData, ParamData, MacroData, DemandData, apart, within, plain, RuleData, ProblemData}
+use Rattle.problem_data.specs.Problem.{BoxData, ShapeData, RangeData, AttributeData, ObjectData, ParamData, MacroData, DemandData, apart, within, plain, RuleData, ProblemData, runs_down}
 
 -- ---- parts of statements
 
@@ -122,10 +122,6 @@ abbrev pub counts_from : ℕ → List ℕ → Bool
 counts_from k [] = true
 counts_from k (i ∷ others) = (i == k) && counts_from (suc k) others
 
-abbrev pub is_high : Side → Bool
-is_high Low = false
-is_high High = true
-
 -- a line where it is needed
 abbrev pub line_if : Bool → List Written → List ℕ
 line_if needed ps = if needed then line_text ps else []
@@ -139,4 +135,4 @@ abbrev pub problem_text : ProblemData → List ℕ
 problem_text p =
     line_text (head_spelling p) ++ (flat_map (λ s. line_text (shape_spelling s)) p.shapes ++ (flat_map (λ o. line_text (object_spelling (shape_names p) o)) p.objects
     ++ (flat_map (λ m. line_text (macro_spelling m)) p.macros ++ (line_if (not (counts_from 0 p.order)) (order_spelling (object_names p) p.order)
-    ++ (line_if (list_any is_high p.sides) (sides_spelling p.sides) ++ (flat_map (λ r. line_text (rule_spelling r)) p.rules ++ line_text (word keywords.End ∷ [])))))))
+    ++ (line_if (list_any runs_down p.sides) (sides_spelling p.sides) ++ (flat_map (λ r. line_text (rule_spelling r)) p.rules ++ line_text (word keywords.End ∷ [])))))))

@@ -80,9 +80,3 @@ formula-cost-called p n k name m b e h i j =
     ∙ staged ℕ (formula_costs_of p) (λ k. body_formula_cost (formula_costs_of p k) p (macro_of p k).body) (λ n k. refl) n k h
     ∙ sym (ap (body_formula_cost (formula_costs_of p k) p) (j ∙ ap (λ x. x.body) i))
 
--- a macro's position is inside the list
-pub macro-inside : (p : ProblemData) (name : List ℕ) (k : ℕ) → macro_position p name ≡ Some k → k < length p.macros
-macro-inside p name k e = (position-Some (λ m. bytes_eq name m.name) p.macros k (macro_of p 0) e).0
-
-pub macro-at : (p : ProblemData) (ms : List MacroData) (k : ℕ) (m : MacroData) → k < length ms → ms ≡ p.macros → m ≡ get_or ms k m → m ≡ macro_of p k
-macro-at p ms k m h e f = f ∙ get_or_default ms k m (record { place = 0; name = []; params = []; body = means (falsehood 0) }) h ∙ ap (λ l. get_or l k (record { place = 0; name = []; params = []; body = means (falsehood 0) })) e

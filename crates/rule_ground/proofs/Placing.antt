@@ -7,6 +7,7 @@ use Rattle.std.proofs.Math.Logic.{⊎_elim}
 use Rattle.std.proofs.lemmas.Bool.{cases_lt, eq-eqb, ltb-false}
 use Rattle.std.proofs.lemmas.List.{get_or_past}
 use Rattle.std.proofs.lemmas.List.Elements.{All-nil}
+use Rattle.std.proofs.Math.Bool.{or-false}
 use Rattle.geo_base.specs.Tuple.{Tuple, spot}
 use Rattle.problem_data.specs.Problem.{BoxData, ShapeData, ProblemData}
 use Rattle.problem_data.specs.Tuple.{object_of, boxes_of_shape, boxes_in}
@@ -24,10 +25,6 @@ boxes-small p o s h = boxes-all IsSmallBox p o s h.boxes
 pub boxes-placed : (p : ProblemData) (t : Tuple) (o s : ℕ) → (spot t o).place ≡ s → boxes_in p t o ≡ boxes_at p o s
 boxes-placed p t o s e = ap (boxes_at p o) e
 
-pub or_false : (b : Bool) → (b || false) ≡ b
-or_false true = refl
-or_false false = refl
-
 pub place-of : (p : ProblemData) (t : Tuple) (o : ℕ) → IsShaped p t → o < length p.objects → IsPlace p o (spot t o).place
 place-of p t o h l = let f = h.each o l in record { object = l; first = f.first; last = f.last }
 
@@ -39,7 +36,7 @@ pub other-true : (p : ProblemData) (t : Tuple) (o s : ℕ) → IsShaped p t → 
 other-true p t o s h i = by_test (has_several p o) refl
   where
     by_test : (b : Bool) → has_several p o ≡ b → list_any (true_on t) (if b then shape_is_not o s ∷ [] else []) ≡ not ((spot t o).place == s)
-    by_test true e = or_false (not ((spot t o).place == s))
+    by_test true e = or-false (not ((spot t o).place == s))
     by_test false e =
         let f = h.each o i.object in
         only-one (length (object_of p o).shapes) (spot t o).place s f.first f.last i.first i.last (ltb-false 1 (length (object_of p o).shapes) e)

@@ -16,11 +16,11 @@ use Rattle.geo_conditions.specs.declared.object.ObjId.{ObjId}
 use Rattle.geo_conditions.specs.Order.{numbers_of}
 use Rattle.geo_conditions.specs.Walk.{Order, NamesEach}
 use Rattle.problem_data.specs.declared.tree.Side.{Side}
-use Rattle.problem_data.specs.Problem.{RangeData, ObjectData, ProblemData}
+use Rattle.problem_data.specs.Problem.{RangeData, ObjectData, ProblemData, runs_down}
 use Rattle.problem_data.specs.Tuple.{object_of}
 use Rattle.problem_data.specs.Cells.{range_at, IsInRanges, IsSpotOf, IsTuple}
 use Rattle.problem_data.specs.WellFormed.{IsRange, IsObject, IsWellFormed}
-use Rattle.rule_ground.specs.Order.{runs_down, order_of}
+use Rattle.rule_ground.specs.Order.{order_of}
 use Rattle.rule_ground.specs.Start.{whole_region, whole_reach, first_state, HasSmallEnds}
 
 no_object : ObjectData

@@ -7,6 +7,7 @@ use Rattle.std.proofs.lemmas.Int.{ints}
 use Rattle.std.proofs.lemmas.Bool.{cases_Bool, eq-eqb, eqb-true, false≢true, or_cases, or_left, or_right, not_from_true, not_from_false, ltb-false}
 use Rattle.std.proofs.lemmas.List.{get_or_default}
 use Rattle.std.proofs.lemmas.List.Elements.{All-nil, All-cons, All-head, All-tail}
+use Rattle.std.proofs.Math.Bool.{or-false}
 use lib.Signed.{le_z}
 use Rattle.geo_base.specs.Boxes.{coordinate}
 use Rattle.geo_base.specs.Tuple.{Tuple, spot}
@@ -21,7 +22,7 @@ use Rattle.rule_values.proofs.Boxes.{boxes-good}
 use Rattle.rule_ground.specs.Within.{unless_other, from_low, to_high, within_in, within_of_box, within_at_place, within_of, within_conditions}
 use Rattle.rule_ground.proofs.ApartTruth.{IsTrueOn}
 use Rattle.rule_ground.proofs.Cells.{low_of, end_of, solid, cell-with}
-use Rattle.rule_ground.proofs.Placing.{boxes-placed, place-of, or_false, only-one}
+use Rattle.rule_ground.proofs.Placing.{boxes-placed, place-of, only-one}
 use Rattle.rule_ground.proofs.Truths.{one-of, low-true, high-true, all-flat-out, all-flat-in, all-range-out, all-range-in}
 
 low-is : (t : Tuple) (o : ℕ) (b : BoxData) (ranges : List RangeData) (d : ℕ) → true_on t (from_low o b ranges d) ≡ le_z (range_at ranges d).low (low_of b (spot t o).origin d)
@@ -35,7 +36,7 @@ unless-is : (p : ProblemData) (t : Tuple) (o s : ℕ) (c : CondTree) → IsShape
 unless-is p t o s c h i = by_test (has_several p o) refl
   where
     by_test : (b : Bool) → has_several p o ≡ b → true_on t (if b then at_least (pos 1) (conds (shape_is_not o s ∷ (c ∷ []))) else c) ≡ (not ((spot t o).place == s) || true_on t c)
-    by_test true e = one-of t (shape_is_not o s ∷ (c ∷ [])) ∙ ap (λ (b : Bool). not ((spot t o).place == s) || b) (or_false (true_on t c))
+    by_test true e = one-of t (shape_is_not o s ∷ (c ∷ [])) ∙ ap (λ (b : Bool). not ((spot t o).place == s) || b) (or-false (true_on t c))
     by_test false e =
         let f = h.each o i.object in
         ap (λ (b : Bool). b || true_on t c) (only-one (length (object_of p o).shapes) (spot t o).place s f.first f.last i.first i.last (ltb-false 1 (length (object_of p o).shapes) e))

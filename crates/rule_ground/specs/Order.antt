@@ -1,15 +1,8 @@
 -- The search order of a problem, and the order that it gives to tuples.
-use Rattle.std.specs.Prelude.{Bool, true, false, List, map}
+use Rattle.std.specs.Prelude.{Bool, List, map}
 use Rattle.geo_base.specs.Tuple.{Tuple}
 use Rattle.geo_conditions.specs.Walk.{Order, Variable, variables_in, values, Precedes}
-use Rattle.problem_data.specs.declared.tree.Side.{Side}
-use Rattle.problem_data.specs.declared.tree.Side.TheVariants.{Low, High}
-use Rattle.problem_data.specs.Problem.{ProblemData}
-
--- whether the values of a coordinate are tried from the high end down
-abbrev pub runs_down : Side → Bool
-runs_down Low = false
-runs_down High = true
+use Rattle.problem_data.specs.Problem.{ProblemData, runs_down}
 
 -- for each dimension whether it runs downwards
 abbrev pub downs : ProblemData → List Bool

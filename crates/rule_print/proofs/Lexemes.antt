@@ -2,7 +2,7 @@
 use Rattle.std.proofs.Common.{◌≡◌, ℕ, ◌+◌, ◌*◌, ◌-◌, ◌/◌, ◌%◌, ◌<◌, ◌≤◌, ◌^◌, List, [], ◌∷◌, ◌++◌, length, Option, Some, None, Bool, true, false, ◌==◌, ◌||◌, ◌&&◌, inl, inr, refl, sym, ap, ◌∙◌, subst, arith, lit≤}
 use Rattle.std.specs.Prelude.{not, cond, nat_le, slice_index, decimal, if◌then◌else◌}
 use Rattle.std.specs.List.{prefix_len}
-use Rattle.std.proofs.lemmas.Bool.{cases_Bool, eqb-true, eq-eqb, le-leb, or_cases, and_parts}
+use Rattle.std.proofs.lemmas.Bool.{cases_Bool, eqb-true, eq-eqb, le-leb, or_cases, and_parts, or_parts}
 use Rattle.std.proofs.lemmas.List.{get_or-append-add, length-append}
 use Rattle.std.proofs.lemmas.List.Folds.{prefix_len-append}
 use Rattle.std.proofs.lemmas.List.Sums.{prefix_len_passes}
@@ -38,10 +38,6 @@ ends_at _ b = not (is_word_byte b)
 not_true : (b : Bool) → not b ≡ true → b ≡ false
 not_true true h = absurd cc
 not_true false h = refl
-
-or_false : (a b : Bool) → (a || b) ≡ false → (a ≡ false) × (b ≡ false)
-or_false true b h = absurd cc
-or_false false b h = (refl, h)
 
 -- ---- runs
 
@@ -158,7 +154,7 @@ decimal_writes = decimal_by_steps Writes
 number_at : (n : ℕ) (u : List ℕ) → n ≤ 1000000000 → is_word_byte (slice_index u 0) ≡ false → IsNumber n (length (decimal n)) (decimal n ++ u)
 number_at n u small f =
     let h = decimal_writes n (omega arith) in
-    let parts = or_false (is_letter (slice_index u 0)) (is_digit (slice_index u 0)) f in
+    let parts = or_parts (is_letter (slice_index u 0)) (is_digit (slice_index u 0)) f in
     let some : 0 < length (decimal n) = h.some in
     let first : is_digit (slice_index (decimal n) 0) ≡ true = prefix_len_passes is_digit (decimal n) 0 0 (omega (arith, h.all_digits)) in
     let behind : slice_index (decimal n ++ u) (length (decimal n)) ≡ slice_index u 0 = ap (λ k. slice_index (decimal n ++ u) k) (omega arith) ∙ get_or-append-add (decimal n) u 0 0 in

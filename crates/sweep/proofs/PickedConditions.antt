@@ -6,7 +6,7 @@ use Rattle.std.specs.List.{All, list_any, cons_option}
 use Rattle.std.proofs.lemmas.Bool.{false≢true, true≢false, and_parts, or_left, or_right, or_cases, not_from_false}
 use Rattle.std.proofs.lemmas.List.{length-map}
 use Rattle.std.proofs.lemmas.List.Elements.{All-get_or, All-head, All-tail, All-cons}
-use Rattle.std.proofs.lemmas.Option.{slice_get-map, slice_get-get_or}
+use Rattle.std.proofs.lemmas.Option.{slice_get-map, slice_get-get_or, same_Some}
 use Rattle.geo_base.specs.Boxes.{Has}
 use Rattle.geo_conditions.specs.declared.cond.Cond.{Cond}
 use Rattle.geo_conditions.specs.Reach.{State, dims, just, with_at}
@@ -41,12 +41,9 @@ picks-map f list picks k d a h =
 pub mapped_picks : {X Y : Type 0} (f : X → Y) (list : List X) (picks : List ℕ) → ArePicks (length list) picks → ArePicks (length (map f list)) picks
 mapped_picks f list picks a = subst (λ (n : ℕ). ArePicks n picks) (sym (length-map list f)) a
 
-some_same : {X : Type 0} {a b : X} → Some a ≡ Some b → a ≡ b
-some_same e = cc
-
 -- a number picks one thing
 pub one_pick : {X : Type 0} (list : List X) (picks : List ℕ) (k : ℕ) (x y : X) → PicksAt list picks k x → PicksAt list picks k y → x ≡ y
-one_pick list picks k x y p q = some_same (sym p.1 ∙ q.1)
+one_pick list picks k x y p q = same_Some _ _ (sym p.1 ∙ q.1)
 
 cons_all : {X : Type 0} (P : X → Type 0) (o : Option X) (xs : List X) → ((x : X) → o ≡ Some x → P x) → All P xs → All P (cons_option o xs)
 cons_all P None xs f a = a
@@ -54,7 +51,7 @@ cons_all P (Some x) xs f a = All-cons P x xs (f x refl) a
 
 cons_head : {X : Type 0} (P : X → Type 0) (o : Option X) (xs : List X) (x : X) → o ≡ Some x → All P (cons_option o xs) → P x
 cons_head P None xs x e a = absurd (cc)
-cons_head P (Some y) xs x e a = subst P (some_same e) (All-head P y xs a)
+cons_head P (Some y) xs x e a = subst P (same_Some _ _ e) (All-head P y xs a)
 
 cons_rest : {X : Type 0} (P : X → Type 0) (o : Option X) (xs : List X) → All P (cons_option o xs) → All P xs
 cons_rest P None xs a = a

@@ -4,7 +4,7 @@ use Rattle.std.proofs.lemmas.Int.{ints, clamps}
 use Rattle.std.proofs.lemmas.Bool.{cases_lt}
 use Rattle.std.specs.Int.{int_min}
 use Rattle.geo_base.specs.Boxes.{coordinate, Has}
-use Rattle.geo_base.specs.Ways.{IsSmall, Before, Advances, dimension, toward, key, start, end}
+use Rattle.geo_base.specs.Ways.{IsSmallPoint, Before, Advances, dimension, toward, key, start, end}
 use Rattle.sweep.specs.Jump.{IsDone, IsPlaced, ComesAfter}
 use Rattle.geo_base.proofs.Mirror.{dimension_in, place, place_in, dimension-place, keys_from_has, has_from_keys}
 use Rattle.sweep.proofs.Progress.{remaining, remaining_falls}
@@ -46,20 +46,20 @@ small_key : (up : Bool) (p : List ℤ) (d : ℕ) → (negsuc 1999999 ≤ℤ coor
 small_key true p d h = h
 small_key false p d h = (omega (arith, ints, h.1), omega (arith, ints, h.0))
 
-IsSmall-end : (K : ℕ) (up : Bool) (lo hi : List ℤ) → IsSmall K lo → IsSmall K hi → IsSmall K (end up lo hi)
-IsSmall-end K true lo hi l h = h
-IsSmall-end K false lo hi l h = l
+IsSmallPoint-end : (K : ℕ) (up : Bool) (lo hi : List ℤ) → IsSmallPoint K lo → IsSmallPoint K hi → IsSmallPoint K (end up lo hi)
+IsSmallPoint-end K true lo hi l h = h
+IsSmallPoint-end K false lo hi l h = l
 
-IsSmall-start : (K : ℕ) (up : Bool) (lo hi : List ℤ) → IsSmall K lo → IsSmall K hi → IsSmall K (start up lo hi)
-IsSmall-start K true lo hi l h = l
-IsSmall-start K false lo hi l h = h
+IsSmallPoint-start : (K : ℕ) (up : Bool) (lo hi : List ℤ) → IsSmallPoint K lo → IsSmallPoint K hi → IsSmallPoint K (start up lo hi)
+IsSmallPoint-start K true lo hi l h = l
+IsSmallPoint-start K false lo hi l h = h
 
 -- a box inside a bounded region is bounded
-pub IsSmall-inside : (K : ℕ) (lo hi q : List ℤ) → IsSmall K lo → IsSmall K hi → Has K lo hi q → IsSmall K q
-IsSmall-inside K lo hi q l h has d b = (omega (arith, ints, (l d b).0, (has d b).0), omega (arith, ints, (h d b).1, (has d b).1))
+pub IsSmallPoint-inside : (K : ℕ) (lo hi q : List ℤ) → IsSmallPoint K lo → IsSmallPoint K hi → Has K lo hi q → IsSmallPoint K q
+IsSmallPoint-inside K lo hi q l h has d b = (omega (arith, ints, (l d b).0, (has d b).0), omega (arith, ints, (h d b).1, (has d b).1))
 
 -- the measure falls
-pub remaining_turn : (K lead : ℕ) (up : Bool) (lo hi past c n c' n' : List ℤ) → lead < K → IsSmall K lo → IsSmall K hi
+pub remaining_turn : (K lead : ℕ) (up : Bool) (lo hi past c n c' n' : List ℤ) → lead < K → IsSmallPoint K lo → IsSmallPoint K hi
     → ((d : ℕ) → d < K → toward up (coordinate past d) ≡ toward up (coordinate (end up lo hi) d) +ℤ pos 1)
     → IsPlaced K (key K lead up (start up lo hi)) (key K lead up past) (key K lead up c) (key K lead up n)
     → IsPlaced K (key K lead up (start up lo hi)) (key K lead up past) (key K lead up c') (key K lead up n')
@@ -70,8 +70,8 @@ remaining_turn K lead up lo hi past c n c' n' lead_in l h past_is placed placed'
     (λ i b.
     let d = dimension K lead i in
     let u = dimension_in K lead i lead_in b in
-    let s = small_key up (start up lo hi) d (IsSmall-start K up lo hi l h d u) in
-    let e = small_key up (end up lo hi) d (IsSmall-end K up lo hi l h d u) in (
+    let s = small_key up (start up lo hi) d (IsSmallPoint-start K up lo hi l h d u) in
+    let e = small_key up (end up lo hi) d (IsSmallPoint-end K up lo hi l h d u) in (
       s.0,
       placed.from_first i b,
       omega (arith, ints, placed.onward i b, placed.to_past i b, past_is d u, e.1),
@@ -84,7 +84,7 @@ from_toward true x h = (omega (arith, ints, h.0), h.1)
 from_toward false x h = (omega (arith, ints, h.1), omega (arith, ints, h.0))
 
 -- the jump is bounded
-pub placed_bounded : (K lead : ℕ) (up : Bool) (lo hi past c n : List ℤ) → lead < K → IsSmall K lo → IsSmall K hi
+pub placed_bounded : (K lead : ℕ) (up : Bool) (lo hi past c n : List ℤ) → lead < K → IsSmallPoint K lo → IsSmallPoint K hi
     → ((d : ℕ) → d < K → toward up (coordinate past d) ≡ toward up (coordinate (end up lo hi) d) +ℤ pos 1)
     → IsPlaced K (key K lead up (start up lo hi)) (key K lead up past) (key K lead up c) (key K lead up n)
     → (d : ℕ) → d < K → (negsuc 2000000 ≤ℤ coordinate n d) × (coordinate n d ≤ℤ pos 2000001)
@@ -94,8 +94,8 @@ placed_bounded K lead up lo hi past c n lead_in l h past_is placed d b =
     let v = place_in K lead d lead_in b in
     let e = dimension K lead i in
     let u = dimension_in K lead i lead_in v in
-    let s = small_key up (start up lo hi) e (IsSmall-start K up lo hi l h e u) in
-    let f = small_key up (end up lo hi) e (IsSmall-end K up lo hi l h e u) in
+    let s = small_key up (start up lo hi) e (IsSmallPoint-start K up lo hi l h e u) in
+    let f = small_key up (end up lo hi) e (IsSmallPoint-end K up lo hi l h e u) in
     from_toward up (coordinate n e) (omega (arith, ints, s.0, placed.from_first i v, placed.onward i v), omega (arith, ints, f.1, past_is e u, placed.to_past i v)))
 
 -- drawn in to one past the end of a box that has c, the jump is still past c

@@ -1,6 +1,6 @@
 ghost use Rattle.std.specs.Prelude.{◌≡◌, ℕ, ◌+◌, ◌-◌, ◌*◌, ◌^◌, ◌<◌, ◌≤◌, true, length, map, IfOk, MatchOption};
 ghost use Rattle.std.specs.List.{All};
-ghost use Rattle.geo_base.specs.Ways.{IsSmall};
+ghost use Rattle.geo_base.specs.Ways.{IsSmallPoint};
 ghost use Rattle.geo_conditions.specs.Conditions.{AllFit};
 ghost use Rattle.geo_conditions.specs.Regions.{region_of};
 ghost use Rattle.geo_conditions.specs.Supported.{IsFirstPoint, HasNoPoint};
@@ -50,7 +50,7 @@ pub fn sweep<const K: usize, I: Indexical<K>, R: Recorder, L: Ledger>(
     requires fits { AllFit (map I.cond list.now) s.now }
     requires object { o.0 < length s.now }
     requires picks { ArePicks (length list.now) picks.now }
-    requires small { IsSmall K region.now.lo.coordinates × IsSmall K region.now.hi.coordinates }
+    requires small { IsSmallPoint K region.now.lo.coordinates × IsSmallPoint K region.now.hi.coordinates }
     ensures point { let cs = picked (map I.cond list.now) picks.now in
         let b = region_of region.now in
         IfOk result (λ r. MatchOption r (HasNoPoint cs s.now o.0 place b)

@@ -1,6 +1,6 @@
 ghost use Rattle.std.specs.Prelude.{◌≡◌, ◌⊎◌, ℕ, ◌+◌, ◌-◌, ◌*◌, ◌≤◌, ℤ, ◌<ℤ◌, Bool, true, List, length, if◌then◌else◌, OnOk, OnErr, IfOk, MatchBool};
 ghost use Rattle.geo_base.specs.Boxes.{Has};
-ghost use Rattle.geo_base.specs.Ways.{IsSmall, key, start};
+ghost use Rattle.geo_base.specs.Ways.{IsSmallPoint, key, start};
 ghost use Rattle.derivation.specs.declared.event.Event.{Event};
 ghost use Rattle.derivation.specs.Events.{GrowsFrom};
 ghost use Rattle.sweep.specs.Chains.{IsOpen, IsRecordOf, SomeOpen, SomeOpenBy};
@@ -25,14 +25,14 @@ pub fn turn<const K: usize, R: Recorder>(
     marks: &mut Marks<K>,
     rec: &mut R,
 ) -> Result<bool, AllocError>
-    requires small { IsSmall K region.now.lo.coordinates × IsSmall K region.now.hi.coordinates }
+    requires small { IsSmallPoint K region.now.lo.coordinates × IsSmallPoint K region.now.hi.coordinates }
     requires past { IsPast K way.now.up region.now.lo.coordinates region.now.hi.coordinates
         past.now.coordinates }
     requires placed { let k = key K way.now.lead way.now.up in
         IsPlaced K (k (start way.now.up region.now.lo.coordinates region.now.hi.coordinates))
         (k past.now.coordinates) (k c.old.coordinates) (k n.old.coordinates) }
     requires has { Has K b.now.lo.coordinates b.now.hi.coordinates c.old.coordinates }
-    requires small_box { IsSmall K b.now.lo.coordinates × IsSmall K b.now.hi.coordinates }
+    requires small_box { IsSmallPoint K b.now.lo.coordinates × IsSmallPoint K b.now.hi.coordinates }
     requires recorded { let k = key K way.now.lead way.now.up in
         let first = k (start way.now.up region.now.lo.coordinates region.now.hi.coordinates) in
         R.keeps ≡ true → SomeOpenBy K way.now.lead way.now.up number b.now.lo.coordinates

@@ -1,7 +1,7 @@
 //! A hundred fixed objects of two boxes each, and one that moves among them.
 
 ghost use Rattle.std.specs.Prelude.{◌≡◌, ℕ, ◌+◌, ◌-◌, ◌^◌, ◌<◌, ◌≤◌, ◌++◌, ◌∷◌, [], length, map, pos, negsuc, IfOk, OnOk, ◌≤ℤ◌};
-ghost use Rattle.geo_base.specs.Ways.{IsSmall};
+ghost use Rattle.geo_base.specs.Ways.{IsSmallPoint};
 ghost use Rattle.geo_conditions.specs.Conditions.{AllFit, FitsIn};
 ghost use Rattle.geo_conditions.specs.Form.{IsBounded};
 ghost use Rattle.sweep.specs.Picks.{ArePicks};
@@ -49,7 +49,7 @@ impl Draws {
 
 /// The ranges of the moving object.
 pub fn ranges() -> KBox<3>
-    ensures { IsSmall 3 result.lo.coordinates × IsSmall 3 result.hi.coordinates }
+    ensures { IsSmallPoint 3 result.lo.coordinates × IsSmallPoint 3 result.hi.coordinates }
 {
     KBox::new(Point::filled(0), Point::filled(1_000_000))
 }

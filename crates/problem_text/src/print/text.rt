@@ -4,7 +4,8 @@ ghost use Rattle.std.specs.Prelude.{◌≡◌, ◌++◌, ◌∷◌, [], IfOk, ma
 ghost use Rattle.std.specs.List.{list_any};
 ghost use Rattle.geo_tokens.specs.declared.token.Keyword.TheVariants as keywords;
 ghost use Rattle.rule_print.specs.Canonical.{word};
-ghost use Rattle.problem_text.specs.Canonical.{order_spelling, sides_spelling, object_names, line_if, shape_spelling, object_spelling, macro_spelling, rule_spelling, line_text, counts_from, is_high, head_spelling, problem_text};
+ghost use Rattle.problem_data.specs.Problem.{runs_down};
+ghost use Rattle.problem_text.specs.Canonical.{order_spelling, sides_spelling, object_names, line_if, shape_spelling, object_spelling, macro_spelling, rule_spelling, line_text, counts_from, head_spelling, problem_text};
 
 use crate::print::line::push_line;
 use crate::print::statement::{
@@ -86,19 +87,10 @@ fn is_file_order(order: &[u16]) -> bool
     true
 }
 
-fn is_high(side: Side) -> bool
-    ensures { result ≡ is_high side }
-{
-    match side {
-        Side::Low => false,
-        Side::High => true,
-    }
-}
-
 fn some_high(sides: &[Side]) -> bool
-    ensures { result ≡ list_any is_high sides.now }
+    ensures { result ≡ list_any runs_down sides.now }
 {
-    sides.iter().any(|side| is_high(*side))
+    sides.iter().any(|side| side.runs_down())
 }
 
 fn push_end(alloc: Global, text: &mut Vec<u8>) -> Result<(), AllocError>
@@ -115,7 +107,7 @@ fn push_ways(alloc: Global, problem: &Problem, text: &mut Vec<u8>) -> Result<(),
     ensures { IfOk result (λ _. text.new.items ≡ text.old.items
         ++ (line_if (not (counts_from 0 problem.now.order))
         (order_spelling (object_names problem.now) problem.now.order)
-        ++ line_if (list_any is_high problem.now.sides) (sides_spelling problem.now.sides))) }
+        ++ line_if (list_any runs_down problem.now.sides) (sides_spelling problem.now.sides))) }
 {
     if !is_file_order(problem.search_order()) {
         push_order(alloc, problem.objects(), problem.search_order(), text)?;

@@ -2,23 +2,13 @@
 
 ghost use Rattle.std.specs.Prelude.{◌≡◌, IfOk};
 ghost use Rattle.geo_conditions.specs.Walk.{NamesEach};
-ghost use Rattle.rule_ground.specs.Order.{order_of, runs_down};
+ghost use Rattle.problem_data.specs.Problem.{runs_down};
+ghost use Rattle.rule_ground.specs.Order.{order_of};
 ghost use Rattle.rule_ground.specs.Start.{first_state};
 
 use geo_conditions::{ObjId, SearchOrder};
 use problem_data::problem::Problem;
-use problem_data::tree::Side;
 use std::alloc::{AllocError, Global};
-
-// Whether the values of a coordinate are tried from the high end down.
-fn is_downwards(side: Side) -> bool
-    ensures { result ≡ runs_down side }
-{
-    match side {
-        Side::Low => false,
-        Side::High => true,
-    }
-}
 
 /// The search order of a problem: its objects one after another, and for each dimension whether its values are tried from
 /// the high end down. It names each object once.
@@ -34,7 +24,7 @@ pub fn search_order(alloc: Global, problem: &Problem) -> Result<SearchOrder, All
     }
     let mut down = Vec::new(alloc);
     for side in problem.sides() {
-        down.push(is_downwards(*side))?;
+        down.push(side.runs_down())?;
     }
     SearchOrder::new(alloc, objects.as_slice(), down.as_slice())
 }

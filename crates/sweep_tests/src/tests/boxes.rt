@@ -1,7 +1,7 @@
 //! The sweep of an object beside two fixed boxes: the point, the questions and the events.
 
 ghost use Rattle.std.specs.Prelude.{◌≡◌, ◌<◌, pos, ◌≤ℤ◌, map, negsuc};
-ghost use Rattle.geo_base.specs.Ways.{IsSmall};
+ghost use Rattle.geo_base.specs.Ways.{IsSmallPoint};
 ghost use Rattle.geo_conditions.specs.Conditions.{AllFit, FitsIn};
 ghost use Rattle.indexical.specs.Apart.{apart};
 
@@ -18,7 +18,7 @@ use sweep::sweep;
 
 fn at(x: i64) -> Point<1>
     requires { (negsuc 1999999 ≤ℤ x) × (x ≤ℤ pos 2000000) }
-    ensures { IsSmall 1 result.coordinates }
+    ensures { IsSmallPoint 1 result.coordinates }
 {
     Point::filled(x)
 }

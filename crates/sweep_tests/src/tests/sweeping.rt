@@ -1,7 +1,7 @@
 //! The sweep where there is no condition.
 
 ghost use Rattle.std.specs.Prelude.{◌≡◌, ◌<◌, length};
-ghost use Rattle.geo_base.specs.Ways.{IsSmall};
+ghost use Rattle.geo_base.specs.Ways.{IsSmallPoint};
 
 use super::literals::{A, state};
 use super::pruning::are_same;
@@ -17,7 +17,7 @@ use sweep::sweep;
 
 /// A corner within the limits.
 fn corner(x: i8, y: i8) -> Point<2>
-    ensures { IsSmall 2 result.coordinates }
+    ensures { IsSmallPoint 2 result.coordinates }
 {
     Point::filled(i64::from(x)).with(1, i64::from(y))
 }
@@ -33,7 +33,7 @@ fn swept_with<L: Ledger>(
     requires parts { blank.parts ≡ L.parts }
     requires some { 0 < blank.parts }
     requires object { 0 < length s.now }
-    requires small { IsSmall 2 region.now.lo.coordinates × IsSmall 2 region.now.hi.coordinates }
+    requires small { IsSmallPoint 2 region.now.lo.coordinates × IsSmallPoint 2 region.now.hi.coordinates }
 {
     let mut steps = Steps::<L>::new(blank);
     let list: [TreeIndexical; 0] = [];
@@ -45,7 +45,7 @@ fn swept_with<L: Ledger>(
 /// The events of the sweep of a region, behind those of the record.
 fn swept(s: &State<2>, region: &KBox<2>, up: bool, log: &mut Log) -> Result<(), AllocError>
     requires object { 0 < length s.now }
-    requires small { IsSmall 2 region.now.lo.coordinates × IsSmall 2 region.now.hi.coordinates }
+    requires small { IsSmallPoint 2 region.now.lo.coordinates × IsSmallPoint 2 region.now.hi.coordinates }
 {
     swept_with::<Brand>(Blank::new(1), s, region, up, log)
 }

@@ -2,7 +2,7 @@ use Rattle.geo_conditions.proofs.Products.{product_cast}
 use Rattle.geo_conditions.proofs.refute.least_term.Goals as goal
 
 pub returns-then-term-lt0-clause-bound : goal.returns-then-term-lt0-clause-bound
-returns-then-term-lt0-clause-bound g c = product_cast c.args.term.now.factor c.get.result c.product.result c.requires.bounded (record { sfits = c.get.type_inv }) (record { sfits = c.product.type_inv }) c.product.ensures
+returns-then-term-lt0-clause-bound g c = product_cast c.args.term.now.factor c.high_in.result c.product.result c.requires.bounded (record { sfits = c.high_in.type_inv }) (record { sfits = c.product.type_inv }) c.product.ensures
 
 pub returns-else-term-lt0-clause-bound : goal.returns-else-term-lt0-clause-bound
-returns-else-term-lt0-clause-bound g c = product_cast c.args.term.now.factor c.get-else-term-lt0.result c.product-else-term-lt0.result c.requires.bounded (record { sfits = c.get-else-term-lt0.type_inv }) (record { sfits = c.product-else-term-lt0.type_inv }) c.product-else-term-lt0.ensures
+returns-else-term-lt0-clause-bound g c = product_cast c.args.term.now.factor c.low_in.result c.product-else-term-lt0.result c.requires.bounded (record { sfits = c.low_in.type_inv }) (record { sfits = c.product-else-term-lt0.type_inv }) c.product-else-term-lt0.ensures

@@ -1,12 +1,13 @@
 use Rattle.std.proofs.Common.{◌≡◌, ◌<◌, ◌∙◌, ap, sym, length, arith, refl}
 use Rattle.std.specs.Prelude.{Some}
+use Rattle.rule_names.proofs.Sights.{macro-inside, macro-at}
 use Rattle.rule_syntax.specs.View.{expr_view, formula_view}
 use Rattle.problem_data.specs.Tree.{means, equals}
 use Rattle.problem_data.specs.View.{body_view}
 use Rattle.problem_data.specs.Value.{macro_position}
 use Rattle.problem_data.specs.Truth.{macro_of}
 use Rattle.rule_names.specs.Table.{found}
-use Rattle.rule_expand.proofs.Called.{value-called, value-uncalled, cost-called, macro-inside, macro-at}
+use Rattle.rule_expand.proofs.Called.{value-called, value-uncalled, cost-called}
 use Rattle.rule_expand.proofs.scope.value_macro.Goals as goal
 
 pub returns-then-index-in_sight : goal.returns-then-index-in_sight

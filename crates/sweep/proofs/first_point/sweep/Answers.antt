@@ -1,7 +1,7 @@
 use Rattle.std.proofs.Common.{◌≡◌, ℕ, ◌+◌, ◌-◌, ◌*◌, ◌<ℤ◌, true, length, map, get_or, subst, refl, inl, inr, arith, rules}
 use Rattle.std.proofs.lemmas.Int.{ints}
 use Rattle.geo_base.specs.Boxes.{Has}
-use Rattle.geo_base.specs.Ways.{IsSmall, key, start}
+use Rattle.geo_base.specs.Ways.{IsSmallPoint, key, start}
 use Rattle.geo_conditions.specs.Regions.{region_of}
 use Rattle.geo_conditions.proofs.Few.{dims_are}
 use Rattle.derivation.specs.Covers.{Leaf}
@@ -13,7 +13,7 @@ use Rattle.sweep.proofs.Bound.{IsCounted, IsCounted-first, IsCounted-turn, IsLas
 use Rattle.sweep.proofs.PickedConditions.{RefutedIn, forbidden, refuted_at_point, refutes_pick_true, picked_at, fits_at, mapped_picks}
 use Rattle.sweep.proofs.Promises.{no_point, first_point, covered, before_out, before_sizes}
 use Rattle.sweep.proofs.RecordSteps.{IsOpen-start}
-use Rattle.sweep.proofs.Turns.{IsPlaced-first, not_done_first, has_placed, IsDone-before, IsSmall-inside, remaining_turn}
+use Rattle.sweep.proofs.Turns.{IsPlaced-first, not_done_first, has_placed, IsDone-before, IsSmallPoint-inside, remaining_turn}
 use Rattle.sweep.proofs.first_point.sweep.Goals as goal
 
 pub returns-then-is_empty-clause-covered : goal.returns-then-is_empty-clause-covered
@@ -161,8 +161,8 @@ turn-requires g c =
     let past_is = rw c.end.ensures at c.one_past-past.ensures in
     let r = c.in-Some.ensures.refuted in
     let true_of = refutes_pick_true cs c.args.picks.now c.args.s.now c.args.o.0 c.args.place c.in-Some.k r.0 c.in-Some.b.lo.coordinates c.in-Some.b.hi.coordinates (mapped_picks g.I.Indexical.cond c.args.list.now c.args.picks.now c.requires.picks) r.1 r.2 in
-    let low : IsSmall g.row.K c.in-Some.b.lo.coordinates = IsSmall-inside g.row.K c.args.region.now.lo.coordinates c.args.region.now.hi.coordinates c.in-Some.b.lo.coordinates c.requires.small.0 c.requires.small.1 c.in-Some.ensures.within.0 in
-    let high : IsSmall g.row.K c.in-Some.b.hi.coordinates = IsSmall-inside g.row.K c.args.region.now.lo.coordinates c.args.region.now.hi.coordinates c.in-Some.b.hi.coordinates c.requires.small.0 c.requires.small.1 c.in-Some.ensures.within.1 in
+    let low : IsSmallPoint g.row.K c.in-Some.b.lo.coordinates = IsSmallPoint-inside g.row.K c.args.region.now.lo.coordinates c.args.region.now.hi.coordinates c.in-Some.b.lo.coordinates c.requires.small.0 c.requires.small.1 c.in-Some.ensures.within.0 in
+    let high : IsSmallPoint g.row.K c.in-Some.b.hi.coordinates = IsSmallPoint-inside g.row.K c.args.region.now.lo.coordinates c.args.region.now.hi.coordinates c.in-Some.b.hi.coordinates c.requires.small.0 c.requires.small.1 c.in-Some.ensures.within.1 in
     let recorded : g.R.Recorder.keeps ≡ true → SomeOpenBy g.row.K way.lead way.up (get_or c.args.picks.now c.in-Some.k 0) c.in-Some.b.lo.coordinates c.in-Some.b.hi.coordinates (k (start way.up c.args.region.now.lo.coordinates c.args.region.now.hi.coordinates)) (k c.one_past-past.result.coordinates) (k c.turns.c.coordinates) (k c.turns.n.coordinates) c.turns.marks.places (g.R.Recorder.list c.turns.rec) =
     λ kept. (T, g.R.Recorder.list c.args.rec.now, true_of, c.turns.invariant.recorded kept) in
     search rules

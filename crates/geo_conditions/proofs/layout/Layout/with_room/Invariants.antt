@@ -1,5 +1,4 @@
 use Rattle.std.proofs.Common.{◌≡◌, pos, replicate}
-use Rattle.geo_base.specs.Tuple.{Spot}
 use Rattle.geo_conditions.proofs.layout.Layout.with_room.Given as goal
 
 abbrev pub invariant-objects : goal.invariant-objects

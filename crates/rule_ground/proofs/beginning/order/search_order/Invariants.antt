@@ -1,6 +1,6 @@
 use Rattle.std.proofs.Common.{◌≡◌, map, take}
 use Rattle.geo_conditions.specs.Order.{numbers_of}
-use Rattle.rule_ground.specs.Order.{runs_down}
+use Rattle.problem_data.specs.Problem.{runs_down}
 use Rattle.rule_ground.proofs.beginning.order.search_order.Given as goal
 
 abbrev pub invariant-loop-o : goal.invariant-loop-o
