@@ -50,7 +50,8 @@ pub fn sweep<const K: usize, I: Indexical<K>, R: Recorder, L: Ledger>(
     requires fits { AllFit (map I.cond list.now) s.now }
     requires object { o.0 < length s.now }
     requires picks { ArePicks (length list.now) picks.now }
-    requires small { IsSmallPoint K region.now.lo.coordinates × IsSmallPoint K region.now.hi.coordinates }
+    requires small { IsSmallPoint K region.now.lo.coordinates
+        × IsSmallPoint K region.now.hi.coordinates }
     ensures point { let cs = picked (map I.cond list.now) picks.now in
         let b = region_of region.now in
         IfOk result (λ r. MatchOption r (HasNoPoint cs s.now o.0 place b)

@@ -25,7 +25,8 @@ pub fn turn<const K: usize, R: Recorder>(
     marks: &mut Marks<K>,
     rec: &mut R,
 ) -> Result<bool, AllocError>
-    requires small { IsSmallPoint K region.now.lo.coordinates × IsSmallPoint K region.now.hi.coordinates }
+    requires small { IsSmallPoint K region.now.lo.coordinates
+        × IsSmallPoint K region.now.hi.coordinates }
     requires past { IsPast K way.now.up region.now.lo.coordinates region.now.hi.coordinates
         past.now.coordinates }
     requires placed { let k = key K way.now.lead way.now.up in

@@ -33,7 +33,8 @@ fn swept_with<L: Ledger>(
     requires parts { blank.parts ≡ L.parts }
     requires some { 0 < blank.parts }
     requires object { 0 < length s.now }
-    requires small { IsSmallPoint 2 region.now.lo.coordinates × IsSmallPoint 2 region.now.hi.coordinates }
+    requires small { IsSmallPoint 2 region.now.lo.coordinates
+        × IsSmallPoint 2 region.now.hi.coordinates }
 {
     let mut steps = Steps::<L>::new(blank);
     let list: [TreeIndexical; 0] = [];
@@ -45,7 +46,8 @@ fn swept_with<L: Ledger>(
 /// The events of the sweep of a region, behind those of the record.
 fn swept(s: &State<2>, region: &KBox<2>, up: bool, log: &mut Log) -> Result<(), AllocError>
     requires object { 0 < length s.now }
-    requires small { IsSmallPoint 2 region.now.lo.coordinates × IsSmallPoint 2 region.now.hi.coordinates }
+    requires small { IsSmallPoint 2 region.now.lo.coordinates
+        × IsSmallPoint 2 region.now.hi.coordinates }
 {
     swept_with::<Brand>(Blank::new(1), s, region, up, log)
 }
