@@ -1,16 +1,22 @@
 -- One member more: what was spelled, and what is left to spell, is the whole.
-use Rattle.std.proofs.Common.{◌≡◌, ◌<◌, ◌+◌, ◌++◌, ◌∷◌, [], ℕ, List, Bool, true, false, map, drop, length, get_or, append_assoc, sym, ap, ◌∙◌, refl}
+use Rattle.std.proofs.Common.{◌≡◌, ◌<◌, ◌+◌, ◌++◌, ◌∷◌, [], ℕ, List, Bool, true, false, map, drop, length, get_or, append_assoc, sym, ap, ◌∙◌, refl, arith}
+use Rattle.std.specs.Prelude.{if◌then◌else◌, not}
+use Rattle.std.proofs.lemmas.Grind.{common_steps}
 use Rattle.std.proofs.lemmas.List.{append-nil, drop_more}
 use Rattle.geo_tokens.specs.declared.token.Keyword.{Keyword}
+use Rattle.geo_tokens.specs.declared.token.Sym.TheVariants as syms
+use Rattle.rule_syntax.specs.declared.tree.Argument.{Argument}
+use Rattle.rule_syntax.specs.declared.tree.Expr.{the_lemmas}
 use Rattle.rule_syntax.specs.declared.tree.Formula.{Formula}
 use Rattle.rule_syntax.specs.declared.tree.ProdStep.{ProdStep}
 use Rattle.rule_syntax.specs.declared.tree.SumStep.{SumStep}
-use Rattle.rule_syntax.specs.Tree.{sums, products, formulas}
-use Rattle.rule_syntax.specs.View.{sum_view, product_view, formula_view}
-use Rattle.rule_print.specs.Canonical.{Written, word}
+use Rattle.rule_syntax.specs.Tree.{sums, products, arguments, formulas}
+use Rattle.rule_syntax.specs.View.{expr_view, sum_view, product_view, argument_view, formula_view}
+use Rattle.rule_print.specs.Canonical.{Written, symbol, word}
+use Rattle.rule_print.specs.declared.rank.ExprRank.TheVariants as ranks
 use Rattle.rule_print.specs.declared.rank.FormulaRank.{FormulaRank}
-use Rattle.rule_print.specs.Spelled.{formula_spelling, mark_before, more_operands_spelling, operands_spelling, sum_spelling, sum_step_spelling, product_spelling, product_step_spelling}
-use Rattle.rule_print.proofs.Printing.{left_operands}
+use Rattle.rule_print.specs.Spelled.{expr_spelling, formula_spelling, mark_before, more_operands_spelling, operands_spelling, sum_spelling, sum_step_spelling, product_spelling, product_step_spelling, argument_spelling, arguments_spelling, more_arguments_spelling}
+use Rattle.rule_print.proofs.Printing.{left_arguments, left_operands}
 
 -- behind what was spelled, the next member, and the rest
 joined : {X : Type 0} (spell : List X → List Written) (one : X → List Written) → ((x : X) (xs : List X) → spell (x ∷ xs) ≡ one x ++ spell xs) →
@@ -29,8 +35,29 @@ pub products-step : (steps : List ProdStep) (i : ℕ) (s : ProdStep) (now later 
     now ++ product_spelling (products (map product_view (drop i steps))) ≡ whole → later ++ product_spelling (products (map product_view (drop (i + 1) steps))) ≡ whole
 products-step = joined (λ xs. product_spelling (products (map product_view xs))) (λ s. product_step_spelling (product_view s)) (λ x xs. refl)
 
-operands-next : (fs : List Formula) (i : ℕ) (f : Formula) → i < length fs → f ≡ get_or fs i f → drop i fs ≡ f ∷ drop (i + 1) fs
-operands-next fs i f h e = drop_more fs i f h ∙ ap (λ y. y ∷ drop (i + 1) fs) (sym e)
+next : {X : Type 0} (xs : List X) (i : ℕ) (x : X) → i < length xs → x ≡ get_or xs i x → drop i xs ≡ x ∷ drop (i + 1) xs
+next xs i x h e = drop_more xs i x h ∙ ap (λ y. y ∷ drop (i + 1) xs) (sym e)
+
+argument-is : (x : Argument) → argument_spelling (argument_view x) ≡ expr_spelling ranks.Sum (expr_view x.value)
+argument-is x = grind (arith, common_steps, the_lemmas)
+
+pub arguments-step : (b : Bool) (xs : List Argument) (i : ℕ) (x : Argument) (now marked later whole : List Written) → i < length xs → x ≡ get_or xs i x →
+    marked ≡ now ++ (if not b then symbol syms.Comma ∷ [] else []) → later ≡ marked ++ expr_spelling ranks.Sum (expr_view x.value) →
+    now ++ left_arguments b (arguments (map argument_view (drop i xs))) ≡ whole → later ++ left_arguments false (arguments (map argument_view (drop (i + 1) xs))) ≡ whole
+arguments-step true xs i x now marked later whole h e m is k =
+    let rest = more_arguments_spelling (arguments (map argument_view (drop (i + 1) xs))) in
+    let own = argument_spelling (argument_view x) in
+    ap (λ l. l ++ rest) (is ∙ ap (λ l. marked ++ l) (sym (argument-is x)) ∙ ap (λ l. l ++ own) (m ∙ append-nil now))
+    ∙ append_assoc now own rest
+    ∙ sym (ap (λ ys. now ++ arguments_spelling (arguments (map argument_view ys))) (next xs i x h e))
+    ∙ k
+arguments-step false xs i x now marked later whole h e m is k =
+    let rest = more_arguments_spelling (arguments (map argument_view (drop (i + 1) xs))) in
+    let own = argument_spelling (argument_view x) in
+    ap (λ l. l ++ rest) (is ∙ ap (λ l. marked ++ l) (sym (argument-is x)) ∙ ap (λ l. l ++ own) m ∙ append_assoc now (symbol syms.Comma ∷ []) own)
+    ∙ append_assoc now (symbol syms.Comma ∷ own) rest
+    ∙ sym (ap (λ ys. now ++ more_arguments_spelling (arguments (map argument_view ys))) (next xs i x h e))
+    ∙ k
 
 pub operands-step : (mark : Keyword) (r : FormulaRank) (b : Bool) (fs : List Formula) (i : ℕ) (f : Formula) (now marked later whole : List Written) → i < length fs → f ≡ get_or fs i f →
     marked ≡ now ++ mark_before b mark → later ≡ marked ++ formula_spelling r (formula_view f) →
@@ -40,12 +67,12 @@ operands-step mark r true fs i f now marked later whole h e m is k =
     let own = formula_spelling r (formula_view f) in
     ap (λ l. l ++ rest) (is ∙ ap (λ l. l ++ own) (m ∙ append-nil now))
     ∙ append_assoc now own rest
-    ∙ sym (ap (λ xs. now ++ operands_spelling mark r (formulas (map formula_view xs))) (operands-next fs i f h e))
+    ∙ sym (ap (λ xs. now ++ operands_spelling mark r (formulas (map formula_view xs))) (next fs i f h e))
     ∙ k
 operands-step mark r false fs i f now marked later whole h e m is k =
     let rest = more_operands_spelling mark r (formulas (map formula_view (drop (i + 1) fs))) in
     let own = formula_spelling r (formula_view f) in
     ap (λ l. l ++ rest) (is ∙ ap (λ l. l ++ own) m ∙ append_assoc now (word mark ∷ []) own)
     ∙ append_assoc now (word mark ∷ own) rest
-    ∙ sym (ap (λ xs. now ++ more_operands_spelling mark r (formulas (map formula_view xs))) (operands-next fs i f h e))
+    ∙ sym (ap (λ xs. now ++ more_operands_spelling mark r (formulas (map formula_view xs))) (next fs i f h e))
     ∙ k

@@ -1,4 +1,4 @@
-use Rattle.rule_print.proofs.Loops.{products-step, sums-step}
+use Rattle.rule_print.proofs.Loops.{arguments-step, products-step, sums-step}
 use Rattle.rule_print.proofs.expression.+spell.Goals as goal
 
 pub spell_sum_steps-steps-preserved : goal.spell_sum_steps-steps-preserved
@@ -6,3 +6,7 @@ spell_sum_steps-steps-preserved t c = sums-step c.args.steps.now c.steps.step-in
 
 pub spell_product_steps-steps-preserved : goal.spell_product_steps-steps-preserved
 spell_product_steps-steps-preserved t c = products-step c.args.steps.now c.steps.step-index c.step-item.result _ _ _ c.steps-test.true c.step-item.is (c.in_ok-spell_product_step.ensures {u = tt}) c.steps.invariant
+
+pub spell_arguments-arguments-preserved : goal.spell_arguments-arguments-preserved
+spell_arguments-arguments-preserved t c =
+    arguments-step c.arguments.is_first c.args.given.now c.arguments.argument-index c.argument-item.result _ _ _ _ c.arguments-test.true c.argument-item.is (c.in_ok-push_if.ensures {u = tt}) (c.in_ok-spell_expression.ensures {u = tt}) c.arguments.invariant
