@@ -1,14 +1,19 @@
 -- Faults that look names up find them in the list and among the names that were met alike; and the faults of all statements.
-use Rattle.std.proofs.Common.{◌≡◌, ◌⊎◌, ℕ, List, take, Option, inl, inr}
+use Rattle.std.proofs.Common.{◌≡◌, ◌⊎◌, ℕ, List, take, map, Option, inl, inr, sym, ap, ◌∙◌, subst}
 use Rattle.std.specs.List.{Contains}
 use Rattle.rule_syntax.specs.declared.tree.PlacedName.{PlacedName}
 use Rattle.problem_data.specs.declared.fault.Fault.{Fault}
+use Rattle.problem_data.specs.declared.tree.ShapeText.{ShapeText}
+use Rattle.problem_data.specs.declared.tree.ObjectText.{ObjectText}
 use Rattle.problem_data.specs.Tree.{ObjectTree, OrderTree}
+use Rattle.problem_data.specs.View.{shape_view, object_view}
 use Rattle.problem_data.specs.Parts.{Parts}
 use Rattle.problem_data.specs.Least.{IsLeast, earlier}
 use Rattle.problem_data.specs.Seen.{met}
-use Rattle.problem_data.specs.Faults.{Among, NotMade, ObjectFault, ObjectsFault, OrderFault, Incomplete, SidesFault, MacrosFault, RulesFault, ShapesFault, VersionFault, DimsFault, IsFault, version, dims, shapes, objects, orders, sides, macros, rules, shape_names, object_names, count_of}
+use Rattle.problem_data.specs.Faults.{Among, NotMade, ObjectFault, ObjectsFault, OrderFault, Incomplete, IsFault, version, dims, shapes, objects, orders, sides, macros, rules, text_of, shape_name, object_name, shape_names, object_names, count_of}
+use Rattle.statement_faults.specs.Groups.{HeadFault, ObjectOrOrderFault, NamingFault, TailFault}
 use Rattle.problem_data.proofs.Firsts.{least_same, joined}
+use Rattle.problem_data.proofs.InLists.{map_twice}
 use Rattle.problem_data.proofs.MetNames.{met_has, has_met}
 
 -- the same faults among the items of a list
@@ -41,67 +46,67 @@ module _ (k : ℕ) (ms ns : List (List ℕ)) (to : (n : List ℕ) → Contains m
   pub orders_as : (os : List OrderTree) (f : Fault) → Among (OrderFault ms) os f → Among (OrderFault ns) os f
   orders_as os f a = among_as (OrderFault ms) (OrderFault ns) order_as os f a
 
-pub objects_of_met : (k : ℕ) (names : List (List ℕ)) (os : List ObjectTree) (o : Option Fault) → IsLeast (ObjectsFault k (met names) os) o → IsLeast (ObjectsFault k names os) o
-objects_of_met k names os o h =
-    least_same (ObjectsFault k (met names) os) (ObjectsFault k names os) o (objects_as k (met names) names (met_has names) (has_met names) os) (objects_as k names (met names) (has_met names) (met_has names) os) h
-
 pub orders_of_met : (names : List (List ℕ)) (os : List OrderTree) (o : Option Fault) → IsLeast (Among (OrderFault (met names)) os) o → IsLeast (Among (OrderFault names) os) o
 orders_of_met names os o h =
     least_same (Among (OrderFault (met names)) os) (Among (OrderFault names) os) o (orders_as 0 (met names) names (met_has names) (has_met names) os) (orders_as 0 names (met names) (has_met names) (met_has names) os) h
 
+-- the names that the objects of some statements have, as they were met
+pub objects_met : (os : List ObjectText) (ns : List PlacedName) (made : List (List ℕ)) → made ≡ met (map text_of ns) → ns ≡ map (λ o. o.name) os → made ≡ met (object_names (map object_view os))
+objects_met os ns made e same = e ∙ ap (λ (xs : List PlacedName). met (map text_of xs)) (same ∙ sym (map_twice object_name object_view os))
+
+pub shapes_met : (ss : List ShapeText) (ns : List PlacedName) (made : List (List ℕ)) → made ≡ met (map text_of ns) → ns ≡ map (λ s. s.name) ss → made ≡ met (shape_names (map shape_view ss))
+shapes_met ss ns made e same = e ∙ ap (λ (xs : List PlacedName). met (map text_of xs)) (same ∙ sym (map_twice shape_name shape_view ss))
+
 -- ---- all statements
 
+-- the faults of objects and orders, by the names of the shapes as they were met
+pub group_of_met : (k : ℕ) (p : Parts) (o : Option Fault) → IsLeast (ObjectOrOrderFault k (met (shape_names p.shapes)) p) o → IsLeast (ObjectOrOrderFault k (shape_names p.shapes) p) o
+group_of_met k p o h = least_same (ObjectOrOrderFault k (met (shape_names p.shapes)) p) (ObjectOrOrderFault k (shape_names p.shapes) p) o to back h
+  where
+    names : List (List ℕ)
+    names = shape_names p.shapes
+
+    to : (f : Fault) → ObjectOrOrderFault k (met (shape_names p.shapes)) p f → ObjectOrOrderFault k (shape_names p.shapes) p f
+    to f (inl a) = inl (objects_as k (met (shape_names p.shapes)) (shape_names p.shapes) (met_has (shape_names p.shapes)) (has_met (shape_names p.shapes)) p.objects f a)
+    to f (inr a) = inr a
+
+    back : (f : Fault) → ObjectOrOrderFault k (shape_names p.shapes) p f → ObjectOrOrderFault k (met (shape_names p.shapes)) p f
+    back f (inl a) = inl (objects_as k (shape_names p.shapes) (met (shape_names p.shapes)) (has_met (shape_names p.shapes)) (met_has (shape_names p.shapes)) p.objects f a)
+    back f (inr a) = inr a
+
 module _ (p : Parts) where
-  pub RestFault : Fault → Type 0
-  RestFault f =
-      VersionFault p.version f ⊎ DimsFault p.dims f ⊎ ShapesFault (count_of p.dims.value) p.shapes f ⊎ ObjectsFault (count_of p.dims.value) (shape_names p.shapes) p.objects f
-      ⊎ Among (OrderFault (object_names p.objects)) p.orders f ⊎ Among (SidesFault (count_of p.dims.value)) p.sides f ⊎ MacrosFault p.macros f ⊎ RulesFault (count_of p.dims.value) p.rules f
+  -- the faults of all statements by their groups
+  pub AnyFault : Fault → Type 0
+  AnyFault f = HeadFault p f ⊎ NamingFault (count_of p.dims.value) p f ⊎ TailFault (count_of p.dims.value) p f
 
-  to_fault : (f : Fault) → RestFault f → IsFault p f
-  unfolding RestFault
-  to_fault f (inl a) = version a
-  to_fault f (inr (inl a)) = dims a
-  to_fault f (inr (inr (inl a))) = shapes a
-  to_fault f (inr (inr (inr (inl a)))) = objects a
-  to_fault f (inr (inr (inr (inr (inl a))))) = orders a
-  to_fault f (inr (inr (inr (inr (inr (inl a)))))) = sides a
-  to_fault f (inr (inr (inr (inr (inr (inr (inl a))))))) = macros a
-  to_fault f (inr (inr (inr (inr (inr (inr (inr a))))))) = rules a
+  to_fault : (f : Fault) → AnyFault f → IsFault p f
+  unfolding AnyFault
+  to_fault f (inl (inl a)) = version a
+  to_fault f (inl (inr a)) = dims a
+  to_fault f (inr (inl (inl a))) = shapes a
+  to_fault f (inr (inl (inr (inl a)))) = objects a
+  to_fault f (inr (inl (inr (inr a)))) = orders a
+  to_fault f (inr (inr (inl a))) = sides a
+  to_fault f (inr (inr (inr (inl a)))) = macros a
+  to_fault f (inr (inr (inr (inr a)))) = rules a
 
-  from_fault : (f : Fault) → IsFault p f → RestFault f
-  unfolding RestFault
-  from_fault f (version a) = inl a
-  from_fault f (dims a) = inr (inl a)
-  from_fault f (shapes a) = inr (inr (inl a))
-  from_fault f (objects a) = inr (inr (inr (inl a)))
-  from_fault f (orders a) = inr (inr (inr (inr (inl a))))
-  from_fault f (sides a) = inr (inr (inr (inr (inr (inl a)))))
-  from_fault f (macros a) = inr (inr (inr (inr (inr (inr (inl a))))))
-  from_fault f (rules a) = inr (inr (inr (inr (inr (inr (inr a))))))
+  from_fault : (f : Fault) → IsFault p f → AnyFault f
+  unfolding AnyFault
+  from_fault f (version a) = inl (inl a)
+  from_fault f (dims a) = inl (inr a)
+  from_fault f (shapes a) = inr (inl (inl a))
+  from_fault f (objects a) = inr (inl (inr (inl a)))
+  from_fault f (orders a) = inr (inl (inr (inr a)))
+  from_fault f (sides a) = inr (inr (inl a))
+  from_fault f (macros a) = inr (inr (inr (inl a)))
+  from_fault f (rules a) = inr (inr (inr (inr a)))
 
-  pub all_joined : (o : Option Fault) → IsLeast RestFault o → IsLeast (IsFault p) o
-  all_joined o h = least_same RestFault (IsFault p) o to_fault from_fault h
-
-  -- the faults of the parts, as `earlier` joined them from the last on
-  pub all_parts : (a b c d e g h i : Option Fault) (o1 o2 o3 o4 o5 o6 o : Option Fault) → o1 ≡ earlier h i → o2 ≡ earlier g o1 → o3 ≡ earlier e o2 → o4 ≡ earlier d o3 → o5 ≡ earlier c o4 → o6 ≡ earlier b o5 → o ≡ earlier a o6
-      → IsLeast (VersionFault p.version) a → IsLeast (DimsFault p.dims) b → IsLeast (ShapesFault (count_of p.dims.value) p.shapes) c → IsLeast (ObjectsFault (count_of p.dims.value) (shape_names p.shapes) p.objects) d
-      → IsLeast (Among (OrderFault (object_names p.objects)) p.orders) e → IsLeast (Among (SidesFault (count_of p.dims.value)) p.sides) g → IsLeast (MacrosFault p.macros) h → IsLeast (RulesFault (count_of p.dims.value) p.rules) i
-      → IsLeast RestFault o
-  unfolding RestFault
-  all_parts a b c d e g h i o1 o2 o3 o4 o5 o6 o s1 s2 s3 s4 s5 s6 s in_version in_dims in_shapes in_objects in_orders in_sides in_macros in_rules =
-      let k : ℕ = count_of p.dims.value in
-      let A : Fault → Type 0 = VersionFault p.version in
-      let B : Fault → Type 0 = DimsFault p.dims in
-      let C : Fault → Type 0 = ShapesFault k p.shapes in
-      let D : Fault → Type 0 = ObjectsFault k (shape_names p.shapes) p.objects in
-      let E : Fault → Type 0 = Among (OrderFault (object_names p.objects)) p.orders in
-      let G : Fault → Type 0 = Among (SidesFault k) p.sides in
-      let H : Fault → Type 0 = MacrosFault p.macros in
-      let I : Fault → Type 0 = RulesFault k p.rules in
-      joined A (λ f. B f ⊎ C f ⊎ D f ⊎ E f ⊎ G f ⊎ H f ⊎ I f) a o6 o s in_version
-      (joined B (λ f. C f ⊎ D f ⊎ E f ⊎ G f ⊎ H f ⊎ I f) b o5 o6 s6 in_dims
-      (joined C (λ f. D f ⊎ E f ⊎ G f ⊎ H f ⊎ I f) c o4 o5 s5 in_shapes
-      (joined D (λ f. E f ⊎ G f ⊎ H f ⊎ I f) d o3 o4 s4 in_objects
-      (joined E (λ f. G f ⊎ H f ⊎ I f) e o2 o3 s3 in_orders
-      (joined G (λ f. H f ⊎ I f) g o1 o2 s2 in_sides
-      (joined H I h i o1 s1 in_macros in_rules))))))
+  -- the first faults of the groups, as `earlier` joined them
+  pub all_groups : (k : ℕ) (a b c d o : Option Fault) → k ≡ count_of p.dims.value → d ≡ earlier b c → o ≡ earlier a d
+      → IsLeast (HeadFault p) a → IsLeast (NamingFault k p) b → IsLeast (TailFault k p) c → IsLeast (IsFault p) o
+  unfolding AnyFault
+  all_groups k a b c d o same s t in_head in_naming in_tail =
+      let n : ℕ = count_of p.dims.value in
+      least_same AnyFault (IsFault p) o to_fault from_fault
+      (joined (HeadFault p) (λ f. NamingFault n p f ⊎ TailFault n p f) a d o t in_head
+      (joined (NamingFault n p) (TailFault n p) b c d s (subst (λ (m : ℕ). IsLeast (NamingFault m p) b) same in_naming) (subst (λ (m : ℕ). IsLeast (TailFault m p) c) same in_tail)))

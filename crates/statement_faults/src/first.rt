@@ -3,8 +3,8 @@
 ghost use Rattle.std.specs.Prelude.{◌≡◌, ◌↔◌, pos, IfOk, IsTrue};
 ghost use Rattle.problem_data.specs.Parts.{parts_view};
 ghost use Rattle.problem_data.specs.Least.{IsLeast};
-ghost use Rattle.problem_data.specs.Seen.{met};
-ghost use Rattle.problem_data.specs.Faults.{Among, VersionFault, DimsFault, ShapesFault, ObjectsFault, OrderFault, IsFault, shape_names, object_names, count_of};
+ghost use Rattle.problem_data.specs.Faults.{VersionFault, DimsFault, IsFault, count_of};
+ghost use Rattle.statement_faults.specs.Groups.{HeadFault, ObjectOrOrderFault, NamingFault, TailFault};
 
 use crate::names::met_names;
 use crate::objects::objects_fault;
@@ -52,62 +52,51 @@ fn dims_fault(dims: Int) -> Option<Fault>
     fault_if(!right, dims.place, FaultWord::Limit)
 }
 
-// The first faults of the statements that name shapes and objects.
-#[derive(Clone, Copy)]
-struct NamingFaults {
-    shapes: Option<Fault>,
-    objects: Option<Fault>,
-    orders: Option<Fault>,
-}
-
-// The names of the shapes, and the first fault of their statements.
-fn faults_of_shapes<'a>(
-    alloc: Global,
-    k: usize,
-    said: &'a Parts,
-) -> Result<(SeenNames<'a>, Option<Fault>), AllocError>
-    ensures names { IfOk result (λ r. r.0 ≡ met (shape_names (parts_view said.now).shapes)) }
-    ensures fault { IfOk result (λ r.
-        IsLeast (ShapesFault k (parts_view said.now).shapes) r.1) }
+// The first fault of the version and the number of dimensions.
+fn head_fault(said: &Parts) -> Option<Fault>
+    ensures { IsLeast (HeadFault (parts_view said.now)) result }
 {
-    let (names, repeated) = met_names(alloc, said.shapes.as_slice())?;
-    let fault = shapes_fault(k, said.shapes.as_slice(), repeated);
-    Ok((names, fault))
+    let version = version_fault(said.version);
+    let dims = dims_fault(said.dims);
+    earlier(version, dims)
 }
 
-// The names of the objects, and the first fault of their statements, where those are the names of the shapes.
-fn faults_of_objects<'a>(
+// The first fault of objects and orders, where these are the names of the shapes.
+fn object_fault(
     alloc: Global,
     k: usize,
     made: &SeenNames<'_>,
-    said: &'a Parts,
-) -> Result<(SeenNames<'a>, Option<Fault>), AllocError>
-    ensures names { IfOk result (λ r. r.0 ≡ met (object_names (parts_view said.now).objects)) }
-    ensures fault { IfOk result (λ r.
-        IsLeast (ObjectsFault k made.now (parts_view said.now).objects) r.1) }
+    said: &Parts,
+) -> Result<Option<Fault>, AllocError>
+    ensures { IfOk result (IsLeast (ObjectOrOrderFault k made.now (parts_view said.now))) }
 {
-    let (names, repeated) = met_names(alloc, said.objects.as_slice())?;
-    let fault = objects_fault(alloc, k, made, said.objects.as_slice(), repeated)?;
-    Ok((names, fault))
+    let list = said.objects.as_slice();
+    let (names, repeated) = met_names(alloc, list)?;
+    let objects = objects_fault(alloc, k, made, list, repeated)?;
+    let orders = orders_fault(alloc, &names, said.orders.as_slice())?;
+    Ok(earlier(objects, orders))
 }
 
-// The first faults of shapes, objects and orders.
-fn naming_faults(alloc: Global, k: usize, said: &Parts) -> Result<NamingFaults, AllocError>
-    ensures shapes { IfOk result (λ f.
-        IsLeast (ShapesFault k (parts_view said.now).shapes) f.shapes) }
-    ensures objects { IfOk result (λ f. IsLeast (ObjectsFault k
-        (shape_names (parts_view said.now).shapes) (parts_view said.now).objects) f.objects) }
-    ensures orders { IfOk result (λ f. IsLeast (Among (OrderFault
-        (object_names (parts_view said.now).objects)) (parts_view said.now).orders) f.orders) }
+// The first fault of shapes, objects and orders.
+fn naming_fault(alloc: Global, k: usize, said: &Parts) -> Result<Option<Fault>, AllocError>
+    ensures { IfOk result (IsLeast (NamingFault k (parts_view said.now))) }
 {
-    let (made_shapes, shapes) = faults_of_shapes(alloc, k, said)?;
-    let (made_objects, objects) = faults_of_objects(alloc, k, &made_shapes, said)?;
-    let orders = orders_fault(alloc, &made_objects, said.orders.as_slice())?;
-    Ok(NamingFaults {
-        shapes,
-        objects,
-        orders,
-    })
+    let list = said.shapes.as_slice();
+    let (names, repeated) = met_names(alloc, list)?;
+    let shapes = shapes_fault(k, list, repeated);
+    let others = object_fault(alloc, k, &names, said)?;
+    Ok(earlier(shapes, others))
+}
+
+// The first fault of sides, macros and rules.
+fn tail_fault(alloc: Global, k: usize, said: &Parts) -> Result<Option<Fault>, AllocError>
+    ensures { IfOk result (IsLeast (TailFault k (parts_view said.now))) }
+{
+    let sides = sides_fault(k, said.sides.as_slice());
+    let macros = macros_fault(alloc, said.macros.as_slice())?;
+    let rules = rules_fault(alloc, k, said.rules.as_slice())?;
+    let others = earlier(macros, rules);
+    Ok(earlier(sides, others))
 }
 
 /// The first fault of the statements.
@@ -115,17 +104,9 @@ pub fn first_fault(alloc: Global, said: &Parts) -> Result<Option<Fault>, AllocEr
     ensures { IfOk result (IsLeast (IsFault (parts_view said.now))) }
 {
     let k = count_of(said.dims);
-    let version = version_fault(said.version);
-    let dims = dims_fault(said.dims);
-    let naming = naming_faults(alloc, k, said)?;
-    let sides = sides_fault(k, said.sides.as_slice());
-    let macros = macros_fault(alloc, said.macros.as_slice())?;
-    let rules = rules_fault(alloc, k, said.rules.as_slice())?;
-    let last = earlier(macros, rules);
-    let last = earlier(sides, last);
-    let last = earlier(naming.orders, last);
-    let last = earlier(naming.objects, last);
-    let last = earlier(naming.shapes, last);
-    let last = earlier(dims, last);
-    Ok(earlier(version, last))
+    let head = head_fault(said);
+    let naming = naming_fault(alloc, k, said)?;
+    let tail = tail_fault(alloc, k, said)?;
+    let others = earlier(naming, tail);
+    Ok(earlier(head, others))
 }
