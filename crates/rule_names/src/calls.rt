@@ -27,15 +27,15 @@ fn kind_given(problem: &Problem, tables: &Tables, scope: &Scope, e: &Expr) -> Op
 {
     match e {
         Expr::Param(a) => kind_of(problem, tables, scope, &a.name),
-        Expr::Num(_place, _n) => Some(ParamKind::Int),
-        Expr::Field(_of, _dot, _field) => Some(ParamKind::Int),
-        Expr::ShapeNum(_place, _shape) => Some(ParamKind::Int),
-        Expr::Neg(_place, _e) => Some(ParamKind::Int),
-        Expr::Sum(_place, _e, _steps) => Some(ParamKind::Int),
-        Expr::Prod(_place, _e, _steps) => Some(ParamKind::Int),
-        Expr::Min(_place, _a, _b) => Some(ParamKind::Int),
-        Expr::Max(_place, _a, _b) => Some(ParamKind::Int),
-        Expr::CallValue(_place, _m, _args) => Some(ParamKind::Int),
+        Expr::Num(..) => Some(ParamKind::Int),
+        Expr::Field(..) => Some(ParamKind::Int),
+        Expr::ShapeNum(..) => Some(ParamKind::Int),
+        Expr::Neg(..) => Some(ParamKind::Int),
+        Expr::Sum(..) => Some(ParamKind::Int),
+        Expr::Prod(..) => Some(ParamKind::Int),
+        Expr::Min(..) => Some(ParamKind::Int),
+        Expr::Max(..) => Some(ParamKind::Int),
+        Expr::CallValue(..) => Some(ParamKind::Int),
     }
 }
 
@@ -89,8 +89,8 @@ fn is_formula(body: &MacroBody) -> bool
     ensures { result ≡ is_formula (body_view body.now) }
 {
     match body {
-        MacroBody::Means(_formula) => true,
-        MacroBody::Is(_value) => false,
+        MacroBody::Means(_) => true,
+        MacroBody::Is(_) => false,
     }
 }
 

@@ -80,7 +80,7 @@ fn demand_mistake(
 {
     match demand {
         Demand::Apart => Ok(None),
-        Demand::Within(_ranges) => Ok(None),
+        Demand::Within(_) => Ok(None),
         Demand::Plain(formula) => {
             let scope = Scope::Parameters(&[]);
             formula_mistake(alloc, problem, tables, statement, &scope, formula)

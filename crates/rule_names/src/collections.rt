@@ -100,7 +100,7 @@ pub fn element_kind(coll: &Coll) -> ParamKind
 {
     match coll {
         Coll::Objects => ParamKind::Object,
-        Coll::Listed(_names) => ParamKind::Object,
-        Coll::BoxesOf(_name) => ParamKind::Box,
+        Coll::Listed(_) => ParamKind::Object,
+        Coll::BoxesOf(_) => ParamKind::Box,
     }
 }

@@ -32,27 +32,27 @@ pub fn expr_mistake(
         any_kind (expr_view e.now)) }
 {
     match e {
-        Expr::Num(_place, _n) => None,
+        Expr::Num(..) => None,
         Expr::Field(of, dot, field) => field_mistake(problem, tables, scope, of, *dot, field),
         Expr::Param(name) => bare_mistake(problem, tables, scope, any_kind, name),
-        Expr::ShapeNum(_place, name) => shape_mistake(problem, tables, name),
-        Expr::Neg(_place, inner) => expr_mistake(problem, tables, statement, scope, false, inner),
-        Expr::Sum(_place, first, steps) => {
+        Expr::ShapeNum(_, name) => shape_mistake(problem, tables, name),
+        Expr::Neg(_, inner) => expr_mistake(problem, tables, statement, scope, false, inner),
+        Expr::Sum(_, first, steps) => {
             let one = expr_mistake(problem, tables, statement, scope, false, first);
             let others = sums_mistake(problem, tables, statement, scope, steps.as_slice());
             earlier(one, others)
         }
-        Expr::Prod(_place, first, steps) => {
+        Expr::Prod(_, first, steps) => {
             let one = expr_mistake(problem, tables, statement, scope, false, first);
             let others = products_mistake(problem, tables, statement, scope, steps.as_slice());
             earlier(one, others)
         }
-        Expr::Min(_place, first, second) => {
+        Expr::Min(_, first, second) => {
             let one = expr_mistake(problem, tables, statement, scope, false, first);
             let other = expr_mistake(problem, tables, statement, scope, false, second);
             earlier(one, other)
         }
-        Expr::Max(_place, first, second) => {
+        Expr::Max(_, first, second) => {
             let one = expr_mistake(problem, tables, statement, scope, false, first);
             let other = expr_mistake(problem, tables, statement, scope, false, second);
             earlier(one, other)
@@ -162,8 +162,8 @@ fn product_mistake(
 {
     match step {
         ProdStep::Times(factor) => expr_mistake(problem, tables, statement, scope, false, factor),
-        ProdStep::Div(_place, _n) => None,
-        ProdStep::Mod(_place, _n) => None,
+        ProdStep::Div(..) => None,
+        ProdStep::Mod(..) => None,
     }
 }
 

@@ -54,31 +54,31 @@ pub fn formula_mistake(
         (formula_mistakes problem.now statement (scope_view scope.now) (formula_view f.now))) }
 {
     match f {
-        Formula::True(_place) => Ok(None),
-        Formula::False(_place) => Ok(None),
-        Formula::Not(_place, inner) => {
+        Formula::True(_) => Ok(None),
+        Formula::False(_) => Ok(None),
+        Formula::Not(_, inner) => {
             formula_mistake(alloc, problem, tables, statement, &*scope, inner)
         }
-        Formula::And(_place, parts) => {
+        Formula::And(_, parts) => {
             formulas_mistake(alloc, problem, tables, statement, &*scope, parts.as_slice())
         }
-        Formula::Or(_place, parts) => {
+        Formula::Or(_, parts) => {
             formulas_mistake(alloc, problem, tables, statement, &*scope, parts.as_slice())
         }
-        Formula::Implies(_place, first, second) => {
+        Formula::Implies(_, first, second) => {
             let one = formula_mistake(alloc, problem, tables, statement, &*scope, first)?;
             let other = formula_mistake(alloc, problem, tables, statement, &*scope, second)?;
             Ok(earlier(one, other))
         }
-        Formula::Iff(_place, first, second) => {
+        Formula::Iff(_, first, second) => {
             let one = formula_mistake(alloc, problem, tables, statement, &*scope, first)?;
             let other = formula_mistake(alloc, problem, tables, statement, &*scope, second)?;
             Ok(earlier(one, other))
         }
-        Formula::Compare(_place, left, _rel, right) => Ok(comparison_mistake(
+        Formula::Compare(_, left, _, right) => Ok(comparison_mistake(
             problem, tables, statement, &*scope, left, right,
         )),
-        Formula::Quant(_place, _kind, v, coll, body) => {
+        Formula::Quant(_, _, v, coll, body) => {
             quantified_mistake(alloc, problem, tables, statement, &*scope, v, coll, body)
         }
         Formula::Call(place, name, given) => Ok(whole_call_mistake(

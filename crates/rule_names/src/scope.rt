@@ -38,7 +38,7 @@ fn kind_of_object(problem: &Problem, tables: &Tables, name: &Name) -> Option<Par
     ensures { result ≡ kind_of_object problem.now name.now }
 {
     match position_of(&tables.objects, name.as_bytes()) {
-        Some(_position) => Some(ParamKind::Object),
+        Some(_) => Some(ParamKind::Object),
         None => None,
     }
 }
