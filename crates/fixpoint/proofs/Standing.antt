@@ -12,7 +12,7 @@ use Rattle.geo_conditions.specs.Reach.{State, reach, nowhere, just}
 use Rattle.geo_conditions.specs.Supported.{NoneRefuted}
 use Rattle.geo_conditions.proofs.Points.{reach_same, reach_other}
 use Rattle.indexical.specs.Names.{names}
-use Rattle.indexical.specs.Free.{LeavesFree}
+use Rattle.indexical.specs.Free.{LeavesFree, SparesAnywhere}
 use Rattle.sweep.specs.Picks.{picked}
 use Rattle.sweep.proofs.PickedConditions.{picked_all, pick_in}
 use Rattle.object_pruning.specs.declared.kept.Placed.{Placed}
@@ -50,6 +50,14 @@ still false p q e = absurd (cc)
 retried_some : {K : ℕ} (c : Cond) (S : State) (o : ℕ) (x : Option (Placed K)) (q : Placed K) → retried c S o x ≡ Some q → (x ≡ Some q) × (possible c (placed S o q) ≡ true)
 retried_some c S o None q e = absurd (cc)
 retried_some c S o (Some p) q e = let y = still (possible c (placed S o p)) p q e in (ap Some y.0, subst (λ (r : Placed _). possible c (placed S o r) ≡ true) y.0 y.1)
+
+-- where the condition is possible wherever the object is put, all that is kept stays
+pub retried_anywhere : {K : ℕ} (c : Cond) (S : State) (o : ℕ) → SparesAnywhere c S o → (xs : List (Option (Placed K))) → map (retried c S o) xs ≡ xs
+retried_anywhere c S o f [] = refl
+retried_anywhere {K} c S o f (None ∷ xs) = ap (λ (l : List (Option (Placed K))). None ∷ l) (retried_anywhere c S o f xs)
+retried_anywhere {K} c S o f (Some q ∷ xs) =
+    ap (λ (b : Bool). (if b then Some q else None) ∷ map (retried c S o) xs) (f q.place q.point.coordinates)
+    ∙ ap (λ (l : List (Option (Placed K))). Some q ∷ l) (retried_anywhere c S o f xs)
 
 set_slot : {K : ℕ} (c : Cond) (S : State) (xs : Slots K) (o : ℕ) (v : Vec (Option (Placed K)) Global) → o < length xs → v.items ≡ map (retried c S o) (row xs o)
     → (p i : ℕ) (q : Placed K) → kept_at (set xs o v) p i ≡ Some q → (kept_at xs p i ≡ Some q) × (p ≡ o → possible c (placed S p q) ≡ true)

@@ -2,6 +2,7 @@
 
 ghost use Rattle.std.specs.Prelude.{◌≡◌, ℕ, ◌<◌, ◌≤◌, None, List, length, map, slice_index_or, IfOk};
 ghost use Rattle.geo_conditions.specs.Conditions.{AllFit, FitsIn};
+ghost use Rattle.object_pruning.specs.Kept.{retried};
 ghost use Rattle.fixpoint.specs.Links.{AreLinks, NamedBy};
 ghost use Rattle.fixpoint.specs.Kept.{IsBlank, Retries, RetriesNear};
 
@@ -39,6 +40,25 @@ pub fn all_blank<const K: usize>(
     Ok(kept)
 }
 
+// Asks the condition again at what is kept of the object, and forgets where it is refuted. Where it is possible wherever the
+// object is, there is nothing to ask.
+fn retry_object<const K: usize>(
+    x: &AnyIndexical<K>,
+    o: ObjId,
+    s: &State<K>,
+    kept: &mut [Option<Placed<K>>],
+)
+    requires k { K ≤ MAX_DIMS }
+    requires fits { FitsIn x.now.cond s.now }
+    requires object { o.0 < length s.now }
+    ensures { kept.new ≡ map (retried x.now.cond s.now o.0) kept.old }
+{
+    if x.surely_spares_anywhere(s, o) {
+        return;
+    }
+    retry(kept, s, o, x);
+}
+
 // Asks the condition again at what is kept of the objects that it names, but of u, and forgets where it is refuted. Where u
 // leaves them free, there is nothing to ask.
 fn retry_named<const K: usize>(
@@ -59,7 +79,7 @@ fn retry_named<const K: usize>(
     }
     for o in named {
         if o.0 != u.0 {
-            retry(&mut kept[o.0 as usize], s, *o, x);
+            retry_object(x, *o, s, &mut kept[o.0 as usize]);
         }
     }
 }

@@ -2,10 +2,10 @@
 use Rattle.std.specs.Prelude.{MatchOption}
 use Rattle.geo_base.specs.declared.kbox.KBox.{KBox}
 use Rattle.geo_conditions.specs.Regions.{region_of}
-use Rattle.std.proofs.Common.{Option, None, Some, inl, inr, ◌≡◌, ◌≢◌, ◌==◌, ℕ, ◌<◌, ◌^◌, true, false, List, length, sym, ap, ◌∙◌, subst, arith, ℤ}
+use Rattle.std.proofs.Common.{Option, None, Some, inl, inr, ◌≡◌, ◌≢◌, ◌==◌, ℕ, ◌<◌, ◌^◌, Bool, true, false, not, List, length, refl, sym, ap, ◌∙◌, subst, arith, ℤ}
 use Rattle.std.proofs.lemmas.Int.{ints, clamps}
 use Rattle.std.specs.Int.{int_min, int_max}
-use Rattle.std.proofs.lemmas.Bool.{cases_Bool}
+use Rattle.std.proofs.lemmas.Bool.{cases_Bool, false≢true}
 use Rattle.geo_base.specs.Boxes.{coordinate, Has}
 use Rattle.geo_conditions.specs.declared.cond.Cond.{Cond}
 use Rattle.geo_conditions.specs.Reach.{State, Reach, Region, reach, low, high, is_only, only, just, with_at}
@@ -150,6 +150,11 @@ module _ {K : ℕ} (a b : PlacedBox K) where
 
     pub possible_says : (T : State) → (MustOverlap a b T → ⊥) → possible cond T ≡ true
     possible_says T free = elim (cases_Bool (possible cond T)) [ inl e ↦ e | inr e ↦ absurd (free (says_refuted T e)) ]
+
+    -- whether they must is whether it is refuted
+    pub says_answer : (T : State) (r : Bool) → (r ≡ true → MustOverlap a b T) × (MustOverlap a b T → r ≡ true) → not r ≡ possible cond T
+    says_answer T true f = sym (refuted_says T (f.0 refl))
+    says_answer T false f = sym (possible_says T (λ m. false≢true (f.1 m)))
 
     pub overlap_forbidden : (S : State) (o s : ℕ) (c : List ℤ) (region r : Region) → IsOverlapBox a b S o s c region r → IsForbiddenBox K cond S o s c region r
     overlap_forbidden S o s c region r w = record {

@@ -6,12 +6,13 @@ ghost use Rattle.geo_conditions.specs.Regions.{region_of};
 ghost use Rattle.geo_conditions.specs.Conditions.{possible, FitsIn};
 ghost use Rattle.indexical.specs.Apart.{SaysApart};
 ghost use Rattle.indexical.specs.Forbidden.{IsForbiddenBox};
-ghost use Rattle.indexical.specs.Free.{LeavesFree, Spares};
+ghost use Rattle.indexical.specs.Free.{LeavesFree, Spares, SparesAnywhere};
 ghost use Rattle.indexical.specs.Names.{IsFirstBefore, names};
 
 use super::apart::ApartIndexical;
 use super::indexical::Indexical;
-use super::spared::{is_named, tree_spares};
+use super::point::tree_possible_at;
+use super::spared::{is_named, tree_spares, tree_spares_anywhere};
 use super::tree::forbid_tree;
 use super::two_boxes::two_boxes;
 use geo_base::{KBox, MAX_DIMS, Point, Steps, Way};
@@ -84,6 +85,19 @@ impl<const K: usize> AnyIndexical<K> {
         }
     }
 
+    /// Whether the condition surely spares the object at any place: it is possible wherever the object
+    /// is put. It is told of conditions that ask for some of their parts, and is false for each other one.
+    pub fn surely_spares_anywhere(&self, s: &State<K>, o: ObjId) -> bool
+        requires k { K ≤ MAX_DIMS }
+        requires fits { FitsIn self.now.cond s.now }
+        ensures { IsTrue result → SparesAnywhere self.now.cond s.now o.0 }
+    {
+        match &self.boxes {
+            Some(_) => false,
+            None => tree_spares_anywhere(&self.cond, s, o),
+        }
+    }
+
     /// Whether the condition is refuted on the state, which has all objects and dimensions that it
     /// names.
     pub fn refuted(&self, s: &State<K>) -> bool
@@ -133,6 +147,25 @@ fn forbid_any<const K: usize>(
     }
 }
 
+/// Whether a condition of any kind is possible with the object at that place and point.
+fn any_possible_at<const K: usize>(
+    x: &AnyIndexical<K>,
+    s: &State<K>,
+    o: ObjId,
+    place: u8,
+    c: &Point<K>,
+) -> bool
+    requires k { K ≤ MAX_DIMS }
+    requires fits { FitsIn x.now.cond s.now }
+    requires object { o.0 < length s.now }
+    ensures { result ≡ possible x.now.cond (with_at s.now o.0 place (just c.now.coordinates)) }
+{
+    match &x.boxes {
+        Some(boxes) => !boxes.must_overlap_at(s, o, place, c),
+        None => tree_possible_at(&x.cond, s, o, place, c),
+    }
+}
+
 /// Whether a condition of any kind surely spares the object at that place.
 fn any_spares<const K: usize>(x: &AnyIndexical<K>, s: &State<K>, o: ObjId, place: u8) -> bool
     requires k { K ≤ MAX_DIMS }
@@ -161,6 +194,10 @@ impl<const K: usize> Indexical<K> for AnyIndexical<K> {
     ) -> Option<KBox<K>> {
         steps.tick();
         forbid_any(self, s, o, place, c, region, way)
+    }
+
+    fn is_possible_at(&self, s: &State<K>, o: ObjId, place: u8, c: &Point<K>) -> bool {
+        any_possible_at(self, s, o, place, c)
     }
 
     fn surely_spares(&self, s: &State<K>, o: ObjId, place: u8) -> bool {

@@ -2,7 +2,9 @@ ghost use Rattle.std.specs.Prelude.{ℕ, ◌<◌, ◌≤◌, ◌^◌, length};
 ghost use Rattle.geo_base.specs.declared.TheConstants.{MAX_DIMS};
 ghost use Rattle.indexical.specs.Apart.{apart_parts};
 
-use super::overlap::{covers_some, must_overlap, overlap_beside, spares_beside};
+use super::overlap::{
+    covers_some, must_overlap, must_overlap_beside, overlap_beside, spares_beside,
+};
 use super::placed::PlacedBox;
 use geo_base::{KBox, MAX_DIMS, Point};
 use geo_conditions::{ObjId, State};
@@ -121,6 +123,22 @@ impl<const K: usize> ApartIndexical<K> {
             spares_beside(&self.second, &self.first, s, place)
         } else {
             false
+        }
+    }
+
+    /// Whether the boxes must overlap with the object o at that place and point.
+    pub fn must_overlap_at(&self, s: &State<K>, o: ObjId, place: u8, c: &Point<K>) -> bool
+        requires first { self.now.first.object.0 < length s.now }
+        requires second { self.now.second.object.0 < length s.now }
+        ensures { IsTrue result ↔ MustOverlap self.now.first self.now.second
+            (with_at s.now o.0 place (just c.now.coordinates)) }
+    {
+        if self.first.object().0 == o.0 {
+            must_overlap_beside(&self.first, &self.second, s, place, c)
+        } else if self.second.object().0 == o.0 {
+            must_overlap_beside(&self.second, &self.first, s, place, c)
+        } else {
+            must_overlap(&self.first, &self.second, s)
         }
     }
 

@@ -34,6 +34,21 @@ fn forbid_apart<const K: usize>(
     x.overlap(s, o, place, c, region)
 }
 
+/// Whether the condition of two boxes is possible with the object at that place and point.
+fn apart_possible_at<const K: usize>(
+    x: &ApartIndexical<K>,
+    s: &State<K>,
+    o: ObjId,
+    place: u8,
+    c: &Point<K>,
+) -> bool
+    requires fits { FitsIn (apart x.now.first x.now.second x.now.short) s.now }
+    ensures { result ≡ possible (apart x.now.first x.now.second x.now.short)
+        (with_at s.now o.0 place (just c.now.coordinates)) }
+{
+    !x.must_overlap_at(s, o, place, c)
+}
+
 /// Whether the condition of two boxes surely spares the object at that place.
 fn apart_spares<const K: usize>(x: &ApartIndexical<K>, s: &State<K>, o: ObjId, place: u8) -> bool
     requires fits { FitsIn (apart x.now.first x.now.second x.now.short) s.now }
@@ -59,6 +74,10 @@ impl<const K: usize> Indexical<K> for ApartIndexical<K> {
     ) -> Option<KBox<K>> {
         steps.tick();
         forbid_apart(self, s, o, place, c, region, way)
+    }
+
+    fn is_possible_at(&self, s: &State<K>, o: ObjId, place: u8, c: &Point<K>) -> bool {
+        apart_possible_at(self, s, o, place, c)
     }
 
     fn surely_spares(&self, s: &State<K>, o: ObjId, place: u8) -> bool {

@@ -47,6 +47,11 @@ impl<const K: usize, I: Indexical<K>> Indexical<K> for Counted<I> {
         self.inner.forbid(s, o, place, c, region, way, steps)
     }
 
+    fn is_possible_at(&self, s: &State<K>, o: ObjId, place: u8, c: &Point<K>) -> bool {
+        self.questions.set(self.questions.get().wrapping_add(1));
+        self.inner.is_possible_at(s, o, place, c)
+    }
+
     fn surely_spares(&self, s: &State<K>, o: ObjId, place: u8) -> bool {
         self.inner.surely_spares(s, o, place)
     }

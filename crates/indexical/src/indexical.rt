@@ -53,6 +53,14 @@ pub trait Indexical<const K: usize> {
             (possible (cond self.now) (with_at s.now o.0 place (just c.now.coordinates)) ≡ true) }
         ensures asked { steps.new ≡ steps.old + 1 };
 
+    /// Whether the condition is possible with the object at that place and point. It takes no memory.
+    fn is_possible_at(&self, s: &State<K>, o: ObjId, place: u8, c: &Point<K>) -> bool
+        requires k { K ≤ MAX_DIMS }
+        requires fits { FitsIn (cond self.now) s.now }
+        requires object { o.0 < length s.now }
+        ensures { result
+            ≡ possible (cond self.now) (with_at s.now o.0 place (just c.now.coordinates)) };
+
     /// Whether the condition surely spares the object at that place: as the state has the others, it is
     /// possible wherever the object is put there. It may be false where that is so. It takes no memory.
     fn surely_spares(&self, s: &State<K>, o: ObjId, place: u8) -> bool

@@ -9,6 +9,7 @@ mod form;
 mod indexical;
 mod overlap;
 mod placed;
+mod point;
 mod spared;
 mod tree;
 mod two_boxes;

@@ -228,6 +228,28 @@ pub fn must_overlap<const K: usize>(a: &PlacedBox<K>, b: &PlacedBox<K>, s: &Stat
     clashes(a, b, &held, &own.lo, &own.hi)
 }
 
+/// Whether the boxes must overlap with a's object at that place and point.
+pub fn must_overlap_beside<const K: usize>(
+    a: &PlacedBox<K>,
+    b: &PlacedBox<K>,
+    s: &State<K>,
+    place: u8,
+    c: &Point<K>,
+) -> bool
+    requires k { K ≤ MAX_DIMS }
+    requires first { a.now.object.0 < length s.now }
+    requires second { b.now.object.0 < length s.now }
+    requires objects { b.now.object.0 ≢ a.now.object.0 }
+    ensures { IsTrue result ↔ MustOverlap a.now b.now
+        (with_at s.now a.now.object.0 place (just c.now.coordinates)) }
+{
+    if !stands(a, place) || !has_shape(b, s) {
+        return false;
+    }
+    let held = s.region(b.object());
+    clashes(a, b, &held, c, c)
+}
+
 /// The part of the region in which a and b must overlap with a's object at that place, where they
 /// must at c.
 pub fn overlap_beside<const K: usize>(

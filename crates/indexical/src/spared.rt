@@ -4,7 +4,7 @@ ghost use Rattle.std.specs.Prelude.{◌≡◌, ◌==◌, ◌<◌, ◌≤◌, len
 ghost use Rattle.std.specs.List.{list_any};
 ghost use Rattle.geo_conditions.specs.Conditions.{FitsIn};
 ghost use Rattle.indexical.specs.Forbidden.{IsOnShape};
-ghost use Rattle.indexical.specs.Free.{Spares};
+ghost use Rattle.indexical.specs.Free.{Spares, SparesAnywhere};
 ghost use Rattle.indexical.specs.Names.{names};
 
 use geo_base::MAX_DIMS;
@@ -52,10 +52,10 @@ fn shape_spares<const K: usize>(c: &Cond, s: &State<K>, o: ObjId, place: u8) -> 
 }
 
 /// Whether a condition is possible and does not name the object.
-fn spares_unnamed<const K: usize>(c: &Cond, s: &State<K>, o: ObjId, place: u8) -> bool
+fn spares_unnamed<const K: usize>(c: &Cond, s: &State<K>, o: ObjId) -> bool
     requires k { K ≤ MAX_DIMS }
     requires fits { FitsIn c.now s.now }
-    ensures { IsTrue result → Spares c.now s.now o.0 place }
+    ensures { IsTrue result → SparesAnywhere c.now s.now o.0 }
 {
     !is_named(c, o) && !refuted(c, s)
 }
@@ -69,7 +69,7 @@ pub fn tree_spares<const K: usize>(c: &Cond, s: &State<K>, o: ObjId, place: u8) 
     ensures { IsTrue result → Spares c.now s.now o.0 place }
 {
     match c {
-        Cond::Lin(_) => spares_unnamed(c, s, o, place),
+        Cond::Lin(_) => spares_unnamed(c, s, o),
         Cond::Shape(_, _) => shape_spares(c, s, o, place),
         Cond::NotShape(_, _) => shape_spares(c, s, o, place),
         Cond::AtLeast(n, children) => {
@@ -85,5 +85,30 @@ pub fn tree_spares<const K: usize>(c: &Cond, s: &State<K>, o: ObjId, place: u8) 
             }
             false
         }
+    }
+}
+
+/// Whether enough parts of the condition do not name the object and are possible. It asks parts of the condition itself alone, and
+/// is false where it has none.
+pub fn tree_spares_anywhere<const K: usize>(c: &Cond, s: &State<K>, o: ObjId) -> bool
+    requires k { K ≤ MAX_DIMS }
+    requires fits { FitsIn c.now s.now }
+    ensures { IsTrue result → SparesAnywhere c.now s.now o.0 }
+{
+    match c {
+        Cond::AtLeast(n, children) => {
+            let least = i128::from(*n);
+            let mut sparing: usize = 0;
+            for child in children.as_slice() {
+                if spares_unnamed(child, s, o) {
+                    sparing += 1;
+                    if least <= sparing as i128 {
+                        return true;
+                    }
+                }
+            }
+            false
+        }
+        _ => false,
     }
 }

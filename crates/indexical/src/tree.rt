@@ -7,6 +7,7 @@ ghost use Rattle.indexical.specs.Forbidden.{IsForbiddenBox, IsOnShape};
 
 use super::form::forbid_form;
 use super::indexical::Indexical;
+use super::point::tree_possible_at;
 use super::spared::tree_spares;
 use geo_base::{KBox, Point, Steps, Way};
 use geo_conditions::{Cond, ObjId, State, refuted_at};
@@ -124,6 +125,10 @@ impl<const K: usize> Indexical<K> for TreeIndexical {
     ) -> Option<KBox<K>> {
         steps.tick();
         forbid_tree(&self.cond, s, o, place, c, region, way)
+    }
+
+    fn is_possible_at(&self, s: &State<K>, o: ObjId, place: u8, c: &Point<K>) -> bool {
+        tree_possible_at(&self.cond, s, o, place, c)
     }
 
     fn surely_spares(&self, s: &State<K>, o: ObjId, place: u8) -> bool {

@@ -10,15 +10,13 @@ ghost use Rattle.object_pruning.specs.Kept.{AllSupport, placed};
 ghost use Rattle.object_pruning.specs.Pruning.{CanBe};
 
 use super::kept::{
-    Placed, end_of, end_slot, end_stands, is_possible_at, is_there, keep, kept_in, place_slot,
-    place_stands,
+    Placed, end_of, end_slot, end_stands, is_there, keep, kept_in, place_slot, place_stands,
 };
 use geo_base::MAX_DIMS;
 use geo_conditions::{ObjId, State};
 use indexical::Indexical;
 
-// Whether the condition that the k-th pick names is possible with the object there. Most are at that place for certain, which is
-// soon known.
+// Whether the condition that the k-th pick names is possible with the object there.
 fn is_pick_possible<const K: usize, I: Indexical<K>>(
     s: &State<K>,
     o: ObjId,
@@ -35,8 +33,7 @@ fn is_pick_possible<const K: usize, I: Indexical<K>>(
     ensures { (x : Cond) → PicksAt (map I.cond list.now) picks.now k x
         → result ≡ possible x (placed s.now o.0 q.now) }
 {
-    let x = &list[picks[k] as usize - 1];
-    x.surely_spares(s, o, q.place) || is_possible_at(s, o, q, x)
+    list[picks[k] as usize - 1].is_possible_at(s, o, q.place, &q.point)
 }
 
 // Whether no picked condition is refuted with the object there.

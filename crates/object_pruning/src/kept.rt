@@ -6,15 +6,12 @@ ghost use Rattle.geo_conditions.specs.declared.cond.Cond.{Cond};
 ghost use Rattle.geo_conditions.specs.Conditions.{possible, FitsIn};
 ghost use Rattle.geo_conditions.specs.Reach.{InBox, has, reach};
 ghost use Rattle.object_pruning.specs.Ends.{IsTightEnd, end};
-ghost use Rattle.object_pruning.specs.Kept.{AllSupport, placed, retried};
+ghost use Rattle.object_pruning.specs.Kept.{AllSupport, IsAnswered, placed, retried};
 ghost use Rattle.object_pruning.specs.Pruning.{CanBe};
 
-use super::counted::{Counted, answer};
-use derivation::NoRecord;
-use geo_base::{KBox, MAX_DIMS, Point, Steps, Way};
+use geo_base::{MAX_DIMS, Point};
 use geo_conditions::{ObjId, State};
 use indexical::Indexical;
-use std::sync::ledger::Ledger;
 
 /// A point of an object at a place.
 #[derive(Clone, Copy)]
@@ -68,69 +65,62 @@ pub fn keep_found<const K: usize>(
     keep(hints, slot, q);
 }
 
-// The question whether a condition is refuted with the object there.
-#[derive(Drop)]
-struct PlacedQuestion<'a, const K: usize, I: Indexical<K> + 'a> {
-    s: &'a State<K>,
-    o: ObjId,
-    q: &'a Placed<K>,
-    x: &'a I,
+// A point that was asked about, and whether the condition is possible with the object there.
+#[derive(Clone, Copy)]
+struct Asked<const K: usize> {
+    q: Placed<K>,
+    possible: bool,
 }
 
-impl<'a, const K: usize, I: Indexical<K> + 'a> Counted<NoRecord, bool>
-    for PlacedQuestion<'a, K, I> {
-    ghost use Rattle.geo_base.specs.declared.TheConstants.{MAX_DIMS};
-
-    ghost ready = { λ a. (0 < K) × (K ≤ MAX_DIMS)
-        × FitsIn (I.cond a.x.now) a.s.now × (a.o.0 < length a.s.now) };
-
-    ghost right = { λ a old new result.
-        result ≡ possible (I.cond a.x.now) (placed a.s.now a.o.0 a.q.now) };
-
-    fn answer<L: Ledger>(&self, _to: &mut NoRecord, steps: &mut Steps<L>) -> bool {
-        let point = self.q.point;
-        let just = KBox::new(point, point);
-        let way = Way::new(0, true);
-        let _objects = self.s.objects();
-        match self
-            .x
-            .forbid(self.s, self.o, self.q.place, &point, &just, &way, steps)
-        {
-            Some(_) => false,
-            None => true,
-        }
-    }
+// Whether both are the same point at the same place.
+fn is_same<const K: usize>(a: &Placed<K>, b: &Placed<K>) -> bool
+    ensures { IsTrue result → a.now ≡ b.now }
+{
+    a.place == b.place && a.point.coordinates == b.point.coordinates
 }
 
-/// Whether the condition is possible with the object there.
-pub fn is_possible_at<const K: usize, I: Indexical<K>>(
+// Whether the condition is possible with the object there. The point that was asked about last is not asked again.
+fn is_possible_there<const K: usize, I: Indexical<K>>(
+    q: &Placed<K>,
+    last: &mut Option<Asked<K>>,
     s: &State<K>,
     o: ObjId,
-    q: &Placed<K>,
     x: &I,
 ) -> bool
-    requires k { (0 < K) × (K ≤ MAX_DIMS) }
+    requires k { K ≤ MAX_DIMS }
     requires fits { FitsIn (I.cond x.now) s.now }
     requires object { o.0 < length s.now }
-    ensures { result ≡ possible (I.cond x.now) (placed s.now o.0 q.now) }
+    requires last { IsAnswered (I.cond x.now) s.now o.0 last.old }
+    ensures answer { result ≡ possible (I.cond x.now) (placed s.now o.0 q.now) }
+    ensures last { IsAnswered (I.cond x.now) s.now o.0 last.new }
 {
-    answer(&PlacedQuestion { s, o, q, x }, &mut NoRecord::new())
+    if let Some(asked) = last {
+        if is_same(&asked.q, q) {
+            return asked.possible;
+        }
+    }
+    let possible = x.is_possible_at(s, o, q.place, &q.point);
+    *last = Some(Asked { q: *q, possible });
+    possible
 }
 
 // The kept support, if the condition is possible with the object there.
 fn retry_one<const K: usize, I: Indexical<K>>(
     slot: Option<Placed<K>>,
+    last: &mut Option<Asked<K>>,
     s: &State<K>,
     o: ObjId,
     x: &I,
 ) -> Option<Placed<K>>
-    requires k { (0 < K) × (K ≤ MAX_DIMS) }
+    requires k { K ≤ MAX_DIMS }
     requires fits { FitsIn (I.cond x.now) s.now }
     requires object { o.0 < length s.now }
-    ensures { result ≡ retried (I.cond x.now) s.now o.0 slot.entry }
+    requires last { IsAnswered (I.cond x.now) s.now o.0 last.old }
+    ensures kept { result ≡ retried (I.cond x.now) s.now o.0 slot.entry }
+    ensures last { IsAnswered (I.cond x.now) s.now o.0 last.new }
 {
     let q = slot?;
-    if is_possible_at(s, o, &q, x) {
+    if is_possible_there(&q, last, s, o, x) {
         Some(q)
     } else {
         None
@@ -144,13 +134,14 @@ pub fn retry<const K: usize, I: Indexical<K>>(
     o: ObjId,
     x: &I,
 )
-    requires k { (0 < K) × (K ≤ MAX_DIMS) }
+    requires k { K ≤ MAX_DIMS }
     requires fits { FitsIn (I.cond x.now) s.now }
     requires object { o.0 < length s.now }
     ensures { kept.new ≡ map (retried (I.cond x.now) s.now o.0) kept.old }
 {
+    let mut last = None;
     for slot in kept.iter_mut() {
-        *slot = retry_one(*slot, s, o, x);
+        *slot = retry_one(*slot, &mut last, s, o, x);
     }
 }
 

@@ -28,10 +28,10 @@ loop-o-preserved g c =
           let h : o.0 < length xs = omega (arith, there, c.requires.objects, c.loop-o.auto.kept) in
           let r = w.index-kept-o.result in
           let was : Vec (Option (Placed g.row.K)) Global = get_or xs o.0 r in
-          let now = w.retry.new.kept in
+          let now = w.retry_object.new.kept in
           let value : w.deref_mut.result.now ≡ row xs o.0 = w.deref_mut.ensures.value ∙ sym (row_get xs o.0 r h) in
-          let items : now ≡ map (retried x S o.0) (row xs o.0) = w.retry.ensures ∙ ap (λ (l : List (Option (Placed g.row.K))). map (retried x S o.0) l) value in
-          let long : length now ≡ length was.items = w.retry.auto.kept ∙ ap length w.deref_mut.ensures.value in
+          let items : now ≡ map (retried x S o.0) (row xs o.0) = w.retry_object.ensures ∙ ap (λ (l : List (Option (Placed g.row.K))). map (retried x S o.0) l) value in
+          let long : length now ≡ length was.items = w.retry_object.auto.kept ∙ ap length w.deref_mut.ensures.value in
           let back : (with_items was now).items ≡ now = with_items_is was now (omega (arith, long, was.ok)) in
           subst (λ (vs : Slots g.row.K). Retries x S u (take i list ++ o ∷ []) old vs) (sym w.kept-is) (retries_put x S u (take i list) o old xs (with_items was now) h (back ∙ items) c.loop-o.invariant)
       | else-o-u w ↦ subst (λ (vs : Slots g.row.K). Retries x S u (take i list ++ o ∷ []) old vs) (sym w.kept-is) (retries_skip x S u (take i list) o old xs w.if-o-u.false c.loop-o.invariant)

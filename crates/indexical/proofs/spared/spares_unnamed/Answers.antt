@@ -9,9 +9,9 @@ some true r h e = refl
 some false r h e = cc
 
 pub returns-then-not-is_named : goal.returns-then-not-is_named
-returns-then-not-is_named g c = λ h.
+returns-then-not-is_named g c = λ h s.
     let x = c.args.c.now in
     let S = c.args.s.now in
     let unnamed : names c.args.o.0 x ≡ false = sym c.is_named.ensures ∙ c.if-not-is_named.true in
     let here : possible x S ≡ true = some (possible x S) c.refuted.result h c.refuted.ensures in
-    spares_unnamed x S c.args.o.0 c.args.place unnamed here
+    spares_unnamed x S c.args.o.0 s unnamed here

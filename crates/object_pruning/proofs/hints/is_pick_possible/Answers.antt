@@ -13,13 +13,6 @@ pick g c =
     let cs = map g.I.Indexical.cond c.args.list.now in
     subst (λ (y : _). PicksAt cs c.args.picks.now c.args.k (g.I.Indexical.cond y)) (sym c.index-list-picks.is) (picks-map g.I.Indexical.cond c.args.list.now c.args.picks.now c.args.k c.index-list-picks.result c.requires.picks c.requires.pick)
 
-pub surely_spares-requires : goal.surely_spares-requires
-surely_spares-requires g c =
-    let cs = map g.I.Indexical.cond c.args.list.now in
-    let x = g.I.Indexical.cond c.index-list-picks.result in
-    let fits : FitsIn x c.args.s.now = fits_at cs c.args.s.now c.args.picks.now c.args.k x c.requires.fits (pick g (goal.at.surely_spares-requires g c).After-index-list-picks) in
-    search rules
-
 pub is_possible_at-requires : goal.is_possible_at-requires
 is_possible_at-requires g c =
     let cs = map g.I.Indexical.cond c.args.list.now in
@@ -27,15 +20,8 @@ is_possible_at-requires g c =
     let fits : FitsIn x c.args.s.now = fits_at cs c.args.s.now c.args.picks.now c.args.k x c.requires.fits (pick g (goal.at.is_possible_at-requires g c).After-index-list-picks) in
     search rules
 
-pub returns-then-surely_spares : goal.returns-then-surely_spares
-returns-then-surely_spares g c = λ x p.
+pub returns : goal.returns
+returns g c = λ x p.
     let cs = map g.I.Indexical.cond c.args.list.now in
     let y = g.I.Indexical.cond c.index-list-picks.result in
-    let there = c.surely_spares.ensures c.if-surely_spares.true c.args.q.now.point.coordinates in
-    c.if-surely_spares.true ∙ sym there ∙ ap (λ (z : Cond). possible z (placed c.args.s.now c.args.o.0 c.args.q.now)) (one_pick cs c.args.picks.now c.args.k y x (pick g (goal.at.returns-then-surely_spares g c).After-index-list-picks) p)
-
-pub returns-else-surely_spares : goal.returns-else-surely_spares
-returns-else-surely_spares g c = λ x p.
-    let cs = map g.I.Indexical.cond c.args.list.now in
-    let y = g.I.Indexical.cond c.index-list-picks.result in
-    c.is_possible_at.ensures ∙ ap (λ (z : Cond). possible z (placed c.args.s.now c.args.o.0 c.args.q.now)) (one_pick cs c.args.picks.now c.args.k y x (pick g (goal.at.returns-else-surely_spares g c).After-index-list-picks) p)
+    c.is_possible_at.ensures ∙ ap (λ (z : Cond). possible z (placed c.args.s.now c.args.o.0 c.args.q.now)) (one_pick cs c.args.picks.now c.args.k y x (pick g (goal.at.returns g c).After-index-list-picks) p)

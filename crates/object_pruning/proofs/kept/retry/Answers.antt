@@ -10,4 +10,7 @@ loop-slot-preserved g c =
     let i = c.loop-slot.slot-index in
     let inside : i < length xs = omega arith in
     let f = λ (y : Option (Placed g.row.K)). retried (g.I.Indexical.cond c.args.x.now) c.args.s.now c.args.o.0 y in
-    ap (set c.loop-slot.kept i) (c.retry_one.ensures ∙ ap f (sym c.slot-item.is)) ∙ map_over_more f xs c.loop-slot.kept i c.slot-item.result inside c.loop-slot.invariant c.slot-item.is
+    record {
+      kept = ap (set c.loop-slot.kept i) (c.retry_one.ensures.kept ∙ ap f (sym c.slot-item.is)) ∙ map_over_more f xs c.loop-slot.kept i c.slot-item.result inside c.loop-slot.invariant.kept c.slot-item.is;
+      last = c.retry_one.ensures.last;
+    }
