@@ -21,7 +21,7 @@ use Rattle.linear_conditions.specs.Forms.{sum_of_expr}
 use Rattle.linear_conditions.specs.Leaves.{negated, difference, plus_one, Leaves, leaves_of, leaf_fits, IsLeaf, AreLeaves}
 use Rattle.linear_conditions.specs.Folding.{fold_linear, joined}
 use Rattle.linear_conditions.specs.Counts.{Counts, Outcome, Fault, Done, and_then, allowed, within_limits, one_visit, count_sums}
-use Rattle.linear_conditions.specs.Compare.{ground_leaves}
+use Rattle.linear_conditions.specs.Compare.{allowed_leaves, ground_leaves}
 use Rattle.linear_conditions.specs.Faults.{IsFault, IsMisfit, Gives}
 use Rattle.linear_conditions.specs.Views.{wide_view}
 use Rattle.linear_conditions.proofs.Ordered.{add_terms-ordered, scale-ordered, both-true, form-of}
@@ -67,35 +67,30 @@ leaves-of rel f l e o h = subst (λ (x : Leaves). AreLeaves x.forms) (sym e) (ar
 
 -- ---- outcomes
 
-abbrev pub related : Rel → Sum → Counts → Outcome CondTree
-related rel f k = allowed CondTree (list_all leaf_fits (leaves_of rel f).forms) words.Overflow (ground_leaves (leaves_of rel f) k)
-
-pub past-bounds : (rel : Rel) (f : Sum) (l : Leaves) (k : Counts) → l ≡ leaves_of rel f → list_all leaf_fits l.forms ≡ false → related rel f k ≡ Fault words.Overflow
+pub past-bounds : (l : Leaves) (k : Counts) → list_all leaf_fits l.forms ≡ false → allowed_leaves l k ≡ Fault words.Overflow
 unfolding allowed
-past-bounds rel f l k e h =
-    ap (λ b. cond b (ground_leaves (leaves_of rel f) k) (Fault words.Overflow)) (ap (λ (x : Leaves). list_all leaf_fits x.forms) (sym e) ∙ h)
+past-bounds l k h = ap (λ b. cond b (ground_leaves l k) (Fault words.Overflow)) h
 
-grounded : (rel : Rel) (f : Sum) (l : Leaves) (k : Counts) → l ≡ leaves_of rel f → list_all leaf_fits l.forms ≡ true → related rel f k ≡ ground_leaves l k
+grounded : (l : Leaves) (k : Counts) → list_all leaf_fits l.forms ≡ true → allowed_leaves l k ≡ ground_leaves l k
 unfolding allowed
-grounded rel f l k e h =
-    ap (λ b. cond b (ground_leaves (leaves_of rel f) k) (Fault words.Overflow)) (ap (λ (x : Leaves). list_all leaf_fits x.forms) (sym e) ∙ h) ∙ ap (λ (x : Leaves). ground_leaves x k) (sym e)
+grounded l k h = ap (λ b. cond b (ground_leaves l k) (Fault words.Overflow)) h
 
-pub counted-done : (rel : Rel) (f : Sum) (l : Leaves) (k j : Counts) (c : CondTree) → l ≡ leaves_of rel f → list_all leaf_fits l.forms ≡ true →
-    within_limits (count_sums l.forms (one_visit k)) ≡ Done j j → c ≡ joined l.all (map fold_linear l.forms) → related rel f k ≡ Done c j
+pub counted-done : (l : Leaves) (k j : Counts) (c : CondTree) → list_all leaf_fits l.forms ≡ true →
+    within_limits (count_sums l.forms (one_visit k)) ≡ Done j j → c ≡ joined l.all (map fold_linear l.forms) → allowed_leaves l k ≡ Done c j
 unfolding and_then
-counted-done rel f l k j c e h w v =
-    grounded rel f l k e h ∙ ap (λ o. and_then Counts CondTree o (λ k' same. Done (joined l.all (map fold_linear l.forms)) k')) w ∙ ap (λ x. Done x j) (sym v)
+counted-done l k j c h w v =
+    grounded l k h ∙ ap (λ o. and_then Counts CondTree o (λ k' same. Done (joined l.all (map fold_linear l.forms)) k')) w ∙ ap (λ x. Done x j) (sym v)
 
-counted-past : (rel : Rel) (f : Sum) (l : Leaves) (k : Counts) → l ≡ leaves_of rel f → list_all leaf_fits l.forms ≡ true → (w : _) →
-    within_limits (count_sums l.forms (one_visit k)) ≡ Fault w → related rel f k ≡ Fault w
+counted-past : (l : Leaves) (k : Counts) → list_all leaf_fits l.forms ≡ true → (w : _) →
+    within_limits (count_sums l.forms (one_visit k)) ≡ Fault w → allowed_leaves l k ≡ Fault w
 unfolding and_then
-counted-past rel f l k e h w q = grounded rel f l k e h ∙ ap (λ o. and_then Counts CondTree o (λ k' same. Done (joined l.all (map fold_linear l.forms)) k')) q
+counted-past l k h w q = grounded l k h ∙ ap (λ o. and_then Counts CondTree o (λ k' same. Done (joined l.all (map fold_linear l.forms)) k')) q
 
-pub counted-fault : (rel : Rel) (f : Sum) (l : Leaves) (k : Counts) (e : GroundFault) → l ≡ leaves_of rel f → list_all leaf_fits l.forms ≡ true →
-    IsFault Counts (within_limits (count_sums l.forms (one_visit k))) e → IsFault CondTree (related rel f k) e
-counted-fault rel f l k Overflow q h i = counted-past rel f l k q h words.Overflow i
-counted-fault rel f l k TooMany q h i = counted-past rel f l k q h words.Ground i
-counted-fault rel f l k Memory q h i = tt
+pub counted-fault : (l : Leaves) (k : Counts) (e : GroundFault) → list_all leaf_fits l.forms ≡ true →
+    IsFault Counts (within_limits (count_sums l.forms (one_visit k))) e → IsFault CondTree (allowed_leaves l k) e
+counted-fault l k Overflow h i = counted-past l k h words.Overflow i
+counted-fault l k TooMany h i = counted-past l k h words.Ground i
+counted-fault l k Memory h i = tt
 
 unfit : (a b c d : Bool) → (a && (b && c)) ≡ false → (a && (b && (c && d))) ≡ false
 unfit true true true d h = cc

@@ -13,6 +13,7 @@ pub mod CondViews
 pub mod Bounds
 pub mod FoldSteps
 pub mod CounterSteps
+pub mod ObjectFields
 pub mod FormSteps
 pub mod CompareSteps
 pub mod Sizes

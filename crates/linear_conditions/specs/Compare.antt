@@ -18,6 +18,10 @@ use Rattle.linear_conditions.specs.Counts.{Counts, Outcome, Done, and_then, allo
 abbrev pub ground_leaves : Leaves → Counts → Outcome CondTree
 ground_leaves l k = and_then Counts CondTree (within_limits (count_sums l.forms (one_visit k))) (λ k' same. Done (joined l.all (map fold_linear l.forms)) k')
 
+-- the same, if they are within the bounds
+abbrev pub allowed_leaves : Leaves → Counts → Outcome CondTree
+allowed_leaves l k = allowed CondTree (list_all leaf_fits l.forms) Overflow (ground_leaves l k)
+
 -- first `overflow`, where a form is out of bounds, and then the counts
 abbrev pub ground_compare : ProblemData → PlainExprTree → Rel → PlainExprTree → PlainEnv → List Fixing → Counts → Outcome CondTree
 ground_compare p a rel b env fix k =

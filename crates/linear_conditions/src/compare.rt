@@ -2,16 +2,15 @@
 
 ghost use Rattle.std.specs.Prelude.{◌≡◌, ◌&&◌, IfOk, MatchResult, true};
 ghost use Rattle.std.specs.List.{list_all};
-ghost use Rattle.geo_tokens.specs.declared.fault.FaultWord.TheVariants as words;
-ghost use Rattle.linear_conditions.specs.Compare.{ground_compare, ground_leaves};
+ghost use Rattle.linear_conditions.specs.Compare.{allowed_leaves, ground_compare};
 ghost use Rattle.linear_conditions.specs.CondTree.{CondTree, cond_view};
-ghost use Rattle.linear_conditions.specs.Counts.{Done, allowed};
+ghost use Rattle.linear_conditions.specs.Counts.{Done};
 ghost use Rattle.linear_conditions.specs.Faults.{Gives, IsFault};
 ghost use Rattle.linear_conditions.specs.Forms.{fits_expr, sum_of_expr};
-ghost use Rattle.linear_conditions.specs.Leaves.{difference, leaf_fits, leaves_of};
+ghost use Rattle.linear_conditions.specs.Leaves.{AreLeaves, difference, leaf_fits, leaves_of};
 ghost use Rattle.linear_conditions.specs.Ordered.{IsOrdered};
 ghost use Rattle.linear_conditions.specs.Sums.{fits_sum};
-ghost use Rattle.linear_conditions.specs.Views.{fixings_view, wide_view};
+ghost use Rattle.linear_conditions.specs.Views.{fixings_view, leaves_view, wide_view};
 ghost use Rattle.rule_expand.specs.PlainView.{plain_expr_view};
 ghost use Rattle.rule_values.specs.View.{env_view};
 
@@ -19,7 +18,7 @@ use crate::counter::Counter;
 use crate::fault::GroundFault;
 use crate::fixings::Fixings;
 use crate::forms::{added, checked, negated, sum_of};
-use crate::leaves::{fold_leaves, leaves_of};
+use crate::leaves::{Leaves, fold_leaves, leaves_of};
 use crate::wide::WideSum;
 use geo_conditions::Cond;
 use problem_data::problem::Problem;
@@ -65,7 +64,23 @@ fn difference(
     subtracted(alloc, left, &right)
 }
 
-/// The condition that a difference stands in a relation to 0: first its leaves are made, then they are counted, and then folded.
+/// The condition of leaves: first they are counted, and then folded.
+fn counted(alloc: Global, leaves: &Leaves, counter: &mut Counter) -> Result<Cond, GroundFault>
+    requires { list_all leaf_fits (leaves_view leaves.now).forms ≡ true
+        → AreLeaves (leaves_view leaves.now).forms }
+    ensures { let o = allowed_leaves (leaves_view leaves.now) counter.old in
+        MatchResult result (λ c. o ≡ Done (cond_view c) counter.new) (λ e. IsFault CondTree o e) }
+{
+    if !leaves.fit() {
+        return Err(GroundFault::Overflow);
+    }
+    match counter.visit_leaves(leaves) {
+        Ok(()) => Ok(fold_leaves(alloc, leaves)?),
+        Err(e) => Err(e),
+    }
+}
+
+/// The condition that a difference stands in a relation to 0.
 fn related_to_zero(
     alloc: Global,
     rel: Rel,
@@ -74,19 +89,11 @@ fn related_to_zero(
 ) -> Result<Cond, GroundFault>
     requires fits { fits_sum (wide_view f) ≡ true }
     requires ordered { IsOrdered (wide_view f).terms }
-    ensures { let l = leaves_of rel (wide_view f) in
-        let o = allowed CondTree (list_all leaf_fits l.forms) words.Overflow
-        (ground_leaves l counter.old) in
+    ensures { let o = allowed_leaves (leaves_of rel (wide_view f)) counter.old in
         MatchResult result (λ c. o ≡ Done (cond_view c) counter.new) (λ e. IsFault CondTree o e) }
 {
     let leaves = leaves_of(alloc, rel, f)?;
-    if !leaves.fit() {
-        return Err(GroundFault::Overflow);
-    }
-    match counter.visit_leaves(&leaves) {
-        Ok(()) => Ok(fold_leaves(alloc, &leaves)?),
-        Err(e) => Err(e),
-    }
+    counted(alloc, &leaves, counter)
 }
 
 /// The condition of a comparison. A form out of bounds goes before a count past its limit.

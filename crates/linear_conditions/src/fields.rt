@@ -1,7 +1,8 @@
 //! The forms of fields.
 
 ghost use Rattle.std.specs.Prelude.{◌≡◌, IfOk};
-ghost use Rattle.linear_conditions.specs.Forms.{coordinate_sum, field_sum, object_sum};
+ghost use Rattle.linear_conditions.specs.Fixings.{place_of};
+ghost use Rattle.linear_conditions.specs.Forms.{constant_sum, coordinate_sum, field_sum, number_at, object_sum};
 ghost use Rattle.linear_conditions.specs.Views.{fixings_view, wide_view};
 ghost use Rattle.rule_values.specs.View.{thing_view};
 
@@ -32,6 +33,15 @@ fn coordinate_sum(
     }
 }
 
+/// The number of an object's shape.
+fn shape_sum(alloc: Global, problem: &Problem, fixings: &Fixings, o: usize) -> WideSum
+    ensures { wide_view result
+        ≡ constant_sum (number_at problem.now o (place_of (fixings_view fixings.now) o)) }
+{
+    let number = shape_number(problem, o, place_of(fixings, o));
+    WideSum::constant_of(alloc, i128::from(number))
+}
+
 /// A field of an object.
 fn object_sum(
     alloc: Global,
@@ -45,10 +55,7 @@ fn object_sum(
 {
     match object_field(problem, o, name) {
         ObjectField::Coordinate(d) => coordinate_sum(alloc, problem, o, d),
-        ObjectField::Shape => {
-            let number = shape_number(problem, o, place_of(&*fixings, o));
-            Ok(WideSum::constant_of(alloc, i128::from(number)))
-        }
+        ObjectField::Shape => Ok(shape_sum(alloc, problem, fixings, o)),
         ObjectField::Constant(number) => Ok(WideSum::constant_of(alloc, number)),
     }
 }

@@ -4,10 +4,11 @@ ghost use Rattle.std.specs.Prelude.{◌≡◌, ◌&&◌, IfOk, MatchResult, negs
 ghost use Rattle.std.specs.Int.{int_max, int_min};
 ghost use Rattle.linear_conditions.specs.declared.fault.GroundFault.TheVariants.{Memory};
 ghost use Rattle.linear_conditions.specs.Faults.{Gives};
-ghost use Rattle.linear_conditions.specs.Forms.{fits_expr, product_fits, product_step, products_fit, products_taken, sum_fits, sum_of_expr, sum_step, sums_added, sums_fit};
+ghost use Rattle.linear_conditions.specs.Forms.{field_sum, fits_expr, product_fits, product_step, products_fit, products_taken, sum_fits, sum_of_expr, sum_step, sums_added, sums_fit};
 ghost use Rattle.linear_conditions.specs.Room.{CanAdd};
 ghost use Rattle.linear_conditions.specs.Sums.{add_sums, constant_sum, fits_sum, scale, times_sum};
 ghost use Rattle.linear_conditions.specs.Views.{fixings_view, wide_view};
+ghost use Rattle.rule_expand.specs.PlainTruth.{subject_in};
 ghost use Rattle.rule_expand.specs.PlainView.{plain_expr_view, plain_product_view, plain_products_view, plain_sum_view, plain_sums_view};
 ghost use Rattle.rule_values.specs.View.{env_view};
 
@@ -15,8 +16,9 @@ use crate::fault::GroundFault;
 use crate::fields::field_sum;
 use crate::fixings::Fixings;
 use crate::wide::WideSum;
+use geo_tokens::name::Name;
 use problem_data::problem::Problem;
-use rule_expand::plain::{PlainExpr, PlainProd, PlainSum};
+use rule_expand::plain::{PlainExpr, PlainProd, PlainSum, Subject};
 use rule_values::env::{Env, subject};
 use rule_values::floor::{floor_quotient, floor_remainder};
 use std::alloc::{AllocError, Global};
@@ -65,12 +67,35 @@ pub(crate) fn added(total: WideSum, part: WideSum) -> Result<WideSum, GroundFaul
     Ok(sum)
 }
 
+/// A number, if it is within the bounds.
+fn constant(alloc: Global, z: i128) -> Result<WideSum, GroundFault>
+    ensures { Gives result (constant_sum z) (fits_sum (constant_sum z)) }
+{
+    checked(WideSum::constant_of(alloc, z))
+}
+
+/// A field of what a variable stands for, or of an object, if it is within the bounds.
+fn field(
+    alloc: Global,
+    problem: &Problem,
+    of: Subject,
+    name: &Name,
+    env: &Env,
+    fixings: &Fixings,
+) -> Result<WideSum, GroundFault>
+    ensures { let f = field_sum problem.now (fixings_view fixings.now) name.now
+        (subject_in of (env_view env.now)) in
+        Gives result f (fits_sum f) }
+{
+    checked(field_sum(alloc, problem, fixings, name, subject(env, of))?)
+}
+
 /// The lesser of two numbers.
 fn lesser(alloc: Global, f: &WideSum, g: &WideSum) -> Result<WideSum, GroundFault>
     ensures { let h = constant_sum (int_min f.now.constant g.now.constant) in
         Gives result h (fits_sum h) }
 {
-    checked(WideSum::constant_of(alloc, f.constant().min(g.constant())))
+    constant(alloc, f.constant().min(g.constant()))
 }
 
 /// The greater of two numbers.
@@ -78,7 +103,7 @@ fn greater(alloc: Global, f: &WideSum, g: &WideSum) -> Result<WideSum, GroundFau
     ensures { let h = constant_sum (int_max f.now.constant g.now.constant) in
         Gives result h (fits_sum h) }
 {
-    checked(WideSum::constant_of(alloc, f.constant().max(g.constant())))
+    constant(alloc, f.constant().max(g.constant()))
 }
 
 /// The form of an expression.
@@ -97,16 +122,10 @@ pub fn sum_of(
         (fixings_view fixings.now)) }
 {
     match e {
-        PlainExpr::Num(n) => checked(WideSum::constant_of(alloc, i128::from(*n))),
-        PlainExpr::Field(of, name) => {
-            let f = field_sum(alloc, problem, &*fixings, name, subject(&*env, *of))?;
-            checked(f)
-        }
-        PlainExpr::ShapeNum(s) => checked(WideSum::constant_of(alloc, *s as i128 + 1)),
-        PlainExpr::Neg(e) => {
-            let f = sum_of(alloc, problem, e, &*env, &*fixings)?;
-            checked(f.scaled(alloc, -1)?)
-        }
+        PlainExpr::Num(n) => constant(alloc, i128::from(*n)),
+        PlainExpr::Field(of, name) => field(alloc, problem, *of, name, &*env, &*fixings),
+        PlainExpr::ShapeNum(s) => constant(alloc, *s as i128 + 1),
+        PlainExpr::Neg(e) => negative(alloc, problem, e, &*env, &*fixings),
         PlainExpr::Sum(e, steps) => {
             let first = sum_of(alloc, problem, e, &*env, &*fixings)?;
             sum(alloc, problem, first, steps, &*env, &*fixings)
@@ -117,15 +136,72 @@ pub fn sum_of(
         }
         PlainExpr::Min(a, b) => {
             let left = sum_of(alloc, problem, a, &*env, &*fixings)?;
-            let right = sum_of(alloc, problem, b, &*env, &*fixings)?;
-            lesser(alloc, &left, &right)
+            least(alloc, problem, left, b, &*env, &*fixings)
         }
         PlainExpr::Max(a, b) => {
             let left = sum_of(alloc, problem, a, &*env, &*fixings)?;
-            let right = sum_of(alloc, problem, b, &*env, &*fixings)?;
-            greater(alloc, &left, &right)
+            greatest(alloc, problem, left, b, &*env, &*fixings)
         }
     }
+}
+
+/// An expression with the other sign.
+#[cycle(form)]
+fn negative(
+    alloc: Global,
+    problem: &Problem,
+    e: &PlainExpr,
+    env: &Env,
+    fixings: &Fixings,
+) -> Result<WideSum, GroundFault>
+    ensures { let f = scale (negsuc 0)
+        (sum_of_expr problem.now (plain_expr_view e.now) (env_view env.now)
+        (fixings_view fixings.now)) in
+        Gives result f (fits_expr problem.now (plain_expr_view e.now) (env_view env.now)
+        (fixings_view fixings.now) && fits_sum f) }
+{
+    let f = sum_of(alloc, problem, e, &*env, &*fixings)?;
+    checked(f.scaled(alloc, -1)?)
+}
+
+/// The lesser of a number and an expression.
+#[cycle(form)]
+fn least(
+    alloc: Global,
+    problem: &Problem,
+    left: WideSum,
+    b: &PlainExpr,
+    env: &Env,
+    fixings: &Fixings,
+) -> Result<WideSum, GroundFault>
+    ensures { let f = constant_sum (int_min left.constant
+        (sum_of_expr problem.now (plain_expr_view b.now) (env_view env.now)
+        (fixings_view fixings.now)).constant) in
+        Gives result f (fits_expr problem.now (plain_expr_view b.now) (env_view env.now)
+        (fixings_view fixings.now) && fits_sum f) }
+{
+    let right = sum_of(alloc, problem, b, &*env, &*fixings)?;
+    lesser(alloc, &left, &right)
+}
+
+/// The greater of a number and an expression.
+#[cycle(form)]
+fn greatest(
+    alloc: Global,
+    problem: &Problem,
+    left: WideSum,
+    b: &PlainExpr,
+    env: &Env,
+    fixings: &Fixings,
+) -> Result<WideSum, GroundFault>
+    ensures { let f = constant_sum (int_max left.constant
+        (sum_of_expr problem.now (plain_expr_view b.now) (env_view env.now)
+        (fixings_view fixings.now)).constant) in
+        Gives result f (fits_expr problem.now (plain_expr_view b.now) (env_view env.now)
+        (fixings_view fixings.now) && fits_sum f) }
+{
+    let right = sum_of(alloc, problem, b, &*env, &*fixings)?;
+    greater(alloc, &left, &right)
 }
 
 /// One step of a sum.
@@ -198,11 +274,8 @@ fn product_step(
             let g = sum_of(alloc, problem, e, &*env, &*fixings)?;
             checked(multiplied(alloc, f, &g)?)
         }
-        PlainProd::Div(n) => checked(WideSum::constant_of(alloc, floor_quotient(f.constant(), *n))),
-        PlainProd::Mod(n) => checked(WideSum::constant_of(
-            alloc,
-            floor_remainder(f.constant(), *n),
-        )),
+        PlainProd::Div(n) => constant(alloc, floor_quotient(f.constant(), *n)),
+        PlainProd::Mod(n) => constant(alloc, floor_remainder(f.constant(), *n)),
     }
 }
 

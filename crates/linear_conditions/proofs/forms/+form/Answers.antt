@@ -4,8 +4,8 @@ use Rattle.linear_conditions.specs.Views.{fixings_view, wide_view}
 use Rattle.linear_conditions.proofs.FormSteps.{can-negate, sums-init, sums-room, sums-step}
 use Rattle.linear_conditions.proofs.forms.+form.Goals as goal
 
-pub sum_of-scaled-requires : goal.sum_of-scaled-requires
-sum_of-scaled-requires t c = can-negate (wide_view c.in_ok-f-in-Neg.f) c.in_ok-f-in-Neg.ensures.2
+pub negative-scaled-requires : goal.negative-scaled-requires
+negative-scaled-requires t c = can-negate (wide_view c.in_ok-f.f) c.in_ok-f.ensures.2
 
 pub sum-loop-step-init : goal.sum-loop-step-init
 sum-loop-step-init t c = sums-init c.args.problem.now (env_view c.args.env.now) (fixings_view c.args.fixings.now) (wide_view c.args.first) c.args.steps.now c.requires.fits
