@@ -61,15 +61,15 @@ fn expr_degree(e: &PlainExpr) -> Degree
     ensures broken { result.broken ≡ expr_breaks (plain_expr_view e.now) }
 {
     match e {
-        PlainExpr::Num(_n) => Degree {
+        PlainExpr::Num(_) => Degree {
             coordinates: false,
             broken: false,
         },
-        PlainExpr::Field(_of, name) => Degree {
+        PlainExpr::Field(_, name) => Degree {
             coordinates: is_coordinate(name),
             broken: false,
         },
-        PlainExpr::ShapeNum(_s) => Degree {
+        PlainExpr::ShapeNum(_) => Degree {
             coordinates: false,
             broken: false,
         },
@@ -128,11 +128,11 @@ fn product_degree(left: bool, step: &PlainProd) -> Degree
                 broken: either(factor.broken, left && factor.coordinates),
             }
         }
-        PlainProd::Div(_n) => Degree {
+        PlainProd::Div(_) => Degree {
             coordinates: false,
             broken: left,
         },
-        PlainProd::Mod(_n) => Degree {
+        PlainProd::Mod(_) => Degree {
             coordinates: false,
             broken: left,
         },
@@ -169,8 +169,8 @@ pub fn multiplies(f: &PlainFormula) -> bool
         PlainFormula::Or(fs) => some_multiplies(fs),
         PlainFormula::Implies(f, g) => either(multiplies(f), multiplies(g)),
         PlainFormula::Iff(f, g) => either(multiplies(f), multiplies(g)),
-        PlainFormula::Compare(a, _rel, b) => either(expr_degree(a).broken, expr_degree(b).broken),
-        PlainFormula::Quant(_kind, _v, _coll, f) => multiplies(f),
+        PlainFormula::Compare(a, _, b) => either(expr_degree(a).broken, expr_degree(b).broken),
+        PlainFormula::Quant(_, _, _, f) => multiplies(f),
     }
 }
 

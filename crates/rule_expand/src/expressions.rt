@@ -43,7 +43,7 @@ fn expand_field(
 {
     match look_up(source, scope, of) {
         Found::Subject(subject) => field(source.alloc, subject, name, room, deep),
-        Found::Argument(_e, _caller, _in_sight) => number(0, room, deep),
+        Found::Argument(..) => number(0, room, deep),
         Found::Nothing => number(0, room, deep),
     }
 }
@@ -81,24 +81,20 @@ pub fn expand_expr(
         (scope_view source.now.problem.now scope.now)) room.old deep room.new result }
 {
     match e {
-        Expr::Num(_place, n) => number(*n, room, deep),
-        Expr::Field(of, _dot, name) => expand_field(
-            source, &of.name, &name.name, &*scope, room, deep,
-        ),
+        Expr::Num(_, n) => number(*n, room, deep),
+        Expr::Field(of, _, name) => expand_field(source, &of.name, &name.name, &*scope, room, deep),
         Expr::Param(a) => expand_param(source, &a.name, &*scope, room, deep),
-        Expr::ShapeNum(_place, a) => expand_shape(source, &a.name, room, deep),
-        Expr::Neg(_place, e) => expand_negative(source, in_sight, e, &*scope, room, deep),
-        Expr::Sum(_place, first, steps) => expand_sum(
+        Expr::ShapeNum(_, a) => expand_shape(source, &a.name, room, deep),
+        Expr::Neg(_, e) => expand_negative(source, in_sight, e, &*scope, room, deep),
+        Expr::Sum(_, first, steps) => expand_sum(
             source, in_sight, first, steps, &*scope, room, deep,
         ),
-        Expr::Prod(_place, first, steps) => expand_product(
+        Expr::Prod(_, first, steps) => expand_product(
             source, in_sight, first, steps, &*scope, room, deep,
         ),
-        Expr::Min(_place, a, b) => expand_least(source, in_sight, a, b, &*scope, room, deep),
-        Expr::Max(_place, a, b) => expand_greatest(source, in_sight, a, b, &*scope, room, deep),
-        Expr::CallValue(_place, m, args) => expand_call(
-            source, in_sight, m, args, &*scope, room, deep,
-        ),
+        Expr::Min(_, a, b) => expand_least(source, in_sight, a, b, &*scope, room, deep),
+        Expr::Max(_, a, b) => expand_greatest(source, in_sight, a, b, &*scope, room, deep),
+        Expr::CallValue(_, m, args) => expand_call(source, in_sight, m, args, &*scope, room, deep),
     }
 }
 
@@ -120,7 +116,7 @@ fn expand_param(
         Found::Argument(e, caller, in_sight) => expand_expr(
             source, in_sight, e, caller, room, deep,
         ),
-        Found::Subject(_subject) => number(0, room, deep),
+        Found::Subject(_) => number(0, room, deep),
         Found::Nothing => number(0, room, deep),
     }
 }
@@ -344,8 +340,8 @@ fn expand_product_step(
         ProdStep::Times(e) => Ok(PlainProd::Times(expand_expr(
             source, in_sight, e, &*scope, room, deep,
         )?)),
-        ProdStep::Div(_place, n) => Ok(PlainProd::Div(*n)),
-        ProdStep::Mod(_place, n) => Ok(PlainProd::Mod(*n)),
+        ProdStep::Div(_, n) => Ok(PlainProd::Div(*n)),
+        ProdStep::Mod(_, n) => Ok(PlainProd::Mod(*n)),
     }
 }
 

@@ -70,9 +70,7 @@ fn expand_coll(source: &Source, coll: &Coll, scope: &Scope) -> Result<PlainColl,
         },
         Coll::BoxesOf(a) => match look_up(source, scope, &a.name) {
             Found::Subject(subject) => Ok(PlainColl::BoxesOf(subject)),
-            Found::Argument(_e, _caller, _in_sight) => Ok(PlainColl::Listed(Vec::new(
-                source.alloc,
-            ))),
+            Found::Argument(..) => Ok(PlainColl::Listed(Vec::new(source.alloc))),
             Found::Nothing => Ok(PlainColl::Listed(Vec::new(source.alloc))),
         },
     }
@@ -127,34 +125,34 @@ pub fn expand_formula(
         result }
 {
     match f {
-        Formula::True(_place) => {
+        Formula::True(_) => {
             if !take_node(room, deep) {
                 return Err(ExpandFault::TooLarge);
             }
             Ok(PlainFormula::True)
         }
-        Formula::False(_place) => {
+        Formula::False(_) => {
             if !take_node(room, deep) {
                 return Err(ExpandFault::TooLarge);
             }
             Ok(PlainFormula::False)
         }
-        Formula::Not(_place, f) => expand_negation(source, in_sight, f, &*scope, next, room, deep),
-        Formula::And(_place, fs) => expand_all_of(source, in_sight, fs, &*scope, next, room, deep),
-        Formula::Or(_place, fs) => expand_any_of(source, in_sight, fs, &*scope, next, room, deep),
-        Formula::Implies(_place, f, g) => expand_implication(
+        Formula::Not(_, f) => expand_negation(source, in_sight, f, &*scope, next, room, deep),
+        Formula::And(_, fs) => expand_all_of(source, in_sight, fs, &*scope, next, room, deep),
+        Formula::Or(_, fs) => expand_any_of(source, in_sight, fs, &*scope, next, room, deep),
+        Formula::Implies(_, f, g) => expand_implication(
             source, in_sight, f, g, &*scope, next, room, deep,
         ),
-        Formula::Iff(_place, f, g) => expand_equivalence(
+        Formula::Iff(_, f, g) => expand_equivalence(
             source, in_sight, f, g, &*scope, next, room, deep,
         ),
-        Formula::Compare(_place, a, rel, b) => expand_comparison(
+        Formula::Compare(_, a, rel, b) => expand_comparison(
             source, in_sight, a, *rel, b, &*scope, room, deep,
         ),
-        Formula::Quant(_place, kind, v, coll, f) => expand_quantified(
+        Formula::Quant(_, kind, v, coll, f) => expand_quantified(
             source, in_sight, *kind, v, coll, f, &*scope, next, room, deep,
         ),
-        Formula::Call(_place, m, args) => expand_formula_call(
+        Formula::Call(_, m, args) => expand_formula_call(
             source, in_sight, m, args, &*scope, next, room, deep,
         ),
     }

@@ -68,20 +68,20 @@ fn parameter_of(
             Some(i) => Some(i),
             None => None,
         },
-        Expr::CallValue(_place, m, args) => {
+        Expr::CallValue(_, m, args) => {
             match parameter_of_call(problem, macros, handed, params, m, args) {
                 Some(i) => Some(i),
                 None => None,
             }
         }
-        Expr::Num(_place, _n) => None,
-        Expr::Field(_of, _dot, _field) => None,
-        Expr::ShapeNum(_place, _shape) => None,
-        Expr::Neg(_place, _e) => None,
-        Expr::Sum(_place, _e, _steps) => None,
-        Expr::Prod(_place, _e, _steps) => None,
-        Expr::Min(_place, _a, _b) => None,
-        Expr::Max(_place, _a, _b) => None,
+        Expr::Num(..) => None,
+        Expr::Field(..) => None,
+        Expr::ShapeNum(..) => None,
+        Expr::Neg(..) => None,
+        Expr::Sum(..) => None,
+        Expr::Prod(..) => None,
+        Expr::Min(..) => None,
+        Expr::Max(..) => None,
     }
 }
 
@@ -125,7 +125,7 @@ fn handed_by(
 {
     match it.body() {
         MacroBody::Is(e) => parameter_of(problem, macros, handed, it.params(), e),
-        MacroBody::Means(_formula) => None,
+        MacroBody::Means(_) => None,
     }
 }
 

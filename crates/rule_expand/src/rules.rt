@@ -109,7 +109,7 @@ fn is_product(rule: &PlainRule) -> bool
 {
     match &rule.body {
         PlainBody::Apart => false,
-        PlainBody::Within(_ranges) => false,
+        PlainBody::Within(_) => false,
         PlainBody::Plain(f) => multiplies(f),
     }
 }

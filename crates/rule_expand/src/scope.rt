@@ -102,15 +102,15 @@ fn bare_name(e: &Expr) -> Option<&PlacedName>
 {
     match e {
         Expr::Param(a) => Some(a),
-        Expr::Num(_place, _n) => None,
-        Expr::Field(_of, _dot, _field) => None,
-        Expr::ShapeNum(_place, _shape) => None,
-        Expr::Neg(_place, _e) => None,
-        Expr::Sum(_place, _e, _steps) => None,
-        Expr::Prod(_place, _e, _steps) => None,
-        Expr::Min(_place, _a, _b) => None,
-        Expr::Max(_place, _a, _b) => None,
-        Expr::CallValue(_place, _m, _args) => None,
+        Expr::Num(..) => None,
+        Expr::Field(..) => None,
+        Expr::ShapeNum(..) => None,
+        Expr::Neg(..) => None,
+        Expr::Sum(..) => None,
+        Expr::Prod(..) => None,
+        Expr::Min(..) => None,
+        Expr::Max(..) => None,
+        Expr::CallValue(..) => None,
     }
 }
 
@@ -162,7 +162,7 @@ pub fn value_macro<'a>(source: &Source<'a>, in_sight: usize, name: &Name) -> Opt
                     params: called.params(),
                     body,
                 }),
-                MacroBody::Means(_formula) => None,
+                MacroBody::Means(_) => None,
             }
         }
         None => None,
@@ -192,7 +192,7 @@ pub fn formula_macro<'a>(
                     params: called.params(),
                     body,
                 }),
-                MacroBody::Is(_expr) => None,
+                MacroBody::Is(_) => None,
             }
         }
         None => None,

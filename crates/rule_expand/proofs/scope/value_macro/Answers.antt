@@ -33,5 +33,5 @@ returns-in-Means c =
     let e : macro_position c.args.source.now.problem.now c.args.name.now ≡ Some c.in-Some.index = sym (c.requires.names.macros c.args.name.now) ∙ sym (ap (found c.args.source.now.names.macros) c.as_bytes.ensures) ∙ sym c.position_of.ensures ∙ c.in-Some.is in
     let inside : c.in-Some.index < length c.macros-macros.result.now = omega (arith, macro-inside c.args.source.now.problem.now c.args.name.now c.in-Some.index e, ap length c.macros-macros.ensures) in
     let m : c.index-macros-index.result ≡ macro_of c.args.source.now.problem.now c.in-Some.index = macro-at c.args.source.now.problem.now c.macros-macros.result.now c.in-Some.index c.index-macros-index.result inside c.macros-macros.ensures c.index-macros-index.is in
-    let b : means (formula_view c.in-Means._formula) ≡ c.index-macros-index.result.body = sym (ap body_view c.in-Means.is) ∙ c.body.ensures in
-    λ ms. value-called c.args.source.now.problem.now c.args.in_sight c.in-Some.index c.args.name.now c.index-macros-index.result (means (formula_view c.in-Means._formula)) c.index-macros-index.result.params e (omega arith) m b refl ms
+    let b : means (formula_view c.in-Means.field-0) ≡ c.index-macros-index.result.body = sym (ap body_view c.in-Means.is) ∙ c.body.ensures in
+    λ ms. value-called c.args.source.now.problem.now c.args.in_sight c.in-Some.index c.args.name.now c.index-macros-index.result (means (formula_view c.in-Means.field-0)) c.index-macros-index.result.params e (omega arith) m b refl ms
