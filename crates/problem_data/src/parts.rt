@@ -1,6 +1,6 @@
 //! The statements of a text by their kinds.
 
-ghost use Rattle.std.specs.Prelude.{◌≡◌, [], IfOk, OnOk};
+ghost use Rattle.std.specs.Prelude.{◌≡◌, ◌++◌, ◌∷◌, [], IfOk, OnOk};
 ghost use Rattle.problem_data.specs.View.{statement_view, problem_view};
 ghost use Rattle.problem_data.specs.Parts.{parts_of, parts_view, no_statements, add_statement};
 
@@ -43,15 +43,22 @@ impl Parts {
             ≡ add_statement (parts_view self.old) (statement_view statement)) }
     {
         match statement {
-            Statement::Shape(shape) => self.shapes.push(shape)?,
-            Statement::Object(object) => self.objects.push(object)?,
-            Statement::Order(order) => self.orders.push(order)?,
-            Statement::Sides(sides) => self.sides.push(sides)?,
-            Statement::Macro(one) => self.macros.push(one)?,
-            Statement::Rule(rule) => self.rules.push(rule)?,
+            Statement::Shape(shape) => append(&mut self.shapes, shape),
+            Statement::Object(object) => append(&mut self.objects, object),
+            Statement::Order(order) => append(&mut self.orders, order),
+            Statement::Sides(sides) => append(&mut self.sides, sides),
+            Statement::Macro(one) => append(&mut self.macros, one),
+            Statement::Rule(rule) => append(&mut self.rules, rule),
         }
-        Ok(())
     }
+}
+
+/// Appends an item.
+fn append<T: Drop>(list: &mut Vec<T>, item: T) -> Result<(), AllocError>
+    ensures { OnOk result (list.new.items ≡ list.old.items ++ item ∷ []) }
+{
+    list.push(item)?;
+    Ok(())
 }
 
 /// The statements of a text by their kinds.
