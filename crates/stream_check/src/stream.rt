@@ -78,7 +78,8 @@ impl<'a, const K: usize> StreamCheck<'a, K> {
     pub fn take(&mut self, piece: &[u8]) -> Result<bool, TextFault>
         requires k { K ≤ MAX_DIMS }
         requires ready { IsReady K self.old.feeder self.old.checker self.old.log }
-        ensures checking { result ≡ Ok false → (first : List Reach) (text : List ℕ) (es : List EventOf)
+        ensures checking { result ≡ Ok false → (first : List Reach) (text : List ℕ)
+            (es : List EventOf)
             → IsChecking first K self.old.feeder self.old.checker self.old.log text es
             → (more : List EventOf) × IsChecking first K self.new.feeder self.new.checker
             self.new.log (text ++ piece.now) (es ++ more) }
@@ -86,7 +87,8 @@ impl<'a, const K: usize> StreamCheck<'a, K> {
         ensures checked { result ≡ Ok true → (first : List Reach) (text rest : List ℕ)
             (es : List EventOf)
             → IsChecking first K self.old.feeder self.old.checker self.old.log text es
-            → HasChecked first K self.old.feeder.names.now self.new.checker ((text ++ piece.now) ++ rest) }
+            → HasChecked first K self.old.feeder.names.now self.new.checker
+            ((text ++ piece.now) ++ rest) }
         ensures refused { IfErr result (λ fault. (first : List Reach) (text rest : List ℕ)
             (es : List EventOf)
             → IsChecking first K self.old.feeder self.old.checker self.old.log text es
