@@ -7,24 +7,7 @@ ghost use Rattle.geo_conditions.specs.Reach.{with_at, just};
 use geo_base::{KBox, MAX_DIMS, Point};
 use geo_conditions::{Cond, ObjId, State, refuted_at};
 
-// Whether a form or a literal is possible with the object at that place and point.
-fn leaf_possible_at<const K: usize>(
-    cond: &Cond,
-    s: &State<K>,
-    o: ObjId,
-    place: u8,
-    c: &Point<K>,
-) -> bool
-    requires k { K ≤ MAX_DIMS }
-    requires fits { FitsIn cond.now s.now }
-    requires object { o.0 < length s.now }
-    ensures { result ≡ possible cond.now (with_at s.now o.0 place (just c.now.coordinates)) }
-{
-    !refuted_at(cond, s, o, place, &KBox::new(*c, *c))
-}
-
-/// Whether a condition is possible with the object at that place and point. Of a condition that asks for some of its parts no
-/// part is asked once enough are possible, or too few are left.
+/// Whether a condition is possible with the object at that place and point.
 pub fn tree_possible_at<const K: usize>(
     cond: &Cond,
     s: &State<K>,
@@ -37,26 +20,5 @@ pub fn tree_possible_at<const K: usize>(
     requires object { o.0 < length s.now }
     ensures { result ≡ possible cond.now (with_at s.now o.0 place (just c.now.coordinates)) }
 {
-    match cond {
-        Cond::AtLeast(n, children) => {
-            let least = i128::from(*n);
-            let mut open = children.len();
-            let mut sure: usize = 0;
-            for child in children.as_slice() {
-                if tree_possible_at(child, s, o, place, c) {
-                    sure += 1;
-                    if least <= sure as i128 {
-                        return true;
-                    }
-                } else {
-                    open -= 1;
-                    if (open as i128) < least {
-                        return false;
-                    }
-                }
-            }
-            least <= sure as i128
-        }
-        _ => leaf_possible_at(cond, s, o, place, c),
-    }
+    !refuted_at(cond, s, o, place, &KBox::new(*c, *c))
 }
