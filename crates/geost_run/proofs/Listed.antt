@@ -42,7 +42,7 @@ ends_told answer left r0 r1 w0 w1 f0 f1 _ input told r (same, text, answers, byt
 
 -- what is begun with the text that was read is begun with the input
 pub begins_lifted : (token : Option (List ℕ)) (input text : List ℕ) (b : Begun) → IsFirstText input text → BeginsAs token text b → BeginsAs token input b
-begins_lifted token input text (Listing s) h x = record { accepted = accepted_input input text s.accepted.problem h x.accepted; are = x.are; meaning = x.meaning; from = x.from }
+begins_lifted token input text (Listing s) h x = record { accepted = accepted_input input text s.accepted.problem h x.accepted; are = x.are; meaning = x.meaning; few = x.few; from = x.from }
 begins_lifted token input text (Decided d) h x = (λ most n. lifts_all most n token input text (decision_text d) (decision_status d) h (x.0 most n), x.1)
 
 -- the tuple of a token is one of the problem

@@ -1,7 +1,7 @@
 -- Which texts are accepted, and what the first fault of another text is. Behind the phases of reading come those of the rules:
 -- names and kinds, then rules without macros that are too large, then such that multiply coordinates, then conditions that are
 -- too many or have too large numbers.
-use Rattle.std.specs.Prelude.{◌≡◌, ℕ, List, map, None, Some, Result, Ok, Err}
+use Rattle.std.specs.Prelude.{◌≡◌, ◌≤◌, ◌^◌, ℕ, List, length, map, None, Some, Result, Ok, Err}
 use Rattle.geo_tokens.specs.declared.fault.FaultWord.{FaultWord}
 use Rattle.geo_tokens.specs.declared.fault.TextFault.{TextFault}
 use Rattle.geo_tokens.specs.declared.fault.TextFault.TheVariants as faults
@@ -44,6 +44,7 @@ pub record HasRead (text : List ℕ) (a : Accepted) : Type 0 where
   pub rules : map plain_rule_data a.rules.items ≡ rules_expanded a.problem
   pub are : AreConditions a.problem a.conditions.items
   pub meaning : AreConditionsOf a.problem a.conditions.items
+  pub few : length a.conditions.items ≤ 10 ^ 9
   pub asks : (t : Tuple) → AllAskSame a.problem t a.problem.rules (map plain_rule_data a.rules.items)
   pub calm : (t : Tuple) → IsTuple a.problem t → AreCalm a.problem t (map plain_rule_data a.rules.items)
 

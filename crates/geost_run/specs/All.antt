@@ -1,5 +1,5 @@
 -- What `all` begins with, and what it writes.
-use Rattle.std.specs.Prelude.{◌≡◌, ◌++◌, ℕ, List, Option, Result, MatchResult, Bool}
+use Rattle.std.specs.Prelude.{◌≡◌, ◌≤◌, ◌^◌, ◌++◌, ℕ, List, length, Option, Result, MatchResult, Bool}
 use Rattle.std.specs.Io.KnownBytes.{Appends}
 use Rattle.geo_base.specs.Tuple.{Tuple}
 use Rattle.geo_chan.specs.declared.outside.PutFault.{PutFault}
@@ -24,6 +24,7 @@ pub record Starts (token : Option (List ℕ)) (input : List ℕ) (s : Start) : T
   pub accepted : IsAccepted input s.accepted.problem
   pub are : AreConditions s.accepted.problem s.accepted.conditions.items
   pub meaning : AreConditionsOf s.accepted.problem s.accepted.conditions.items
+  pub few : length s.accepted.conditions.items ≤ 10 ^ 9
   pub from : IsFrom s.accepted.problem token s.after
 
 -- a listing starts so, or its answer is decided, whatever is to be listed

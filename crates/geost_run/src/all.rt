@@ -1,6 +1,6 @@
 // `all`: the layouts of a problem by pages. Each block is written as soon as its layout is found.
 
-ghost use Rattle.std.specs.Prelude.{◌≡◌, ◌⊎◌, ◌≤◌, ℕ, List, IfOk, IfSome};
+ghost use Rattle.std.specs.Prelude.{◌≡◌, ◌⊎◌, ◌≤◌, ◌^◌, ℕ, List, IfOk, IfSome, length};
 ghost use Rattle.std.specs.Option.{option_copied};
 ghost use Rattle.geo_chan.specs.Written.{Prints};
 ghost use Rattle.layout_listing.specs.Page.{word_of};
@@ -101,6 +101,7 @@ fn begin_with(alloc: Global, token: Option<&str>, text: &[u8]) -> Result<Begun, 
 // Writes the layouts and the line behind them, and says how that ended.
 fn write_page<W: Sink>(alloc: Global, start: Start, page: Page<'_>, sink: &mut W) -> Status
     requires conditions { AreConditionsOf start.accepted.problem start.accepted.conditions.items }
+    requires few { length start.accepted.conditions.items ≤ 10 ^ 9 }
     requires after { IfSome start.after (IsTuple start.accepted.problem) }
     ensures wrote { (input : List ℕ) → Starts (option_copied page.entry.token) input start
         → WroteFor (AllAnswer page.entry.most page.entry.budget (option_copied page.entry.token))
@@ -126,6 +127,7 @@ fn write_layouts<W: Sink>(
     sink: &mut W,
 ) -> Result<Ending, PutFault>
     requires conditions { AreConditionsOf start.accepted.problem start.accepted.conditions.items }
+    requires few { length start.accepted.conditions.items ≤ 10 ^ 9 }
     requires after { IfSome start.after (IsTuple start.accepted.problem) }
     ensures { WritesAll start.accepted.problem
         (walk_after start.accepted.problem start.accepted.conditions.items start.after) most budget

@@ -1,6 +1,6 @@
 //! The blocks of a listing.
 
-ghost use Rattle.std.specs.Prelude.{◌≡◌, ◌≤◌, ◌<◌, ◌^◌, IfSome, None};
+ghost use Rattle.std.specs.Prelude.{◌≡◌, ◌≤◌, ◌<◌, ◌^◌, IfSome, None, length};
 ghost use Rattle.std.specs.Option.{option_copied};
 ghost use Rattle.geo_chan.specs.Written.{Prints};
 ghost use Rattle.layout_text.specs.Block.{block_of};
@@ -44,6 +44,7 @@ pub fn write_listing<W: Sink>(
     sink: &mut W,
 ) -> Result<Ending, PutFault>
     requires conditions { AreConditionsOf problem.now conditions.items }
+    requires few { length conditions.items ≤ 10 ^ 9 }
     requires after { IfSome (option_copied after) (IsTuple problem.now) }
     ensures { WritesPage problem.now
         (walk_after problem.now conditions.items (option_copied after.entry)) most budget
@@ -73,6 +74,7 @@ fn write_in<const K: usize, W: Sink>(
     requires k { (0 < K) × (K ≤ MAX_DIMS) }
     requires dims { problem.now.dims ≡ K }
     requires conditions { AreConditionsOf problem.now conditions.items }
+    requires few { length conditions.items ≤ 10 ^ 9 }
     requires after { IfSome (option_copied after) (IsTuple problem.now) }
     ensures { WritesPage problem.now
         (walk_after problem.now conditions.items (option_copied after.entry)) most budget

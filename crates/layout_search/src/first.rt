@@ -1,6 +1,6 @@
 //! The first layout, and when there is none within the budget.
 
-ghost use Rattle.std.specs.Prelude.{◌≡◌, ◌≤◌, ◌<◌, IfOk};
+ghost use Rattle.std.specs.Prelude.{◌≡◌, ◌≤◌, ◌<◌, ◌^◌, IfOk, length};
 ghost use Rattle.layout_search.specs.FirstLayout.{AreConditionsOf, Derives, Finds, Lists};
 
 use crate::start::{found_layout, start_search};
@@ -32,6 +32,7 @@ pub fn search_first(
     budget: u64,
 ) -> Result<Outcome<Log>, AllocError>
     requires conditions { AreConditionsOf problem.now conditions.items }
+    requires few { length conditions.items ≤ 10 ^ 9 }
     ensures walk { IfOk result (Lists problem.now conditions.items budget) }
     ensures layout { IfOk result (Finds problem.now) }
     ensures derivation { IfOk result
@@ -57,6 +58,7 @@ fn search_in<const K: usize>(
     requires k { (0 < K) × (K ≤ MAX_DIMS) }
     requires dims { problem.now.dims ≡ K }
     requires conditions { AreConditionsOf problem.now conditions.items }
+    requires few { length conditions.items ≤ 10 ^ 9 }
     ensures walk { IfOk result (Lists problem.now conditions.items budget) }
     ensures layout { IfOk result (Finds problem.now) }
     ensures derivation { IfOk result
@@ -81,6 +83,7 @@ pub fn search_first_unrecorded(
     budget: u64,
 ) -> Result<Outcome<NoRecord>, AllocError>
     requires conditions { AreConditionsOf problem.now conditions.items }
+    requires few { length conditions.items ≤ 10 ^ 9 }
     ensures walk { IfOk result (Lists problem.now conditions.items budget) }
     ensures layout { IfOk result (Finds problem.now) }
 {
@@ -104,6 +107,7 @@ fn unrecorded_in<const K: usize>(
     requires k { (0 < K) × (K ≤ MAX_DIMS) }
     requires dims { problem.now.dims ≡ K }
     requires conditions { AreConditionsOf problem.now conditions.items }
+    requires few { length conditions.items ≤ 10 ^ 9 }
     ensures walk { IfOk result (Lists problem.now conditions.items budget) }
     ensures layout { IfOk result (Finds problem.now) }
 {

@@ -22,12 +22,9 @@ use rule_ground::start::start_state;
 use std::alloc::{AllocError, Global};
 use trail_search::Search;
 
-/// The greatest number of conditions that numbers can pick.
-const MAX_CONDITIONS: usize = 1_000_000_000;
-
 /// A search for the tuples of the problem on which these conditions are true, in its search order, behind the tuple `after`
-/// where one is given, among the first `budget` members of that walk. K is the number of dimensions. More conditions than
-/// numbers can pick count as want of memory: they would take up tens of gigabytes.
+/// where one is given, among the first `budget` members of that walk. K is the number of dimensions. There are no more
+/// conditions than numbers can pick.
 pub fn start_search<const K: usize, R: Recorder + Drop>(
     alloc: Global,
     problem: &Problem,
@@ -39,6 +36,7 @@ pub fn start_search<const K: usize, R: Recorder + Drop>(
     requires k { (0 < K) × (K ≤ MAX_DIMS) }
     requires dims { problem.now.dims ≡ K }
     requires fits { AllFit conditions.items (first_state problem.now) }
+    requires few { length conditions.items ≤ 10 ^ 9 }
     requires after { IfSome (option_copied after) (IsTuple problem.now) }
     ensures walk { IfOk result (λ s.
         s.walk ≡ walk_after problem.now conditions.items (option_copied after.entry)) }
@@ -50,7 +48,6 @@ pub fn start_search<const K: usize, R: Recorder + Drop>(
     ensures began_empty { IfOk result (λ s. R.keeps ≡ true
         → s.began_empty ≡ (length (R.list recorder) == 0)) }
     ensures refusals { IfOk result (λ s. s.refusals ≡ R.refusals recorder) }
-    ensures few { IfOk result (λ s. length conditions.items ≤ 10 ^ 9) }
 {
     problem.is_said();
     let first = start_state::<K>(alloc, problem)?;
@@ -82,15 +79,12 @@ fn propagator_of<const K: usize>(
 ) -> Result<Fixpoint<K>, AllocError>
     requires k { (0 < K) × (K ≤ MAX_DIMS) }
     requires objects { objects ≤ MAX_OBJECTS }
+    requires few { length conditions.items ≤ 10 ^ 9 }
     ensures conditions { IfOk result (λ p.
         ⟦<Fixpoint<K> as Propagate<K>>⟧.conditions p ≡ conditions.items) }
     ensures objects { IfOk result (λ p.
         ⟦<Fixpoint<K> as Propagate<K>>⟧.objects p ≡ objects) }
-    ensures few { IfOk result (λ p. length conditions.items ≤ 10 ^ 9) }
 {
-    if conditions.len() > MAX_CONDITIONS {
-        return Err(AllocError);
-    }
     let list = indexicals_of(alloc, conditions)?;
     Fixpoint::start(alloc, list, objects)
 }

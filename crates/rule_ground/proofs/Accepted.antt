@@ -1,4 +1,4 @@
--- A problem that a text says has small shapes.
+-- A problem that a text says has small shapes, and few rules.
 use Rattle.std.proofs.Common.{◌≡◌, ◌<◌, ◌≤◌, ℕ, pos, List, [], length, take, map, get_or, min, subst, sym, refl, inl, inr, arith}
 use Rattle.std.specs.Prelude.{All}
 use Rattle.std.proofs.Math.Logic.{⊎_elim}
@@ -9,11 +9,11 @@ use Rattle.problem_data.specs.Tree.{BoxTree, ShapeTree}
 use Rattle.problem_data.specs.Least.{fault}
 use Rattle.problem_data.specs.Parts.{parts_of}
 use Rattle.problem_data.specs.Limits.{IsSmall, IsSize}
-use Rattle.problem_data.specs.Faults.{Among, BoxFault, OffsetFault, SizeFault, ShapeFault, ShapesFault, shapes, count_of}
+use Rattle.problem_data.specs.Faults.{Among, BoxFault, OffsetFault, SizeFault, ShapeFault, ShapesFault, shapes, rules, rule_name, count_of}
 use Rattle.problem_data.specs.Accepted.{Accepts}
 use Rattle.problem_data.specs.Problem.{ShapeData, ProblemData}
-use Rattle.problem_data.specs.Meaning.{number_of, box_of, shape_of}
-use Rattle.problem_data.proofs.NoFault.{NoFault, none_among, small_number, size_number, all_mapped}
+use Rattle.problem_data.specs.Meaning.{number_of, box_of, shape_of, rule_of}
+use Rattle.problem_data.proofs.NoFault.{NoFault, none_among, within_limit, small_number, size_number, all_mapped}
 use Rattle.rule_ground.specs.Shapes.{IsSmallBox, HasSmallShapes}
 
 box-small : (k : ℕ) (before : List BoxTree) (b : BoxTree) → NoFault (BoxFault k before b) → IsSmallBox (box_of b)
@@ -54,3 +54,11 @@ accepted-small text p a =
     let parts = parts_of a.tree in
     let s = shapes-small (count_of parts.dims.value) parts.shapes (λ f w. a.right f (shapes w)) in
     subst HasSmallShapes (sym a.means) (record { few = s.0; boxes = s.1 })
+
+pub accepted-rules : (text : List ℕ) (p : ProblemData) → Accepts text p → length p.rules ≤ 100
+accepted-rules text p a =
+    let parts = parts_of a.tree in
+    let l : length (map rule_name parts.rules) ≤ 100 = within_limit 100 (map rule_name parts.rules) (λ f w. a.right f (rules (inl (inl w)))) in
+    let m = length-map parts.rules rule_name in
+    let n = length-map parts.rules rule_of in
+    subst (λ (q : ProblemData). length q.rules ≤ 100) (sym a.means) (omega (arith, l, m, n))

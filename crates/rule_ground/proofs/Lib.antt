@@ -22,4 +22,5 @@ pub mod Meaning
 pub mod Calm
 pub mod CalmRules
 pub mod Fit
+pub mod Few
 pub mod Grounded

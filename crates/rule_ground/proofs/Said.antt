@@ -1,4 +1,4 @@
--- A problem has few objects, and each of them few shapes.
+-- A problem has few rules and few objects, and each of these few shapes.
 use Rattle.std.proofs.Common.{◌≡◌, ℕ, ◌<◌, ◌≤◌, true, [], length, ap, arith}
 use Rattle.std.proofs.Math.Logic.{⊎_elim}
 use Rattle.std.proofs.lemmas.Bool.{cases_lt}
@@ -10,10 +10,13 @@ use Rattle.problem_data.specs.Accepted.{IsSaid}
 use Rattle.problem_data.specs.WellFormed.{IsWellFormed}
 use Rattle.rule_ground.specs.Shapes.{has_several, HasSmallShapes}
 use Rattle.rule_ground.proofs.Settled.{several-there}
-use Rattle.rule_ground.proofs.Accepted.{accepted-small}
+use Rattle.rule_ground.proofs.Accepted.{accepted-small, accepted-rules}
 
 pub said-small : (p : ProblemData) → IsSaid p → HasSmallShapes p
 said-small p s = accepted-small s.text p s.accepts
+
+pub said-rules : (p : ProblemData) → IsSaid p → length p.rules ≤ 100
+said-rules p s = accepted-rules s.text p s.accepts
 
 pub few-shapes : (p : ProblemData) (o : ℕ) → IsWellFormed p → length (object_of p o).shapes ≤ 16
 few-shapes p o w = ⊎_elim

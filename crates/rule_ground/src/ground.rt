@@ -1,6 +1,6 @@
 //! All conditions of a problem.
 
-ghost use Rattle.std.specs.Prelude.{◌≡◌, ◌↔◌, All, IfOk, MatchResult, None, length, map};
+ghost use Rattle.std.specs.Prelude.{◌≡◌, ◌↔◌, ◌≤◌, ◌^◌, All, IfOk, MatchResult, None, length, map};
 ghost use Rattle.geo_base.specs.Tuple.{Tuple};
 ghost use Rattle.geo_conditions.specs.Conditions.{AllFit, AllHold};
 ghost use Rattle.linear_conditions.specs.CondTree.{cond_view};
@@ -177,8 +177,9 @@ fn ground_each(
 /// shapes, their boxes and the dimensions, the low end first. A formula gives those of the tree that it is grounded to. The
 /// first rule with which a form is out of bounds is refused with `overflow`, and the first with which there are more than
 /// 20,000,000 visits, 1,000,000 leaves or 8,000,000 terms, counted over all rules, with `ground`, whichever is met first; each
-/// at the place of its name. On each tuple of the problem all conditions are true exactly where every rule holds, and the
-/// evaluation of the rules meets only numbers that fit 128 bits.
+/// at the place of its name. So there are at most 1,000,000,000 conditions, as many as numbers can pick. On each tuple of the
+/// problem all conditions are true exactly where every rule holds, and the evaluation of the rules meets only numbers that fit
+/// 128 bits.
 pub fn ground_rules(
     alloc: Global,
     problem: &Problem,
@@ -193,6 +194,7 @@ pub fn ground_rules(
         → AllHold v.items t
         ↔ All (λ (r : RuleData). DemandHolds problem.now t r.demand) problem.now.rules) }
     ensures fit { IfOk result (λ v. AllFit v.items (first_state problem.now)) }
+    ensures few { IfOk result (λ v. length v.items ≤ 10 ^ 9) }
     ensures calm { IfOk result (λ v. (t : Tuple) → IsTuple problem.now t
         → AreCalm problem.now t (map plain_rule_data rules.now)) }
 {

@@ -31,6 +31,7 @@ returns c = record {
   rules = c.in_ok-rules.ensures.expanded.0;
   are = c.in_ok-conditions.ensures.conditions.0;
   meaning = record { fit = c.in_ok-conditions.ensures.fit; meaning = c.in_ok-conditions.ensures.meaning };
+  few = c.in_ok-conditions.ensures.few;
   asks = c.in_ok-rules.ensures.meaning;
   calm = subst (λ (rs : List PlainRule). (t : Tuple) → IsTuple c.in_ok-problem.problem t → AreCalm c.in_ok-problem.problem t (map plain_rule_data rs)) c.as_slice.ensures.value c.in_ok-conditions.ensures.calm;
 }

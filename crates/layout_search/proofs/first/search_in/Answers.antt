@@ -97,5 +97,5 @@ returns-in-Ended-clause-derivation g c =
         steps = c.in-Ended.ensures.steps;
       })
           c.into_recorder.result.events c.into_recorder.ensures.events (c.next.ensures.derived refl c.in-Ended.is none empty (ap (λ (W : Tree). W.after) c.in_ok-search.ensures.walk)),
-      c.in_ok-search.ensures.few,
+      c.requires.few,
     )

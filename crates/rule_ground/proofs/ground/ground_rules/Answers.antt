@@ -4,10 +4,11 @@ use Rattle.rule_expand.specs.Rules.{PlainRuleData, plain_rule_data}
 use Rattle.rule_values.specs.Calm.{AreCalm}
 use Rattle.rule_ground.specs.Faults.{HasRanges}
 use Rattle.rule_ground.proofs.CalmRules.{all-calm}
+use Rattle.rule_ground.proofs.Few.{grounded-few}
 use Rattle.rule_ground.proofs.Fit.{grounded-fit}
 use Rattle.rule_ground.proofs.Grounded.{of-conditions, of-problem, told}
 use Rattle.rule_ground.proofs.Meaning.{all-ranges, ground-meant}
-use Rattle.rule_ground.proofs.Said.{said-small}
+use Rattle.rule_ground.proofs.Said.{said-small, said-rules}
 use Rattle.rule_ground.proofs.ground.ground_rules.Goals as goal
 
 pub ground_each-requires-clause-shapes : goal.ground_each-requires-clause-shapes
@@ -29,6 +30,11 @@ pub returns-clause-fit : goal.returns-clause-fit
 returns-clause-fit c =
     of-conditions c.args.problem.now _ _ (of-problem c.args.problem.now (map plain_rule_data c.args.rules.now) _ c.requires.rules c.ground_each.ensures)
     (λ v h. grounded-fit c.args.problem.now c.is_said.ensures.formed v.items h)
+
+pub returns-clause-few : goal.returns-clause-few
+returns-clause-few c =
+    of-conditions c.args.problem.now _ _ (of-problem c.args.problem.now (map plain_rule_data c.args.rules.now) _ c.requires.rules c.ground_each.ensures)
+    (λ v h. grounded-few c.args.problem.now v.items (said-rules c.args.problem.now c.is_said.ensures.said) h)
 
 pub returns-clause-calm : goal.returns-clause-calm
 returns-clause-calm c =
