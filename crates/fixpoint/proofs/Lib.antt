@@ -5,3 +5,4 @@ pub mod Effect
 pub mod Stable
 pub mod Standing
 pub mod Record
+pub mod Blaming

@@ -7,6 +7,7 @@ use Rattle.std.proofs.lemmas.List.{get_or-set_same, get_or-set_other}
 use Rattle.std.proofs.Math.ListN.{length-set}
 use Rattle.std.proofs.lemmas.List.Folds.{list_any-append}
 use Rattle.std.proofs.lemmas.List.Elements.{All-append}
+use Rattle.std.proofs.lemmas.List.Quantifiers.{all_pairs_push}
 use Rattle.std.proofs.lemmas.Option.{slice_get-get_or}
 use Rattle.geo_conditions.specs.declared.cond.Cond.{Cond}
 use Rattle.geo_conditions.specs.Reach.{State, reach}
@@ -82,7 +83,7 @@ length_more (y ∷ xs) x = let e = length_more xs x in omega (arith, e)
 -- ---- numbers of conditions
 
 pub numbers_start : (test : Cond → Bool) (cs : List Cond) → NumbersOf test cs 0 []
-numbers_start test cs = record { within = λ k d h. absurd (omega arith); each = λ i d h. absurd (omega arith) }
+numbers_start test cs = record { within = λ k d h. absurd (omega arith); rising = λ i j d l m. absurd (omega arith); each = λ i d h. absurd (omega arith) }
 
 nat_eq_other : (a b : ℕ) → (a ≡ b → ⊥) → nat_eq a b ≡ false
 nat_eq_other a b n = by_test (nat_eq a b) refl
@@ -105,6 +106,7 @@ wider_picks n picks a k d h = let b = a k d h in (b.0, omega (arith, b.1))
 numbers_skip : (test : Cond → Bool) (cs : List Cond) (n : ℕ) (numbers : List ℕ) → NumbersOf test cs n numbers → ((d : Cond) → test (get_or cs n d) ≡ false) → NumbersOf test cs (n + 1) numbers
 numbers_skip test cs n numbers p f = record {
   within = wider_picks n numbers p.within;
+  rising = p.rising;
   each = λ i d h. elim (cases_eq i n) [
     | inl e ↦ subst (λ (j : ℕ). list_any (nat_eq (suc j)) numbers ≡ test (get_or cs j d)) (sym e) (past_picks n numbers p.within ∙ sym (f d))
     | inr ne ↦ p.each i d (omega arith)
@@ -114,6 +116,7 @@ numbers_skip test cs n numbers p f = record {
 numbers_more : (test : Cond → Bool) (cs : List Cond) (n : ℕ) (numbers : List ℕ) → NumbersOf test cs n numbers → ((d : Cond) → test (get_or cs n d) ≡ true) → NumbersOf test cs (n + 1) (numbers ++ suc n ∷ [])
 numbers_more test cs n numbers p t = record {
   within = All-append (λ i. (0 < i) × (i - 1 < n + 1)) numbers (suc n ∷ []) (wider_picks n numbers p.within) one;
+  rising = all_pairs_push (λ i j. i < j) numbers (suc n) p.rising (λ k d l. let b = p.within k d l in omega (arith, b.0, b.1));
   each = λ i d h. elim (cases_eq i n) [
     | inl e ↦ subst (λ (j : ℕ). list_any (nat_eq (suc j)) (numbers ++ suc n ∷ []) ≡ test (get_or cs j d)) (sym e)
         (list_any-append (nat_eq (suc n)) numbers (suc n ∷ []) ∙ ap (λ (b : Bool). b || list_any (nat_eq (suc n)) (suc n ∷ [])) (past_picks n numbers p.within) ∙ or-false (nat_eq (suc n) (suc n)) ∙ eq-eqb (suc n) (suc n) refl ∙ sym (t d))

@@ -1,6 +1,6 @@
 -- Which objects the conditions name, and which conditions name an object, as lists.
 use Rattle.std.specs.Prelude.{◌≡◌, ◌==◌, ◌&&◌, ℕ, zero, suc, nat_eq, ◌<◌, not, Bool, true, false, List, [], ◌∷◌, ◌++◌, length, slice_index_or}
-use Rattle.std.specs.List.{All, list_any}
+use Rattle.std.specs.List.{All, AllPairs, list_any}
 use Rattle.std.specs.declared.vec.Vec.{Vec}
 use Rattle.std.specs.declared.alloc.Global.{Global}
 use Rattle.geo_conditions.specs.declared.cond.Cond.{Cond}
@@ -9,9 +9,10 @@ use Rattle.indexical.specs.Names.{names}
 use Rattle.sweep.specs.Picks.{ArePicks}
 use Rattle.fixpoint.specs.declared.links.Links.{Links}
 
--- the numbers, from 1, are those of the first n conditions that meet the test
+-- the numbers, from 1 and rising, are those of the first n conditions that meet the test
 pub record NumbersOf (test : Cond → Bool) (cs : List Cond) (n : ℕ) (numbers : List ℕ) : Type 0 where
   pub within : ArePicks n numbers
+  pub rising : AllPairs (λ i j. i < j) numbers
   pub each : (i : ℕ) (d : Cond) → i < n → list_any (nat_eq (suc i)) numbers ≡ test (slice_index_or cs i d)
 
 -- the numbers are those of the conditions that name the object

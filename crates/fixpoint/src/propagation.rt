@@ -1,6 +1,7 @@
 //! Propagation by a queue of objects.
 
-ghost use Rattle.std.specs.Prelude.{◌≡◌, ◌+◌, ◌-◌, ◌^◌, ◌<◌, ◌≤◌, ℕ, false, true, List, length, map, min, slice_set, IfOk, IsOk, OnErr, MatchOption};
+ghost use Rattle.std.specs.Prelude.{◌≡◌, ◌+◌, ◌-◌, ◌^◌, ◌<◌, ◌≤◌, ℕ, false, true, List, length, map, min, slice_set, IfOk, IfSome, IsOk, OnErr, MatchOption};
+ghost use Rattle.std.specs.List.{AllPairs};
 ghost use Rattle.geo_conditions.specs.declared.cond.Cond.{Cond};
 ghost use Rattle.geo_base.specs.declared.TheConstants.{MAX_DIMS};
 ghost use Rattle.geo_conditions.specs.Conditions.{AllFit};
@@ -8,14 +9,14 @@ ghost use Rattle.geo_conditions.specs.Reach.{Inside};
 ghost use Rattle.geo_conditions.specs.Supported.{NoneRefuted};
 ghost use Rattle.derivation.specs.Covers.{refutes};
 ghost use Rattle.derivation.specs.Events.{Grows};
-ghost use Rattle.geo_state.specs.Settle.{Records, SettlesOr};
+ghost use Rattle.geo_state.specs.Settle.{BlamesFirst, Records, SettlesOr};
 ghost use Rattle.sweep.specs.Picks.{ArePicks, picked};
 ghost use Rattle.object_pruning.specs.Same.{SameBut};
 ghost use Rattle.fixpoint.specs.Kept.{AllStand, StandsAlone};
 ghost use Rattle.fixpoint.specs.Links.{AreLinks};
 ghost use Rattle.fixpoint.specs.Near.{BarePossible};
 ghost use Rattle.fixpoint.specs.Queue.{Prunes, RestFine, Touches};
-ghost use Rattle.fixpoint.specs.Record.{RecordsPruning};
+ghost use Rattle.fixpoint.specs.Record.{NoneLower, RecordsPruning};
 
 use super::differences::queue_changed;
 use super::kept::{all_blank, blank_slots, retry_near};
@@ -38,8 +39,12 @@ fn first_refuted<const K: usize>(
     requires k { K ≤ MAX_DIMS }
     requires fits { AllFit (map (λ x. x.cond) list.now) s.now }
     requires picks { ArePicks (length list.now) picks.now }
-    ensures { MatchOption result (NoneRefuted (picked (map (λ x. x.cond) list.now) picks.now) s.now)
+    requires rising { AllPairs (λ i j. i < j) picks.now }
+    ensures found { MatchOption result
+        (NoneRefuted (picked (map (λ x. x.cond) list.now) picks.now) s.now)
         (λ i. refutes (map (λ x. x.cond) list.now) i s.now ≡ true) }
+    ensures first { IfSome result
+        (NoneLower (map (λ x. x.cond) list.now) picks.now s.now) }
 {
     for pick in picks {
         if list[*pick as usize - 1].refuted(s) {
@@ -198,6 +203,8 @@ fn settle<const K: usize, R: Recorder>(
     ensures record { IfOk result (λ a. R.keeps ≡ true
         → Records (map (λ x. x.cond) list.now) t.old.state a t.new.state
         (R.list rec.old) (R.list rec.new)) }
+    ensures blame { IfOk result (λ a. R.keeps ≡ true
+        → BlamesFirst (map (λ x. x.cond) list.now) t.old.state (R.list rec.old) (R.list rec.new)) }
     ensures grows { Grows R.keeps R.list R.refusals rec.old rec.new result }
 {
     if let Some(i) = first_refuted(list, &links.bare, t.state()) {

@@ -1,9 +1,12 @@
 -- What a settle answers and leaves.
-use Rattle.std.specs.Prelude.{◌≡◌, ◌++◌, List, Result, Ok, Err}
+use Rattle.std.specs.Prelude.{◌≡◌, ◌-◌, ◌++◌, ℕ, true, List, [], ◌∷◌, take, Result, Ok, Err}
+use Rattle.std.specs.List.{All}
 use Rattle.geo_conditions.specs.declared.cond.Cond.{Cond}
+use Rattle.geo_conditions.specs.Conditions.{FitsIn, possible}
 use Rattle.geo_conditions.specs.Reach.{State, Inside}
 use Rattle.geo_conditions.specs.Supported.{IsGreatest, NoneInside}
 use Rattle.derivation.specs.declared.event.Event.{Event}
+use Rattle.derivation.specs.declared.event.Event.TheVariants as events
 use Rattle.derivation.specs.Chains.{Leads, Closes}
 use Rattle.geo_state.specs.declared.propagate.Settled.{Settled}
 use Rattle.geo_state.specs.declared.propagate.Settled.TheVariants.{Kept, Dead}
@@ -26,3 +29,12 @@ AreEventsOf cs S Dead T es = Closes cs S es
 -- behind the old events stand those of the settle
 abbrev pub Records : List Cond → State → Settled → State → List Event → List Event → Type 0
 Records cs S a T old new = (es : List Event) × (new ≡ old ++ es) × AreEventsOf cs S a T es
+
+-- the condition names no object: it fits a state that has none
+abbrev pub IsBare : Cond → Type 0
+IsBare c = FitsIn c []
+
+-- where behind the old events stands alone that a condition is refuted, no bare condition before that one is refuted at S; so a bare one
+-- that is blamed is the first
+abbrev pub BlamesFirst : List Cond → State → List Event → List Event → Type 0
+BlamesFirst cs S old new = (i : ℕ) → new ≡ old ++ events.Dead i ∷ [] → All (λ c. IsBare c → possible c S ≡ true) (take (i - 1) cs)

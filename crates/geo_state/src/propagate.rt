@@ -3,7 +3,7 @@ ghost use Rattle.std.specs.List.{All};
 ghost use Rattle.geo_conditions.specs.declared.cond.Cond.{Cond};
 ghost use Rattle.geo_conditions.specs.Conditions.{FitsIn};
 ghost use Rattle.derivation.specs.Events.{Grows};
-ghost use Rattle.geo_state.specs.Settle.{Records, SettlesOr};
+ghost use Rattle.geo_state.specs.Settle.{BlamesFirst, Records, SettlesOr};
 
 use super::trailed::Trailed;
 use derivation::Recorder;
@@ -30,8 +30,9 @@ pub trait Propagate<const K: usize> {
 
     /// Settles the state. What the open levels restore stays as it is, and so do the events that
     /// the recorder has at the call. Behind them come the events of the settle: a chain of drops,
-    /// raises and lowers that leads to the state left, or that is closed where none is left. The
-    /// answer is want of memory only where the recorder refused an event.
+    /// raises and lowers that leads to the state left, or that is closed where none is left. Of the
+    /// conditions that name no object the first that is refuted is blamed. The answer is want of
+    /// memory only where the recorder refused an event.
     fn settle<R: Recorder>(
         &mut self,
         t: &mut Trailed<K>,
@@ -47,5 +48,7 @@ pub trait Propagate<const K: usize> {
         ensures record { IfOk result (λ a. R.keeps ≡ true
             → Records (conditions self.old) t.old.state a t.new.state
             (R.list rec.old) (R.list rec.new)) }
+        ensures blame { IfOk result (λ a. R.keeps ≡ true
+            → BlamesFirst (conditions self.old) t.old.state (R.list rec.old) (R.list rec.new)) }
         ensures grows { Grows R.keeps R.list R.refusals rec.old rec.new result };
 }

@@ -3,3 +3,4 @@ pub mod Narrowed
 pub mod Finding
 pub mod Passing
 pub mod Recorded
+pub mod Blaming

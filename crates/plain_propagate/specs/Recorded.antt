@@ -2,6 +2,8 @@
 use Rattle.std.specs.Prelude.{◌≡◌, ℕ, true, List, length, ◌++◌}
 use Rattle.geo_conditions.specs.declared.cond.Cond.{Cond}
 use Rattle.geo_conditions.specs.Reach.{State, Region, dims}
+use Rattle.geo_conditions.specs.Supported.{NoneRefuted}
+use Rattle.geo_state.specs.Settle.{BlamesFirst}
 use Rattle.derivation.specs.declared.event.Event.{Event}
 use Rattle.derivation.specs.Covers.{CoverTree, events_of, covers, HasNumbersIn}
 use Rattle.derivation.specs.Chains.{IsLed, IsClosed}
@@ -20,3 +22,9 @@ abbrev pub RecordsOutcome : List Cond → State → Outcome → State → List E
 RecordsOutcome cs S Dead T old now = IsClosed cs S old now
 RecordsOutcome cs S Changed T old now = IsLed cs S T old now
 RecordsOutcome cs S Fine T old now = IsLed cs S T old now
+
+-- from S: dead, a bare condition that is blamed is the first; and else no condition was refuted at S
+abbrev pub BlamesOutcome : List Cond → State → Outcome → List Event → List Event → Type 0
+BlamesOutcome cs S Dead old now = BlamesFirst cs S old now
+BlamesOutcome cs S Changed old now = NoneRefuted cs S
+BlamesOutcome cs S Fine old now = NoneRefuted cs S

@@ -7,7 +7,7 @@ ghost use Rattle.derivation.specs.Events.{Grows};
 ghost use Rattle.plain_propagate.specs.Defects.{IsDefect, LacksPoint, LacksLow, LacksHigh};
 ghost use Rattle.plain_propagate.specs.Passes.{IsNarrower, Repairs, Passes};
 ghost use Rattle.derivation.specs.Chains.{IsLed, IsClosed};
-ghost use Rattle.plain_propagate.specs.Recorded.{RecordsOutcome};
+ghost use Rattle.plain_propagate.specs.Recorded.{BlamesOutcome, RecordsOutcome};
 
 use super::defects::{Defect, object_defect};
 use super::points::first_refuted;
@@ -197,6 +197,8 @@ pub fn pass<const K: usize, R: Recorder>(
     ensures levels { (t.new.levels ≡ t.old.levels) × (t.new.restores ≡ t.old.restores) }
     ensures record { IfOk result (λ a. R.keeps ≡ true → RecordsOutcome cs.now t.old.state a
         t.new.state (R.list rec.old) (R.list rec.new)) }
+    ensures blame { IfOk result (λ a. R.keeps ≡ true
+        → BlamesOutcome cs.now t.old.state a (R.list rec.old) (R.list rec.new)) }
     ensures grows { Grows R.keeps R.list R.refusals rec.old rec.new result }
 {
     if let Some(i) = first_refuted(cs, t.state()) {

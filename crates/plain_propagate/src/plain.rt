@@ -2,7 +2,7 @@ ghost use Rattle.std.specs.Prelude.{◌≡◌, ◌+◌, ◌-◌, ◌^◌, ◌≤
 ghost use Rattle.std.specs.List.{All};
 ghost use Rattle.geo_conditions.specs.Conditions.{FitsIn};
 ghost use Rattle.derivation.specs.Events.{Grows};
-ghost use Rattle.geo_state.specs.Settle.{SettlesOr, Records};
+ghost use Rattle.geo_state.specs.Settle.{BlamesFirst, SettlesOr, Records};
 
 use super::mending::{Outcome, pass};
 use derivation::Recorder;
@@ -52,6 +52,8 @@ fn settle<const K: usize, R: Recorder>(
     ensures levels { (t.new.levels ≡ t.old.levels) × (t.new.restores ≡ t.old.restores) }
     ensures record { IfOk result (λ a. R.keeps ≡ true
         → Records cs.now t.old.state a t.new.state (R.list rec.old) (R.list rec.new)) }
+    ensures blame { IfOk result (λ a. R.keeps ≡ true
+        → BlamesFirst cs.now t.old.state (R.list rec.old) (R.list rec.new)) }
     ensures grows { Grows R.keeps R.list R.refusals rec.old rec.new result }
 {
     'passes: loop {

@@ -1,4 +1,4 @@
-ghost use Rattle.std.specs.Prelude.{◌≡◌, ◌<◌, ◌≤◌, ◌≤ℤ◌, length, ◌↔◌, IsTrue, true, MatchOption, IfSome};
+ghost use Rattle.std.specs.Prelude.{◌≡◌, ◌-◌, ◌<◌, ◌≤◌, ◌≤ℤ◌, length, take, ◌↔◌, IsTrue, true, MatchOption, IfSome};
 ghost use Rattle.std.specs.List.{All};
 ghost use Rattle.geo_conditions.specs.Conditions.{FitsIn};
 ghost use Rattle.geo_conditions.specs.Reach.{with_at, low, high, has};
@@ -16,6 +16,7 @@ pub fn first_refuted<const K: usize>(cs: &[Cond], s: &State<K>) -> Option<usize>
     requires fits { All (λ c. FitsIn c s.now) cs.now }
     ensures found { MatchOption result (NoneRefuted cs.now s.now)
         (λ i. refutes cs.now i s.now ≡ true) }
+    ensures first { IfSome result (λ i. NoneRefuted (take (i - 1) cs.now) s.now) }
     ensures number { IfSome result (λ i. i ≤ length cs.now) }
 {
     for (i, c) in cs.iter().enumerate() {

@@ -8,6 +8,7 @@ ghost use Rattle.geo_conditions.specs.Reach.{has, reach, low, high, with_at, wit
 ghost use Rattle.geo_conditions.specs.Regions.{region_of};
 ghost use Rattle.geo_conditions.specs.Supported.{NoneRefuted, HasNoPoint};
 ghost use Rattle.derivation.specs.declared.event.Event.{Event};
+ghost use Rattle.derivation.specs.declared.event.Event.TheVariants as events;
 ghost use Rattle.derivation.specs.Covers.{refutes};
 ghost use Rattle.derivation.specs.Events.{Grows};
 ghost use Rattle.derivation.specs.PlaceCovers.{RecordedBelow, RecordedCovers};
@@ -167,6 +168,8 @@ pub fn record_dead<const K: usize, R: Recorder>(
     requires refuted { refutes cs.now i s.now ≡ true }
     ensures closed { OnOk result (R.keeps ≡ true
         → IsClosed cs.now s.now (R.list rec.old) (R.list rec.new)) }
+    ensures added { OnOk result (R.keeps ≡ true
+        → R.list rec.new ≡ R.list rec.old ++ events.Dead i ∷ []) }
     ensures grows { Grows R.keeps R.list R.refusals rec.old rec.new result }
 {
     record_event(rec, Event::Dead(i as u32))

@@ -1,5 +1,6 @@
-use Rattle.std.proofs.Common.{◌≡◌, true, false, ℕ, map, ap, sym, ◌∙◌, subst, inl, inr, arith, rules}
-use Rattle.std.proofs.lemmas.Bool.{cases_eq, not-false, not-true}
+use Rattle.std.proofs.Common.{◌≡◌, ◌<◌, ◌≤◌, true, false, ℕ, List, length, slice_index, map, ap, sym, ◌∙◌, subst, inl, inr, arith, rules}
+use Rattle.std.specs.List.{AllPairs}
+use Rattle.std.proofs.lemmas.Bool.{cases_eq, cases_lt, not-false, not-true}
 use Rattle.geo_conditions.specs.declared.cond.Cond.{Cond}
 use Rattle.geo_conditions.specs.Conditions.{possible, FitsIn}
 use Rattle.indexical.specs.declared.any.AnyIndexical.{AnyIndexical}
@@ -7,6 +8,13 @@ use Rattle.sweep.specs.Picks.{PicksAt}
 use Rattle.sweep.proofs.PickedConditions.{picked_all, picks-map, one_pick, fits_at, mapped_picks}
 use Rattle.fixpoint.proofs.Record.{refutes_picked}
 use Rattle.fixpoint.proofs.propagation.first_refuted.Goals as goal
+
+-- no later number is lower
+not_lower : (picks : List ℕ) (n k : ℕ) → AllPairs (λ i j. i < j) picks → k < length picks → n ≤ k → slice_index picks k < slice_index picks n → ⊥
+not_lower picks n k rising there past l = elim (cases_eq k n) [
+  | inl e ↦ let same : slice_index picks k ≡ slice_index picks n = ap (slice_index picks) e in omega (arith, same, l)
+  | inr ne ↦ let more : slice_index picks n < slice_index picks k = rising n k 0 (omega (arith, past, ne)) there in omega (arith, more, l)
+]
 
 pub refuted-requires : goal.refuted-requires
 refuted-requires g c =
@@ -17,8 +25,8 @@ refuted-requires g c =
     (fits_at (map f c.args.list.now) c.args.s.now c.args.picks.now c.loop-pick.pick-index _ c.requires.fits m) in
     search rules
 
-pub returns-then-refuted : goal.returns-then-refuted
-returns-then-refuted g c =
+pub returns-then-refuted-clause-found : goal.returns-then-refuted-clause-found
+returns-then-refuted-clause-found g c =
     let f = λ (x : AnyIndexical g.row.K). x.cond in
     let cs = map f c.args.list.now in
     let S = c.args.s.now in
@@ -45,5 +53,11 @@ loop-pick-preserved g c =
       | inr ne ↦ c.loop-pick.invariant k x (omega (arith, h, ne)) p
     ]
 
-pub returns : goal.returns
-returns g c = picked_all (λ x. possible x c.args.s.now ≡ true) _ c.args.picks.now (λ k x p. c.loop-pick.invariant k x (omega (arith, p.0, c.loop-pick-test.false)) p)
+pub returns-then-refuted-clause-first : goal.returns-then-refuted-clause-first
+returns-then-refuted-clause-first g c = λ k x p l. elim (cases_lt k c.loop-pick.pick-index) [
+  | inl before ↦ c.loop-pick.invariant k x before p
+  | inr past ↦ absurd (not_lower c.args.picks.now c.loop-pick.pick-index k c.requires.rising p.0 past l)
+]
+
+pub returns-clause-found : goal.returns-clause-found
+returns-clause-found g c = picked_all (λ x. possible x c.args.s.now ≡ true) _ c.args.picks.now (λ k x p. c.loop-pick.invariant k x (omega (arith, p.0, c.loop-pick-test.false)) p)

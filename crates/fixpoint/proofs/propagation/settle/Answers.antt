@@ -1,4 +1,5 @@
 use Rattle.std.proofs.Common.{◌≡◌, ℕ, true, [], ◌∷◌, map, length, ap, sym, ◌∙◌, subst, rules}
+use Rattle.std.specs.Prelude.{Result, Ok, Err, IfOk}
 use Rattle.geo_conditions.specs.Conditions.{AllFit}
 use Rattle.geo_conditions.specs.Reach.{State}
 use Rattle.geo_conditions.specs.Supported.{NoneRefuted, NoneInside}
@@ -13,6 +14,8 @@ use Rattle.object_pruning.proofs.Cases.{from_none}
 use Rattle.fixpoint.specs.Links.{AreLinks, BareOf}
 use Rattle.fixpoint.specs.Kept.{AllStand}
 use Rattle.fixpoint.specs.Near.{BarePossible}
+use Rattle.fixpoint.specs.Record.{NoneLower}
+use Rattle.fixpoint.proofs.Blaming.{blames_listed, blames_none}
 use Rattle.fixpoint.specs.Queue.{RestFine, CatchesUp}
 use Rattle.fixpoint.proofs.Effect.{hopeless, bare_possible}
 use Rattle.fixpoint.proofs.Turns.{caught_up}
@@ -22,13 +25,13 @@ use Rattle.fixpoint.proofs.propagation.settle.Goals as goal
 pub returns-in-Ok-clause-settles : goal.returns-in-Ok-clause-settles
 returns-in-Ok-clause-settles g c =
     let cs = map (λ (x : AnyIndexical g.row.K). x.cond) c.args.list.now in
-    (subst (NoneInside cs) c.state.ensures.value (hopeless cs c.state.result.now c.in-Some.i c.in-Some.ensures), inside_self c.args.t.now.state)
+    (subst (NoneInside cs) c.state.ensures.value (hopeless cs c.state.result.now c.in-Some.i c.in-Some.ensures.found), inside_self c.args.t.now.state)
 
 pub returns-in-Ok-clause-record : goal.returns-in-Ok-clause-record
 returns-in-Ok-clause-record g c = λ kept.
     let cs = map (λ (x : AnyIndexical g.row.K). x.cond) c.args.list.now in
     let i = c.in-Some.i in
-    let refuted : refutes cs i c.args.t.now.state ≡ true = subst (λ (X : State). refutes cs i X ≡ true) c.state.ensures.value c.in-Some.ensures in
+    let refuted : refutes cs i c.args.t.now.state ≡ true = subst (λ (X : State). refutes cs i X ≡ true) c.state.ensures.value c.in-Some.ensures.found in
     (Dead i ∷ [], c.in-Ok.ensures.ok kept, closes_end cs c.args.t.now.state (IsDead i) refuted)
 
 pub prune_queued-settled-requires : goal.prune_queued-settled-requires
@@ -41,7 +44,7 @@ prune_queued-settled-requires g c =
     let o = c.requires.objects in
     let l = c.requires.links in
     let without = c.deref.result.now in
-    let none : NoneRefuted (picked cs without) S = subst (NoneRefuted (picked cs without)) c.state.ensures.value (from_none _ _ c.first_refuted.result c.in_default.is c.first_refuted.ensures) in
+    let none : NoneRefuted (picked cs without) S = subst (NoneRefuted (picked cs without)) c.state.ensures.value (from_none _ _ c.first_refuted.result c.in_default.is c.first_refuted.ensures.found) in
     let those : BareOf cs (length S) without = subst (BareOf cs (length S)) (sym c.deref.ensures.value) (subst (λ (n : ℕ). BareOf cs n c.args.links.now.bare.items) o.0 l.bare) in
     let bare : BarePossible cs S = bare_possible cs S without those none in
     let caught : CatchesUp cs L S old new = subst (λ (X : State). CatchesUp cs L X old new) c.state-2.ensures.value c.queue_changed.ensures.queued in
@@ -72,3 +75,26 @@ returns-in-Err-clause-grows g c = growth_refused c.in-Err.ensures.err c.add.ensu
 
 pub returns-clause-grows : goal.returns-clause-grows
 returns-clause-grows g c = c.prune_queued-settled.ensures.grows
+
+pub returns-in-Ok-clause-blame : goal.returns-in-Ok-clause-blame
+returns-in-Ok-clause-blame g c = λ kept.
+    let cs = map (λ (x : AnyIndexical g.row.K). x.cond) c.args.list.now in
+    let S = c.args.t.now.state in
+    let without = c.deref.result.now in
+    let those : BareOf cs (length c.args.queued.now) without = subst (BareOf cs (length c.args.queued.now)) (sym c.deref.ensures.value) c.requires.links.bare in
+    blames_listed cs S (length c.args.queued.now) c.in-Some.i without (g.R.Recorder.list c.args.rec.now) (g.R.Recorder.list c.add.new.self) those (subst (λ (X : State). NoneLower cs without X c.in-Some.i) c.state.ensures.value c.in-Some.ensures.first)
+    (c.in-Ok.ensures.ok kept)
+
+-- what is so of each value is so of the one that is there
+of_each : {T E : Type 0} (r : Result T E) (P : T → Type 0) → ((a : T) → P a) → IfOk r P
+of_each (Ok a) P f = f a
+of_each (Err e) P f = tt
+
+pub returns-clause-blame : goal.returns-clause-blame
+returns-clause-blame g c = of_each c.prune_queued-settled.result _ (λ a kept.
+    let cs = map (λ (x : AnyIndexical g.row.K). x.cond) c.args.list.now in
+    let S = c.args.t.now.state in
+    let without = c.deref.result.now in
+    let none : NoneRefuted (picked cs without) S = subst (NoneRefuted (picked cs without)) c.state.ensures.value (from_none _ _ c.first_refuted.result c.in_default.is c.first_refuted.ensures.found) in
+    let those : BareOf cs (length S) without = subst (BareOf cs (length S)) (sym c.deref.ensures.value) (subst (λ (n : ℕ). BareOf cs n c.args.links.now.bare.items) c.requires.objects.0 c.requires.links.bare) in
+    blames_none cs S (g.R.Recorder.list c.args.rec.now) _ (bare_possible cs S without those none))

@@ -1,4 +1,4 @@
-use Rattle.std.proofs.Common.{◌≡◌, ◌+◌, Bool, ap, ◌∙◌, subst, arith, length, Option, ℕ, true}
+use Rattle.std.proofs.Common.{◌≡◌, ◌+◌, ◌-◌, take, Bool, ap, ◌∙◌, subst, arith, length, Option, ℕ, true}
 use Rattle.std.specs.Prelude.{MatchOption}
 use Rattle.geo_conditions.specs.Reach.{State}
 use Rattle.geo_conditions.specs.Supported.{NoneInside, NoneRefuted}
@@ -8,6 +8,7 @@ use Rattle.plain_propagate.specs.declared.mending.Outcome.{Outcome}
 use Rattle.plain_propagate.specs.Passes.{Repairs}
 use Rattle.derivation.specs.Chains.{IsLed}
 use Rattle.plain_propagate.specs.Recorded.{RecordsOutcome}
+use Rattle.plain_propagate.proofs.Blaming.{blames_first, blames_none}
 use Rattle.derivation.proofs.Refuting.{some_refuted}
 use Rattle.derivation.proofs.Chains.{led_on, led_closed}
 use Rattle.derivation.proofs.Continuing.{growth_on, growth_failed}
@@ -93,3 +94,23 @@ returns-then-changed-clause-grows g c = c.loop-o.invariant.grows
 
 pub returns-else-changed-clause-grows : goal.returns-else-changed-clause-grows
 returns-else-changed-clause-grows g c = c.loop-o.invariant.grows
+
+pub returns-in-Some-clause-blame : goal.returns-in-Some-clause-blame
+returns-in-Some-clause-blame g c = λ kept.
+    blames_first c.args.cs.now c.args.t.now.state c.in-Some.i (g.R.Recorder.list c.args.rec.now) (g.R.Recorder.list c.record_dead.new.rec) (subst (NoneRefuted (take (c.in-Some.i - 1) c.args.cs.now)) c.state.ensures.value c.in-Some.ensures.first)
+    (c.in_ok-record_dead.ensures.added kept)
+
+pub returns-in-Dead-clause-blame : goal.returns-in-Dead-clause-blame
+returns-in-Dead-clause-blame g c = λ kept.
+    blames_none c.args.cs.now c.args.t.now.state (g.R.Recorder.list c.args.rec.now) (g.R.Recorder.list c.repair.new.rec) (subst (NoneRefuted c.args.cs.now) c.state.ensures.value
+    (subst (λ (a : Option ℕ). MatchOption a (NoneRefuted c.args.cs.now c.state.result.now) (λ n. refutes c.args.cs.now n c.state.result.now ≡ true)) c.in_default.is c.first_refuted.ensures.found))
+
+pub returns-then-changed-clause-blame : goal.returns-then-changed-clause-blame
+returns-then-changed-clause-blame g c = λ kept.
+    subst (NoneRefuted c.args.cs.now) c.state.ensures.value
+    (subst (λ (a : Option ℕ). MatchOption a (NoneRefuted c.args.cs.now c.state.result.now) (λ n. refutes c.args.cs.now n c.state.result.now ≡ true)) c.in_default.is c.first_refuted.ensures.found)
+
+pub returns-else-changed-clause-blame : goal.returns-else-changed-clause-blame
+returns-else-changed-clause-blame g c = λ kept.
+    subst (NoneRefuted c.args.cs.now) c.state.ensures.value
+    (subst (λ (a : Option ℕ). MatchOption a (NoneRefuted c.args.cs.now c.state.result.now) (λ n. refutes c.args.cs.now n c.state.result.now ≡ true)) c.in_default.is c.first_refuted.ensures.found)

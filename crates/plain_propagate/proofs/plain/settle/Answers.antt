@@ -1,8 +1,9 @@
-use Rattle.std.proofs.Common.{◌∙◌, subst}
+use Rattle.std.proofs.Common.{◌∙◌, subst, inr}
 use Rattle.geo_conditions.proofs.Points.{inside_trans}
 use Rattle.plain_propagate.specs.declared.mending.Outcome.{Outcome}
 use Rattle.plain_propagate.specs.Passes.{Passes}
-use Rattle.plain_propagate.specs.Recorded.{RecordsOutcome}
+use Rattle.plain_propagate.specs.Recorded.{RecordsOutcome, BlamesOutcome}
+use Rattle.plain_propagate.proofs.Blaming.{blames_begun, blames_none, open_begun}
 use Rattle.plain_propagate.proofs.Narrowed.{going_on, settles_failed}
 use Rattle.derivation.proofs.Chains.{led_on, led_closed}
 use Rattle.derivation.proofs.Continuing.{growth_on, growth_failed}
@@ -38,8 +39,27 @@ passes-preserved g c =
       going = going_on cs S R Q i.going m.0;
       levels = (c.pass.ensures.levels.0 ∙ i.levels.0, c.pass.ensures.levels.1 ∙ i.levels.1);
       recorded = λ kept. led_on cs S R Q (g.R.Recorder.list c.args.rec.now) mid end (i.recorded kept) (subst (λ (a : Outcome). RecordsOutcome cs R a Q mid end) c.in-Changed.is (c.in_ok-pass.ensures.record kept));
+      begun = λ kept. inr (open_begun cs S R (g.R.Recorder.list c.args.rec.now) mid (i.begun kept) (subst (λ (a : Outcome). BlamesOutcome cs R a mid end) c.in-Changed.is (c.in_ok-pass.ensures.blame kept)));
       grows = growth_on i.grows c.in_ok-pass.ensures.grows;
     }
+
+pub returns-in-Dead-clause-blame : goal.returns-in-Dead-clause-blame
+returns-in-Dead-clause-blame g c = λ kept.
+    let cs = c.args.cs.now in
+    let R = c.passes.t.state in
+    let mid = g.R.Recorder.list c.passes.rec in
+    let end = g.R.Recorder.list c.pass.new.rec in
+    blames_begun cs c.args.t.now.state R (g.R.Recorder.list c.args.rec.now) mid end (c.passes.invariant.begun kept) (subst (λ (a : Outcome). BlamesOutcome cs R a mid end) c.in-Dead.is (c.in_ok-pass.ensures.blame kept))
+
+pub returns-in-Fine-clause-blame : goal.returns-in-Fine-clause-blame
+returns-in-Fine-clause-blame g c = λ kept.
+    let cs = c.args.cs.now in
+    let S = c.args.t.now.state in
+    let R = c.passes.t.state in
+    let old = g.R.Recorder.list c.args.rec.now in
+    let mid = g.R.Recorder.list c.passes.rec in
+    let end = g.R.Recorder.list c.pass.new.rec in
+    blames_none cs S old end (open_begun cs S R old mid (c.passes.invariant.begun kept) (subst (λ (a : Outcome). BlamesOutcome cs R a mid end) c.in-Fine.is (c.in_ok-pass.ensures.blame kept)))
 
 pub returns-in_err-pass-clause-grows : goal.returns-in_err-pass-clause-grows
 returns-in_err-pass-clause-grows g c = growth_failed (growth_on c.passes.invariant.grows c.in_err-pass.ensures.grows) _ c.from_residual.ensures.0

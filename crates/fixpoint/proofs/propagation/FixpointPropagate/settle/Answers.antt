@@ -4,7 +4,7 @@ use Rattle.std.specs.Prelude.{IfOk}
 use Rattle.std.specs.Vec.{with_items}
 use Rattle.geo_conditions.specs.Conditions.{AllFit}
 use Rattle.geo_state.specs.declared.propagate.Settled.{Settled}
-use Rattle.geo_state.specs.Settle.{Records}
+use Rattle.geo_state.specs.Settle.{BlamesFirst, Records}
 use Rattle.indexical.specs.declared.any.AnyIndexical.{AnyIndexical}
 use Rattle.fixpoint.specs.Links.{AreLinks}
 use Rattle.fixpoint.specs.Kept.{Slots, AllStand}
@@ -44,6 +44,13 @@ returns-clause-record g c =
     let old = g.R.Recorder.list c.args.rec.now in
     let new = g.R.Recorder.list c.settle.new.rec in
     subst (λ (l : List (AnyIndexical g.row.K)). IfOk c.settle.result (λ (a : Settled). g.R.Recorder.keeps ≡ true → Records (map (λ x. x.cond) l) S a T old new)) c.deref.ensures.value c.settle.ensures.record
+
+pub returns-clause-blame : goal.returns-clause-blame
+returns-clause-blame g c =
+    let S = c.args.t.now.state in
+    let old = g.R.Recorder.list c.args.rec.now in
+    let new = g.R.Recorder.list c.settle.new.rec in
+    subst (λ (l : List (AnyIndexical g.row.K)). IfOk c.settle.result (λ (a : Settled). g.R.Recorder.keeps ≡ true → BlamesFirst (map (λ x. x.cond) l) S old new)) c.deref.ensures.value c.settle.ensures.blame
 
 pub invariant_of-self : goal.invariant_of-self
 invariant_of-self g c =
