@@ -15,14 +15,14 @@ use Rattle.problem_data.specs.Problem.{ProblemData}
 use Rattle.problem_data.specs.Cells.{IsTuple}
 use Rattle.problem_data.specs.Layouts.{IsLayout}
 use Rattle.problem_data.specs.WellFormed.{IsWellFormed}
-use Rattle.trail_search.specs.Next.{Quest, Answers, HasFound}
+use Rattle.trail_search.specs.Next.{SearchView, Answers, HasFound}
 use Rattle.trail_search.specs.declared.step.Step.TheVariants.{Found, Ended, Budget}
 use Rattle.walk_listings.proofs.Listings.{goes_on_from}
 use Rattle.layout_listing.specs.Page.{IsWalkOf, IsPage}
 use Rattle.layout_listing.proofs.Layouts.{all-back, full-members, one-layout, tell, layouts-of, the-walk}
 
 -- a search of the walk within that budget that is not over, and has found the layouts
-pub record HasListed (p : ProblemData) (W : Tree) (n : ℕ) (a : Quest) (ts : List Tuple) : Type 0 where
+pub record HasListed (p : ProblemData) (W : Tree) (n : ℕ) (a : SearchView) (ts : List Tuple) : Type 0 where
   pub walk : a.walk ≡ W
   pub budget : a.budget ≡ n
   pub over : a.over ≡ None
@@ -43,7 +43,7 @@ alone : (W : Tree) (q : List ℤ) → is_full W q ≡ true → filter (is_full W
 alone W q e = subst (λ (b : Bool). (if b then q ∷ [] else []) ≡ q ∷ []) (sym e) refl
 
 module _ (p : ProblemData) (W : Tree) (n : ℕ) (well : IsWellFormed p) (of : IsWalkOf p W) where
-  pub none-listed : (a : Quest) → a.walk ≡ W → a.budget ≡ n → a.over ≡ None → a.walked ≡ 0 → HasListed p W n a []
+  pub none-listed : (a : SearchView) → a.walk ≡ W → a.budget ≡ n → a.over ≡ None → a.walked ≡ 0 → HasListed p W n a []
   none-listed a walk budget over walked = record {
     walk = walk;
     budget = budget;
@@ -53,7 +53,7 @@ module _ (p : ProblemData) (W : Tree) (n : ℕ) (well : IsWellFormed p) (of : Is
     layouts = All-nil (IsLayout p);
   }
 
-  pub one-more : (a b : Quest) (ts : List Tuple) (t : Tuple) → HasListed p W n a ts → b.walk ≡ a.walk → b.budget ≡ a.budget → Answers a Found b → IsTuple p t → HasFound b t → HasListed p W n b (ts ++ t ∷ [])
+  pub one-more : (a b : SearchView) (ts : List Tuple) (t : Tuple) → HasListed p W n a ts → b.walk ≡ a.walk → b.budget ≡ a.budget → Answers a Found b → IsTuple p t → HasFound b t → HasListed p W n b (ts ++ t ∷ [])
   one-more a b ts t h same budget (w, q, (front, count), few, none, full, found, most, over) is has =
       let v = h.front.0 in
       let f : IsFront W (w ++ q ∷ []) = subst (λ (V : Tree). IsFront V (w ++ q ∷ [])) (same ∙ h.walk) front in
@@ -81,13 +81,13 @@ module _ (p : ProblemData) (W : Tree) (n : ℕ) (well : IsWellFormed p) (of : Is
       }
 
   module _ (most : ℕ) where
-    pub more-page : (a : Quest) (ts : List Tuple) → HasListed p W n a ts → length ts ≡ most → IsPage p W most n ts More
+    pub more-page : (a : SearchView) (ts : List Tuple) → HasListed p W n a ts → length ts ≡ most → IsPage p W most n ts More
     more-page a ts h e = record {
       layouts = h.layouts;
       listing = record { walked = h.front.0; front = h.front.1; few = omega (arith, h.few, h.front.2); full = sym h.front.3; ends = length-map ts (values W.variables) ∙ e };
     }
 
-    pub end-page : (a b : Quest) (ts : List Tuple) → HasListed p W n a ts → b.walk ≡ a.walk → Answers a Ended b → length ts < most → IsPage p W most n ts End
+    pub end-page : (a b : SearchView) (ts : List Tuple) → HasListed p W n a ts → b.walk ≡ a.walk → Answers a Ended b → length ts < most → IsPage p W most n ts End
     end-page a b ts h same (w, (front, count), whole, none, few, over) short =
         let f : IsFront W w = subst (λ (V : Tree). IsFront V w) (same ∙ h.walk) front in
         let all : IsWhole W w = subst (λ (V : Tree). IsWhole V w) h.walk whole in
@@ -107,7 +107,7 @@ module _ (p : ProblemData) (W : Tree) (n : ℕ) (well : IsWellFormed p) (of : Is
           };
         }
 
-    pub spent-page : (a b : Quest) (ts : List Tuple) → HasListed p W n a ts → b.walk ≡ a.walk → Answers a Budget b → length ts < most → IsPage p W most n ts OutOfBudget
+    pub spent-page : (a b : SearchView) (ts : List Tuple) → HasListed p W n a ts → b.walk ≡ a.walk → Answers a Budget b → length ts < most → IsPage p W most n ts OutOfBudget
     spent-page a b ts h same (w, (front, count), spent, more, none, over) short =
         let f : IsFront W w = subst (λ (V : Tree). IsFront V w) (same ∙ h.walk) front in
         let long : length w ≡ n = count ∙ spent ∙ h.budget in
@@ -142,5 +142,5 @@ module _ (p : ProblemData) (W : Tree) (n : ℕ) (well : IsWellFormed p) (of : Is
           },
         )
 
-    pub listed-on : (a : Quest) (ts : List Tuple) → HasListed p W n a ts → length ts ≤ most → (rest : List Tuple) × (word : EndWord) × IsPage p W most n (ts ++ rest) word
+    pub listed-on : (a : SearchView) (ts : List Tuple) → HasListed p W n a ts → length ts ≤ most → (rest : List Tuple) × (word : EndWord) × IsPage p W most n (ts ++ rest) word
     listed-on a ts h short = goes-on h.front.0 ts h.front.1 h.front.3 (omega (arith, h.few, h.front.2)) short h.layouts

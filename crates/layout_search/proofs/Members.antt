@@ -17,7 +17,7 @@ use Rattle.problem_data.specs.WellFormed.{IsWellFormed}
 use Rattle.rule_ground.specs.Order.{order_of, variables_for}
 use Rattle.rule_ground.specs.Start.{first_state}
 use Rattle.rule_ground.proofs.Starts.{names-each, tuples-are}
-use Rattle.trail_search.specs.Next.{Quest, Answers}
+use Rattle.trail_search.specs.Next.{SearchView, Answers}
 use Rattle.trail_search.specs.declared.step.Step.TheVariants.{Found}
 use Rattle.layout_search.specs.FirstLayout.{AreConditionsOf, walk_past, walk_after}
 use Rattle.layout_search.specs.Found.{HasFoundIn}
@@ -39,7 +39,7 @@ module _ (p : ProblemData) (cs : List Cond) (past : Option (List ℤ)) (well : I
       (l.0, (tuples-are p l.0 well).0 l.1, l.2, l.3)
 
   -- what a search has found is a tuple of the problem
-  pub found-tuple : (a b : Quest) → a.walk ≡ walk_past p cs past → b.walk ≡ a.walk → Answers a Found b → HasFoundIn p b
+  pub found-tuple : (a b : SearchView) → a.walk ≡ walk_past p cs past → b.walk ≡ a.walk → Answers a Found b → HasFoundIn p b
   found-tuple a b walk same (w, q, (front, count), few, none, full, found, most, over) =
       let W = walk_past p cs past in
       let front' : IsFront W (w ++ q ∷ []) = subst (λ (V : Tree). IsFront V (w ++ q ∷ [])) (same ∙ walk) front in

@@ -17,7 +17,7 @@ use Rattle.rule_ground.specs.Start.{first_state}
 use Rattle.rule_ground.proofs.Starts.{names-each, tuples-are}
 use Rattle.derivation.specs.declared.event.Event.{Event}
 use Rattle.whole_derivation.specs.Whole.{IsDerivation}
-use Rattle.trail_search.specs.Next.{HasDerived, Quest, Answers, AsBefore, Steps, HasFound}
+use Rattle.trail_search.specs.Next.{HasRecorded, SearchView, Answers, AsBefore, Steps, HasFound}
 use Rattle.trail_search.specs.declared.step.Step.{Step}
 use Rattle.trail_search.specs.declared.step.Step.TheVariants.{Found, Ended, Budget}
 use Rattle.layout_search.specs.FirstLayout.{AreConditionsOf, walk_of, IsFirstLayout, HasNoLayout, Lists}
@@ -25,7 +25,7 @@ use Rattle.layout_search.specs.declared.first.Outcome.TheVariants as outcomes
 use Rattle.layout_search.proofs.Walked.{IsGood, found-listed, found-first, ended-listed, ended-none, spent-listed}
 
 -- a search that has not set off, over that walk and within that budget
-record IsFresh (W : Tree) (n : ℕ) (a : Quest) : Type 0 where
+record IsFresh (W : Tree) (n : ℕ) (a : SearchView) : Type 0 where
   walk : a.walk ≡ W
   budget : a.budget ≡ n
   walked : a.walked ≡ 0
@@ -40,7 +40,7 @@ module _ (p : ProblemData) (cs : List Cond) (well : IsWellFormed p) (state : IsS
   layout : (t : Tuple) → IsGood p.dims cs (first_state p) (order_of p) well.some state are.fit (names-each p well) t → IsLayout p t
   layout t g = let h = (tuples-are p t well).0 g.0 in record { tuple = h; rules = (are.meaning t h).0 g.1 }
 
-  module _ (n : ℕ) (a b : Quest) (fresh : IsFresh (walk_of p cs) n a) (same : b.walk ≡ a.walk) where
+  module _ (n : ℕ) (a b : SearchView) (fresh : IsFresh (walk_of p cs) n a) (same : b.walk ≡ a.walk) where
     of-walk : (P : Tree → Type 0) → P b.walk → P (walk_of p cs)
     of-walk P h = subst P (same ∙ fresh.walk) h
 
@@ -84,7 +84,7 @@ module _ (p : ProblemData) (cs : List Cond) (well : IsWellFormed p) (state : IsS
         ended-none p.dims cs (first_state p) (order_of p) well.some state are.fit (names-each p well) w n (none-before w none)
         (of-walk (λ (V : Tree). IsFront V w) front) (subst (λ (V : Tree). IsWhole V w) fresh.walk whole) t (good t l)
 
-    ended-derives : (es : List Event) → es ≡ b.events → HasDerived b → IsDerivation cs (first_state p) es
+    ended-derives : (es : List Event) → es ≡ b.events → HasRecorded Ended b → IsDerivation cs (first_state p) es
     ended-derives es e h = subst (IsDerivation cs (first_state p)) (sym e) (of-walk (λ (V : Tree). IsDerivation V.conditions V.first b.events) h)
 
     budget-lists : Answers a Budget b → Lists {R = Unit {0}} p cs n outcomes.OutOfBudget
@@ -93,11 +93,11 @@ module _ (p : ProblemData) (cs : List Cond) (well : IsWellFormed p) (state : IsS
         (of-walk (λ (V : Tree). IsFront V w) front) (subst (λ (V : Tree). GoesOn V w) fresh.walk more) (count ∙ spent ∙ fresh.budget)
 
 -- an answer of a search that was not over
-pub answered : (a b : Quest) (s : Step) → a.over ≡ None → Steps a s b → Answers a s b
+pub answered : (a b : SearchView) (s : Step) → a.over ≡ None → Steps a s b → Answers a s b
 answered a b s none h = subst (λ (o : Option Step). AsBefore o a s b) none h.2
 
 -- a search over the walk of a problem, within a budget, and what its first answer leaves of it
-pub record Begins (p : ProblemData) (cs : List Cond) (n : ℕ) (a b : Quest) (s : Step) : Type 0 where
+pub record Begins (p : ProblemData) (cs : List Cond) (n : ℕ) (a b : SearchView) (s : Step) : Type 0 where
   pub well : IsWellFormed p
   pub are : AreConditionsOf p cs
   pub walk : a.walk ≡ walk_of p cs
@@ -106,7 +106,7 @@ pub record Begins (p : ProblemData) (cs : List Cond) (n : ℕ) (a b : Quest) (s 
   pub over : a.over ≡ None
   pub steps : Steps a s b
 
-module _ (p : ProblemData) (cs : List Cond) (n : ℕ) (a b : Quest) where
+module _ (p : ProblemData) (cs : List Cond) (n : ℕ) (a b : SearchView) where
   fresh-of : (s : Step) → Begins p cs n a b s → IsFresh (walk_of p cs) n a
   fresh-of s h = record { walk = h.walk; budget = h.budget; walked = h.walked }
 
@@ -128,7 +128,7 @@ module _ (p : ProblemData) (cs : List Cond) (n : ℕ) (a b : Quest) where
   pub none-finds : Begins p cs n a b Ended → HasNoLayout p
   none-finds h = ended-finds p cs h.well (state-is p h.well) h.are n a b (fresh-of Ended h) h.steps.0 (answered a b Ended h.over h.steps)
 
-  pub none-derives : Begins p cs n a b Ended → (es : List Event) → es ≡ b.events → HasDerived b → IsDerivation cs (first_state p) es
+  pub none-derives : Begins p cs n a b Ended → (es : List Event) → es ≡ b.events → HasRecorded Ended b → IsDerivation cs (first_state p) es
   none-derives h = ended-derives p cs h.well (state-is p h.well) h.are n a b (fresh-of Ended h) h.steps.0
 
   pub spent-lists : Begins p cs n a b Budget → Lists {R = Unit {0}} p cs n outcomes.OutOfBudget

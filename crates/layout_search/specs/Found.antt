@@ -2,8 +2,8 @@
 use Rattle.geo_base.specs.Tuple.{Tuple}
 use Rattle.problem_data.specs.Problem.{ProblemData}
 use Rattle.problem_data.specs.Cells.{IsTuple}
-use Rattle.trail_search.specs.Next.{Quest, HasFound}
+use Rattle.trail_search.specs.Next.{SearchView, HasFound}
 
 -- it has found a tuple of the problem
-abbrev pub HasFoundIn : ProblemData → Quest → Type 0
+abbrev pub HasFoundIn : ProblemData → SearchView → Type 0
 HasFoundIn p s = (t : Tuple) × IsTuple p t × HasFound s t

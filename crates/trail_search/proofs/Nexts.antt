@@ -11,7 +11,7 @@ use Rattle.geo_conditions.specs.Walk.{Order, NamesEach, Variable, variables, var
 use Rattle.derivation.specs.declared.event.Event.{Event}
 use Rattle.trail_search.specs.declared.step.Step.{Step}
 use Rattle.trail_search.specs.declared.step.Step.TheVariants.{Found, Ended, Budget, Memory}
-use Rattle.trail_search.specs.Next.{Quest, Answers, AsBefore, IsSound}
+use Rattle.trail_search.specs.Next.{SearchView, Answers, AsBefore, IsSound}
 use Rattle.trail_search.specs.Walker.{Position, tree_of, depth, path, SameWalk, IsWell, IsReady, ReadyFor, StandsFor, StandsAt, GoesOnAs}
 use Rattle.trail_search.proofs.Standing.{tree_same, path_length}
 
@@ -30,7 +30,7 @@ whole_path k q w h = ap (λ (m : ℕ). take m q.values) (h ∙ sym w.values) ∙
 -- ---- the answers
 
 -- the answer that a full member was found
-pub found_answer : (cs : List Cond) (k n : ℕ) (p q : Position) (a b : Quest) → SameWalk p q → IsWell k q → a.walk ≡ tree_of cs p → b.walk ≡ tree_of cs q → a.walked ≡ p.walked → a.budget ≡ n → b.walked ≡ q.walked → b.layout ≡ Some q.values → b.over ≡ None → GoesOnAs cs n p Found q → Answers a Found b
+pub found_answer : (cs : List Cond) (k n : ℕ) (p q : Position) (a b : SearchView) → SameWalk p q → IsWell k q → a.walk ≡ tree_of cs p → b.walk ≡ tree_of cs q → a.walked ≡ p.walked → a.budget ≡ n → b.walked ≡ q.walked → b.layout ≡ Some q.values → b.over ≡ None → GoesOnAs cs n p Found q → Answers a Found b
 found_answer cs k n p q a b s x e f m g y l o t =
     let w = t.0 in
     let h = t.2 in
@@ -49,7 +49,7 @@ found_answer cs k n p q a b s x e f m g y l o t =
     )
 
 -- the answer that the walk is used up
-pub ended_answer : (cs : List Cond) (n : ℕ) (p q : Position) (a b : Quest) → a.walk ≡ tree_of cs p → b.walk ≡ tree_of cs p → a.walked ≡ p.walked → a.budget ≡ n → b.walked ≡ q.walked → b.over ≡ Some Ended → GoesOnAs cs n p Ended q → Answers a Ended b
+pub ended_answer : (cs : List Cond) (n : ℕ) (p q : Position) (a b : SearchView) → a.walk ≡ tree_of cs p → b.walk ≡ tree_of cs p → a.walked ≡ p.walked → a.budget ≡ n → b.walked ≡ q.walked → b.over ≡ Some Ended → GoesOnAs cs n p Ended q → Answers a Ended b
 ended_answer cs n p q a b e f m g y o t =
     let w = t.0 in
     let h = t.2 in
@@ -64,7 +64,7 @@ ended_answer cs n p q a b e f m g y o t =
     )
 
 -- the answer that the budget is used up
-pub budget_answer : (cs : List Cond) (n : ℕ) (p q : Position) (a b : Quest) → a.walk ≡ tree_of cs p → b.walk ≡ tree_of cs p → a.walked ≡ p.walked → a.budget ≡ n → b.walked ≡ q.walked → b.over ≡ Some Budget → GoesOnAs cs n p Budget q → Answers a Budget b
+pub budget_answer : (cs : List Cond) (n : ℕ) (p q : Position) (a b : SearchView) → a.walk ≡ tree_of cs p → b.walk ≡ tree_of cs p → a.walked ≡ p.walked → a.budget ≡ n → b.walked ≡ q.walked → b.over ≡ Some Budget → GoesOnAs cs n p Budget q → Answers a Budget b
 budget_answer cs n p q a b e f m g y o t =
     let w = t.0 in
     let h = t.2 in
@@ -79,7 +79,7 @@ budget_answer cs n p q a b e f m g y o t =
     )
 
 -- a search that is not over, as its answer sees it
-pub as_before : (a b : Quest) (s : Step) → a.over ≡ None → Answers a s b → AsBefore a.over a s b
+pub as_before : (a b : SearchView) (s : Step) → a.over ≡ None → Answers a s b → AsBefore a.over a s b
 as_before a b s e h = subst (λ (o : Option Step). AsBefore o a s b) (sym e) h
 
 -- the depth of a search that is ready

@@ -20,16 +20,13 @@ use Rattle.whole_derivation.proofs.Completing.{completes_led, closes_derives, sp
 use Rattle.trail_search.specs.Cursor.{HasAfter, HasDimension, IsValueOf}
 use Rattle.trail_search.specs.Variables.{half_of, split_of}
 use Rattle.trail_search.specs.Walker.{Position, SameWalk, depth}
-use Rattle.trail_search.specs.Record.{with_first, with_later, Level, level, HasLater, later_case, ClosesCase, IsClosedRecord, IsRecord, SettlesRecord, RecordsCases, IsFixedTo, IsUnmoved}
+use Rattle.trail_search.specs.Record.{with_first, with_later, Level, level, HasLater, later_case, levels_below, open_levels, ClosesCase, ClosesWith, IsClosedRecord, IsRecord, SettlesRecord, RecordsCases, IsFixedTo, IsUnmoved}
 
 -- only the levels below the number matter
-closes_as : (cs : List Cond) (first : State) (l m : ℕ → Level) (n : ℕ) (es : List Event) → ((i : ℕ) → i < n → l i ≡ m i) → ClosesCase cs first l n es → ClosesCase cs first m n es
-closes_as cs first l m zero es e h = h
-closes_as cs first l m (suc n) es e h =
-    let below : (i : ℕ) → i < n → l i ≡ m i = λ i b. e i (omega (arith, b)) in
-    subst (λ (k : Level). IsFirstValue k.restores k.variable k.value × (HasLater k → (fs : List Event) → IsDerivation cs (later_case k) fs → ClosesCase cs first m n (es ++ fs)) × ((HasLater k → ⊥) → ClosesCase cs first m n es))
-    (e n (omega arith))
-    (h.0, λ y fs d. closes_as cs first l m n (es ++ fs) below (h.1 y fs d), λ y. closes_as cs first l m n es below (h.2 y))
+levels_as : (p q : Position) (n : ℕ) → ((i : ℕ) → i < n → level p i ≡ level q i) → levels_below p n ≡ levels_below q n
+levels_as p q zero e = refl
+levels_as p q (suc n) e =
+    ap (λ (l : Level). l ∷ levels_below p n) (e n (omega arith)) ∙ ap (λ (ls : List Level). level q n ∷ ls) (levels_as p q n (λ i b. e i (omega (arith, b))))
 
 abbrev level_of : State → Variable → ℤ → Level
 level_of G x v = record { restores = G; variable = x; value = v }
@@ -49,11 +46,17 @@ pub record SameLevels (p q : Position) : Type 0 where
 same_levels : (p q : Position) → SameLevels p q → (i : ℕ) → level p i ≡ level q i
 same_levels p q s i = level_is (ap (λ (r : List State). get_or r i []) (sym s.restores)) (ap (λ (x : List Variable). get_or x i (PlaceOf 0)) (sym s.variables)) (ap (λ (v : List ℤ). get_or v i (pos 0)) (sym s.values))
 
+open_same : (p q : Position) → SameLevels p q → open_levels p ≡ open_levels q
+open_same p q s = levels_as p q (depth p) (λ i b. same_levels p q s i) ∙ ap (λ (r : List State). levels_below q (length r)) (sym s.restores)
+
 closed_as : (cs : List Cond) (p q : Position) (es : List Event) → SameLevels p q → IsClosedRecord cs p es → IsClosedRecord cs q es
 closed_as cs p q es s h =
-    subst (λ (n : ℕ). ClosesCase cs q.first (level q) n es) (sym (ap length s.restores))
-    (subst (λ (S : State). ClosesCase cs S (level q) (depth p) es) (sym s.first)
-    (closes_as cs p.first (level p) (level q) (depth p) es (λ i b. same_levels p q s i) h))
+    subst (λ (S : State). ClosesCase cs S (open_levels q) es) (sym s.first)
+    (subst (λ (ls : List Level). ClosesCase cs p.first ls es) (open_same p q s) h)
+
+-- the same levels and the same state
+pub record_as : (cs : List Cond) (p q : Position) (es : List Event) → SameLevels p q → q.trail.state ≡ p.trail.state → IsRecord cs p es → IsRecord cs q es
+record_as cs p q es s e h = λ fs d. closed_as cs p q (es ++ fs) s (h fs (subst (λ (S : State). IsDerivation cs S fs) e d))
 
 -- ---- a settle
 
@@ -131,16 +134,17 @@ module _ (p q : Position) (x : Variable) (u : ℤ) (o : Opens p q x u) where
       (sym (ap (λ (ys : List Variable). get_or ys i (PlaceOf 0)) o.variables))
       (sym (ap (λ (vs : List ℤ). get_or vs i (pos 0)) o.values ∙ get_or-set_other p.values (depth p) i u (pos 0) (omega (arith, b))))
 
+  opened_levels : open_levels q ≡ level_of p.trail.state x u ∷ open_levels p
+  opened_levels =
+      ap (levels_below q) opened_depth ∙ ap (λ (l : Level). l ∷ levels_below q (depth p)) (sym opened_last)
+      ∙ ap (λ (ls : List Level). level_of p.trail.state x u ∷ ls) (sym (levels_as p q (depth p) opened_below))
+
   -- with the last level's case closed, and the other one open where there is one
   opened_closes : (cs : List Cond) (es : List Event) → IsFirstValue p.trail.state x u → (HasAfter p.trail.state x u → (fs : List Event) → IsDerivation cs (with_later x u p.trail.state) fs → IsClosedRecord cs p (es ++ fs))
       → ((HasAfter p.trail.state x u → ⊥) → IsClosedRecord cs p es) → IsClosedRecord cs q es
   opened_closes cs es f later none =
-      let below : (gs : List Event) → IsClosedRecord cs p gs → ClosesCase cs q.first (level q) (depth p) gs = λ gs h.
-      subst (λ (S : State). ClosesCase cs S (level q) (depth p) gs) (sym o.first) (closes_as cs p.first (level p) (level q) (depth p) gs opened_below h) in
-      subst (λ (n : ℕ). ClosesCase cs q.first (level q) n es) (sym opened_depth)
-      (subst (λ (k : Level). IsFirstValue k.restores k.variable k.value × (HasLater k → (fs : List Event) → IsDerivation cs (later_case k) fs → ClosesCase cs q.first (level q) (depth p) (es ++ fs)) × ((HasLater k → ⊥) → ClosesCase cs q.first (level q) (depth p) es))
-      opened_last
-      (f, λ y fs d. below (es ++ fs) (later y fs d), λ y. below es (none y)))
+      subst (λ (S : State). ClosesCase cs S (open_levels q) es) (sym o.first)
+      (subst (λ (ls : List Level). ClosesCase cs p.first ls es) (sym opened_levels) (f, later, none))
 
   pub opened_record : (cs : List Cond) (old new : List Event) → IsFirstValue p.trail.state x u → HalfFits p.trail.state (object_of x) (half_of x u) → IsFixedTo p.trail.state x u q.trail.state → RecordsCases p.trail.state x u old new → IsRecord cs p old → IsRecord cs q new
   opened_record cs old new f fits fixed cases r = λ fs d. opened_closes cs (new ++ fs) f
@@ -173,18 +177,19 @@ module _ (p q : Position) (G : State) (x : Variable) (u : ℤ) (s : Shuts p q G 
       (get_or_default p.variables (depth q) (PlaceOf 0) x s.number ∙ s.variable)
       (sym s.value)
 
-  shut_below : (gs : List Event) → ClosesCase cs p.first (level p) (depth q) gs → IsClosedRecord cs q gs
-  shut_below gs h = subst (λ (S : State). ClosesCase cs S (level q) (depth q) gs) (sym s.first) (closes_as cs p.first (level p) (level q) (depth q) gs (λ i b. level_is
+  shut_levels : open_levels p ≡ level_of G x u ∷ open_levels q
+  shut_levels =
+      ap (levels_below p) shut_depth ∙ ap (λ (l : Level). l ∷ levels_below p (depth q)) shut_last
+      ∙ ap (λ (ls : List Level). level_of G x u ∷ ls) (levels_as p q (depth q) (λ i b. level_is
       (ap (λ (r : List State). get_or r i []) s.restores ∙ get_or_append_left q.trail.restores (G ∷ []) [] i b)
       (ap (λ (ys : List Variable). get_or ys i (PlaceOf 0)) (sym s.variables))
-      (ap (λ (vs : List ℤ). get_or vs i (pos 0)) (sym s.values))) h)
+      (ap (λ (vs : List ℤ). get_or vs i (pos 0)) (sym s.values))))
 
   -- the last case is closed, so the rest of its level is open where there is one, and else closed
   shut_parts : IsClosedRecord cs p es → IsFirstValue G x u × (HasAfter G x u → (fs : List Event) → IsDerivation cs (with_later x u G) fs → IsClosedRecord cs q (es ++ fs)) × ((HasAfter G x u → ⊥) → IsClosedRecord cs q es)
   shut_parts h =
-      let t = subst (λ (k : Level). IsFirstValue k.restores k.variable k.value × (HasLater k → (fs : List Event) → IsDerivation cs (later_case k) fs → ClosesCase cs p.first (level p) (depth q) (es ++ fs)) × ((HasLater k → ⊥) → ClosesCase cs p.first (level p) (depth q) es))
-      shut_last (subst (λ (n : ℕ). ClosesCase cs p.first (level p) n es) shut_depth h) in
-      (t.0, λ y fs d. shut_below (es ++ fs) (t.1 y fs d), λ y. shut_below es (t.2 y))
+      subst (λ (S : State). ClosesCase cs S (level_of G x u ∷ open_levels q) es) (sym s.first)
+      (subst (λ (ls : List Level). ClosesCase cs p.first ls es) shut_levels h)
 
   pub shut_later : HasAfter G x u → (IsFirstValue G x u → q.trail.state ≡ with_later x u G) → IsClosedRecord cs p es → IsRecord cs q es
   shut_later y e h = let t = shut_parts h in λ fs d. t.1 y fs (subst (λ (S : State). IsDerivation cs S fs) (e t.0) d)
@@ -196,8 +201,8 @@ module _ (p q : Position) (G : State) (x : Variable) (u : ℤ) (s : Shuts p q G 
 
 pub record_start : (cs : List Cond) (p : Position) (es : List Event) → IsUnmoved p → es ≡ [] → IsRecord cs p es
 record_start cs p es u e = λ fs d.
-    subst (λ (n : ℕ). ClosesCase cs p.first (level p) n (es ++ fs)) (sym (ap length u.restores))
+    subst (λ (r : List State). ClosesCase cs p.first (levels_below p (length r)) (es ++ fs)) (sym u.restores)
     (subst (λ (gs : List Event). IsDerivation cs p.first (gs ++ fs)) (sym e) (subst (λ (S : State). IsDerivation cs S fs) u.state d))
 
-pub record_end : (cs : List Cond) (p r : Position) (es : List Event) → r.first ≡ p.first → depth r ≡ 0 → IsClosedRecord cs r es → IsDerivation cs p.first es
-record_end cs p r es f d h = subst (λ (S : State). IsDerivation cs S es) f (subst (λ (n : ℕ). ClosesCase cs r.first (level r) n es) d h)
+pub record_end : (cs : List Cond) (p : Position) (es : List Event) → depth p ≡ 0 → IsClosedRecord cs p es → IsDerivation cs p.first es
+record_end cs p es d h = subst (λ (n : ℕ). ClosesCase cs p.first (levels_below p n) es) d h

@@ -43,22 +43,47 @@ HasLater l = HasAfter l.restores l.variable l.value
 abbrev pub later_case : Level → State
 later_case l = with_later l.variable l.value l.restores
 
--- With that many open levels, the case that the last one has fixed is closed by the events. Where it has a second case, a derivation of
--- that closes what the level restores; where it has none, that is closed already. Without levels the first state is closed.
-abbrev pub ClosesCase : List Cond → State → (ℕ → Level) → ℕ → List Event → Type 0
-ClosesCase cs first levels zero es = IsDerivation cs first es
-ClosesCase cs first levels (suc m) es =
-    IsFirstValue (levels m).restores (levels m).variable (levels m).value
-    × (HasLater (levels m) → (fs : List Event) → IsDerivation cs (later_case (levels m)) fs → ClosesCase cs first levels m (es ++ fs))
-    × ((HasLater (levels m) → ⊥) → ClosesCase cs first levels m es)
+-- the first levels of that number, the last one first
+abbrev pub levels_below : Position → ℕ → List Level
+levels_below p zero = []
+levels_below p (suc m) = level p m ∷ levels_below p m
+
+-- the open levels
+abbrev pub open_levels : Position → List Level
+open_levels p = levels_below p (depth p)
+
+-- With these open levels, the last one first, the case that the last one has fixed is closed by the events. Where it has a second case, a
+-- derivation of that closes what the level restores; where it has none, that is closed already. Without levels the first state is closed.
+abbrev pub ClosesCase : List Cond → State → List Level → List Event → Type 0
+ClosesCase cs first [] es = IsDerivation cs first es
+ClosesCase cs first (l ∷ ls) es =
+    IsFirstValue l.restores l.variable l.value
+    × (HasLater l → (fs : List Event) → IsDerivation cs (later_case l) fs → ClosesCase cs first ls (es ++ fs))
+    × ((HasLater l → ⊥) → ClosesCase cs first ls es)
+
+-- with a derivation of the state S behind them, the events close the last case
+abbrev pub ClosesWith : List Cond → State → List Level → State → List Event → Type 0
+ClosesWith cs first levels S es = (fs : List Event) → IsDerivation cs S fs → ClosesCase cs first levels (es ++ fs)
 
 -- the events of a search that stands there close its last case
 abbrev pub IsClosedRecord : List Cond → Position → List Event → Type 0
-IsClosedRecord cs p es = ClosesCase cs p.first (level p) (depth p) es
+IsClosedRecord cs p es = ClosesCase cs p.first (open_levels p) es
 
 -- the events of a search that stands there: with a derivation of its state behind them they close its last case
 abbrev pub IsRecord : List Cond → Position → List Event → Type 0
-IsRecord cs p es = (fs : List Event) → IsDerivation cs p.trail.state fs → IsClosedRecord cs p (es ++ fs)
+IsRecord cs p es = ClosesWith cs p.first (open_levels p) p.trail.state es
+
+-- The events of a search behind its answer: where it has ended, they are a derivation of its first state; and where it stands in S below
+-- open levels, they close the last case with a derivation of S behind them.
+abbrev pub RecordsAnswer : List Cond → State → List Level → State → Step → List Event → Type 0
+RecordsAnswer cs first levels S Found es = ClosesWith cs first levels S es
+RecordsAnswer cs first levels S Budget es = ClosesWith cs first levels S es
+RecordsAnswer cs first levels S Ended es = IsDerivation cs first es
+RecordsAnswer cs first levels S Memory es = Unit {0}
+
+-- the same by where it stands
+abbrev pub RecordsStep : List Cond → Position → Step → List Event → Type 0
+RecordsStep cs p s es = RecordsAnswer cs p.first (open_levels p) p.trail.state s es
 
 -- what a settle makes of the record
 abbrev pub SettlesRecord : List Cond → Settled → Position → List Event → Type 0
@@ -78,11 +103,7 @@ pub record IsUnmoved (p : Position) : Type 0 where
   pub state : p.trail.state ≡ p.first
   pub restores : p.trail.restores ≡ []
 
--- the events of a search that found nothing so far: before it is over it has none and has not set off, and where it has ended they are
--- a derivation of its first state
+-- the events of a search that found nothing so far: before it is over it has none and has not set off
 abbrev pub Derives : List Cond → Position → Option Step → List Event → Type 0
 Derives cs p None es = IsUnmoved p × (es ≡ [])
-Derives cs p (Some Ended) es = IsDerivation cs p.first es
-Derives cs p (Some Found) es = Unit {0}
-Derives cs p (Some Budget) es = Unit {0}
-Derives cs p (Some Memory) es = Unit {0}
+Derives cs p (Some s) es = RecordsStep cs p s es

@@ -7,7 +7,7 @@ ghost use Rattle.geo_conditions.specs.Conditions.{AllFit};
 ghost use Rattle.geo_conditions.specs.Reach.{Tuple, TupleIn, spot};
 ghost use Rattle.geo_conditions.specs.Walk.{NamesEach, variables_in, values};
 ghost use Rattle.geo_state.specs.Trail.{IsSmall};
-ghost use Rattle.trail_search.specs.Next.{Steps, HasDerived, HasFound, is_found};
+ghost use Rattle.trail_search.specs.Next.{Steps, HasRecorded, HasFound, is_found};
 
 use super::start::start_walker;
 use super::step::Step;
@@ -36,12 +36,13 @@ pub struct Search<const K: usize, P: Propagate<K>, R: Recorder> {
 }
 
 impl<const K: usize, P: Propagate<K>, R: Recorder> Model for Search<K, P, R> {
-    ghost use Rattle.trail_search.specs.Next.{Quest, layout_when, IsSound};
+    ghost use Rattle.trail_search.specs.Next.{SearchView, layout_when, IsSound};
+    ghost use Rattle.trail_search.specs.Record.{open_levels};
     ghost use Rattle.trail_search.specs.Walker.{tree_of};
     ghost use Rattle.geo_conditions.specs.contracts.cond.Cond as e;
     ghost use Rattle.std.specs.Coded.{codes};
 
-    ghost Value = { Quest };
+    ghost Value = { SearchView };
 
     ghost coded = { Prim.hlevel (codes, e.the_row.coded) };
 
@@ -55,6 +56,8 @@ impl<const K: usize, P: Propagate<K>, R: Recorder> Model for Search<K, P, R> {
       began_empty = s.began_empty;
       events = R.list s.rec;
       refusals = R.refusals s.rec;
+      state = s.walker.trail.state;
+      levels = open_levels s.walker;
     } };
 
     ghost invariant = { λ s. IsSound K R.keeps (P.conditions s.prop) (P.objects s.prop)
@@ -118,8 +121,11 @@ impl<const K: usize, P: Propagate<K> + Drop, R: Recorder + Drop> Search<K, P, R>
 
 impl<const K: usize, P: Propagate<K>, R: Recorder> Search<K, P, R> {
     /// Goes on to the next layout. With a recorder that keeps no list it never wants memory. Where
-    /// the walk without a token is used up and had no layout, and the recorder's list was empty at
-    /// the start, the events in it are one derivation, which is valid on the first state.
+    /// there is no token, no layout was found before and the recorder's list was empty at the start,
+    /// the events in it name the splits and settles so far: with a derivation of the state in which
+    /// the search stands behind them, they close its open levels; and where the walk is used up,
+    /// they are one derivation, which is valid on the first state. Behind a layout that was found
+    /// the walk goes on without closing it.
     pub fn next(&mut self) -> Step
         requires k { K ≤ MAX_DIMS }
         ensures steps { Steps self.old result self.new }
@@ -129,8 +135,9 @@ impl<const K: usize, P: Propagate<K>, R: Recorder> Search<K, P, R> {
         ensures events { R.keeps ≡ true → Continues self.old.events self.new.events }
         ensures refusals { self.old.refusals ≤ self.new.refusals }
         ensures no_record { R.keeps ≡ false → result ≢ Step.Memory }
-        ensures derived { R.keeps ≡ true → result ≡ Step.Ended → self.new.some_found ≡ false
-            → self.old.began_empty ≡ true → self.old.walk.after ≡ None → HasDerived self.new }
+        ensures recorded { R.keeps ≡ true → self.old.some_found ≡ false
+            → self.old.began_empty ≡ true → self.old.walk.after ≡ None
+            → HasRecorded result self.new }
     {
         if let Some(step) = self.over {
             return step;

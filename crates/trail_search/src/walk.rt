@@ -2,8 +2,7 @@ ghost use Rattle.std.specs.Prelude.{◌≡◌, ℕ, ℤ, ◌≤◌, ◌<◌, tru
 ghost use Rattle.std.specs.List.{All};
 ghost use Rattle.derivation.specs.Events.{Growth};
 ghost use Rattle.geo_conditions.specs.Conditions.{FitsIn};
-ghost use Rattle.whole_derivation.specs.Whole.{IsDerivation};
-ghost use Rattle.trail_search.specs.Record.{IsRecord, IsUnmoved};
+ghost use Rattle.trail_search.specs.Record.{IsRecord, IsUnmoved, RecordsStep};
 ghost use Rattle.trail_search.specs.Walker.{IsWell, SameWalk, depth, Searches, Walks, is_answer, GoesOnAs, IsReady, StandsAt};
 
 use super::step::Step;
@@ -33,9 +32,9 @@ fn walk<const K: usize, P: Propagate<K>, R: Recorder>(
         (R.refusals rec.new) (is_answer result) }
     ensures walks { (w : List (List ℤ)) → Searches (P.conditions prop.old) walker.old w
         → Walks (P.conditions prop.old) budget walker.old w result walker.new }
-    ensures ended { result ≡ Step.Ended → R.keeps ≡ true → walker.old.token ≡ None
+    ensures recorded { R.keeps ≡ true → walker.old.token ≡ None
         → IsRecord (P.conditions prop.old) walker.old (R.list rec.old)
-        → IsDerivation (P.conditions prop.old) walker.old.first (R.list rec.new) }
+        → RecordsStep (P.conditions prop.old) walker.new result (R.list rec.new) }
 {
     loop {
         match walker.settle(prop, rec) {
@@ -87,9 +86,9 @@ fn walk_empty<const K: usize, P: Propagate<K>, R: Recorder>(
         (R.refusals rec.new) (is_answer result) }
     ensures walks { IsReady (P.conditions prop.old) walker.old found
         → GoesOnAs (P.conditions prop.old) budget walker.old result walker.new }
-    ensures ended { result ≡ Step.Ended → R.keeps ≡ true → found ≡ false
-        → walker.old.token ≡ None → IsUnmoved walker.old → R.list rec.old ≡ []
-        → IsDerivation (P.conditions prop.old) walker.old.first (R.list rec.new) }
+    ensures recorded { R.keeps ≡ true → found ≡ false → walker.old.token ≡ None
+        → IsUnmoved walker.old → R.list rec.old ≡ []
+        → RecordsStep (P.conditions prop.old) walker.new result (R.list rec.new) }
 {
     if found {
         return Step::Ended;
@@ -133,9 +132,9 @@ pub fn go_on<const K: usize, P: Propagate<K>, R: Recorder>(
         (R.refusals rec.new) (is_answer result) }
     ensures walks { IsReady (P.conditions prop.old) walker.old found
         → GoesOnAs (P.conditions prop.old) budget walker.old result walker.new }
-    ensures ended { result ≡ Step.Ended → R.keeps ≡ true → found ≡ false
-        → walker.old.token ≡ None → IsUnmoved walker.old → R.list rec.old ≡ []
-        → IsDerivation (P.conditions prop.old) walker.old.first (R.list rec.new) }
+    ensures recorded { R.keeps ≡ true → found ≡ false → walker.old.token ≡ None
+        → IsUnmoved walker.old → R.list rec.old ≡ []
+        → RecordsStep (P.conditions prop.old) walker.new result (R.list rec.new) }
 {
     if walker.is_bare() {
         return walk_empty(prop, rec, walker, budget, found);

@@ -1,7 +1,8 @@
-use Rattle.std.proofs.Common.{◌≡◌, ◌==◌, ◌||◌, Bool, true, false, List, ap, length, ◌∙◌, arith, refl}
+use Rattle.std.proofs.Common.{◌≡◌, ◌==◌, true, List, ap, length, ◌∙◌, arith, refl, subst}
 use Rattle.geo_conditions.specs.Walk.{Tree}
 use Rattle.derivation.specs.declared.event.Event.{Event}
-use Rattle.trail_search.specs.Next.{is_found}
+use Rattle.trail_search.specs.declared.step.Step.{Step}
+use Rattle.trail_search.specs.Next.{HasRecorded}
 use Rattle.layout_search.proofs.Outcomes.{first-tuple, first-lists, first-finds, none-lists, none-finds, none-derives, spent-lists}
 use Rattle.layout_search.proofs.first.search_in.Goals as goal
 
@@ -85,8 +86,8 @@ pub returns-in-Ended-clause-derivation : goal.returns-in-Ended-clause-derivation
 returns-in-Ended-clause-derivation g c =
     let a = c.in_ok-search.search in
     let b = c.next.new.self in
-    let none : b.some_found ≡ false = c.next.ensures.some_found ∙ ap (λ (x : Bool). x || is_found c.next.result) c.in_ok-search.ensures.some_found ∙ ap is_found c.in-Ended.is in
-    let empty : a.began_empty ≡ true = c.in_ok-search.ensures.began_empty refl ∙ ap (λ (es : List Event). length es == 0) c.new-record.ensures.events in (
+    let empty : a.began_empty ≡ true = c.in_ok-search.ensures.began_empty refl ∙ ap (λ (es : List Event). length es == 0) c.new-record.ensures.events in
+    let recorded : HasRecorded c.next.result b = c.next.ensures.recorded refl c.in_ok-search.ensures.some_found empty (ap (λ (W : Tree). W.after) c.in_ok-search.ensures.walk) in (
       none-derives c.args.problem.now c.args.conditions.items c.args.budget c.in_ok-search.search c.next.new.self (record {
         well = c.is_said.ensures.formed;
         are = c.requires.conditions;
@@ -96,6 +97,6 @@ returns-in-Ended-clause-derivation g c =
         over = c.in_ok-search.ensures.over;
         steps = c.in-Ended.ensures.steps;
       })
-          c.into_recorder.result.events c.into_recorder.ensures.events (c.next.ensures.derived refl c.in-Ended.is none empty (ap (λ (W : Tree). W.after) c.in_ok-search.ensures.walk)),
+          c.into_recorder.result.events c.into_recorder.ensures.events (subst (λ (x : Step). HasRecorded x b) c.in-Ended.is recorded),
       c.requires.few,
     )

@@ -5,7 +5,6 @@ use Rattle.trail_search.specs.Walker.{Position, SameWalk, Searches, IsReady}
 use Rattle.trail_search.proofs.Resuming.{walks_from, ready_before, ready_after, resumed_ended}
 use Rattle.derivation.proofs.Continuing.{growth_none}
 use Rattle.std.proofs.Common.{None}
-use Rattle.whole_derivation.specs.Whole.{IsDerivation}
 use Rattle.trail_search.specs.Record.{IsRecord}
 use Rattle.trail_search.proofs.Recording.{record_start}
 use Rattle.trail_search.proofs.walk.go_on.Goals as goal
@@ -42,19 +41,18 @@ returns-then-not-retreat-clause-grows g c = growth_none _ _ _
 pub returns-clause-grows : goal.returns-clause-grows
 returns-clause-grows g c = c.walk.ensures.grows
 
-pub returns-then-is_bare-clause-ended : goal.returns-then-is_bare-clause-ended
-returns-then-is_bare-clause-ended g c = c.walk_empty.ensures.ended
+pub returns-then-is_bare-clause-recorded : goal.returns-then-is_bare-clause-recorded
+returns-then-is_bare-clause-recorded g c = c.walk_empty.ensures.recorded
 
-pub returns-then-not-retreat-clause-ended : goal.returns-then-not-retreat-clause-ended
-returns-then-not-retreat-clause-ended g c = λ e k f. absurd (false≢true (sym f ∙ c.if-found.true))
+pub returns-then-not-retreat-clause-recorded : goal.returns-then-not-retreat-clause-recorded
+returns-then-not-retreat-clause-recorded g c = λ k f. absurd (false≢true (sym f ∙ c.if-found.true))
 
-pub returns-clause-ended : goal.returns-clause-ended
-returns-clause-ended g c = λ e k f t u n.
+pub returns-clause-recorded : goal.returns-clause-recorded
+returns-clause-recorded g c = λ k f t u n.
     let cs = g.P.Propagate.conditions c.args.prop.now in
     let p = c.args.walker.now in
     elim c.else-found.branch [
       | else-found-via-then-found+else-not-retreat w ↦ absurd (false≢true (sym f ∙ w.if-found.true))
       | else-found-via-else-found w ↦
-          subst (λ (q : Position). IsDerivation cs q.first (g.R.Recorder.list c.walk.new.rec)) w.walker-is
-          (c.walk.ensures.ended e k (ap (λ (q : Position). q.token) w.walker-is ∙ t) (subst (λ (q : Position). IsRecord cs q (g.R.Recorder.list c.args.rec.now)) (sym w.walker-is) (record_start cs p (g.R.Recorder.list c.args.rec.now) u n)))
+          c.walk.ensures.recorded k (ap (λ (q : Position). q.token) w.walker-is ∙ t) (subst (λ (q : Position). IsRecord cs q (g.R.Recorder.list c.args.rec.now)) (sym w.walker-is) (record_start cs p (g.R.Recorder.list c.args.rec.now) u n))
     ]

@@ -122,11 +122,26 @@ returns-then-is_err-clause-grows g c = growth_on (growth_on c.loop-walker.invari
 pub returns-then-is_full-clause-grows : goal.returns-then-is_full-clause-grows
 returns-then-is_full-clause-grows g c = growth_on (growth_on c.loop-walker.invariant.3 c.in-Ok-Kept.ensures.grows) (growth_succeeded _ c.record_split.ensures.grows (sym c.is_err.ensures.value ∙ c.if-is_err.false))
 
-pub returns-then-not-retreat-clause-ended : goal.returns-then-not-retreat-clause-ended
-returns-then-not-retreat-clause-ended g c = λ e k t r.
+pub returns-then-not-retreat-clause-recorded : goal.returns-then-not-retreat-clause-recorded
+returns-then-not-retreat-clause-recorded g c = λ k t r.
     let i = c.loop-walker.invariant in
     let cs = g.P.Propagate.conditions c.args.prop.now in
     let es = g.R.Recorder.list c.settle.new.rec in
     let closed = dead_record (g.P.Propagate.conditions c.loop-walker.prop) cs c.in-Ok-Dead.field-0 c.loop-walker.walker c.settle.new.self (g.R.Recorder.list c.loop-walker.rec) es i.1 c.in-Ok-Dead.field-0-is (c.in-Ok-Dead.ensures.record k) (i.4 k t r) in
     let left = subst (λ (b : Bool). MatchBool b (IsRecord cs c.retreat.new.self es) (IsClosedRecord cs c.retreat.new.self es)) c.if-not-retreat.true (c.retreat.ensures.record cs es closed) in
-    record_end cs c.args.walker.now c.retreat.new.self es (c.retreat.ensures.same.first ∙ c.settle.ensures.same.first ∙ i.0.same.first) (c.retreat.ensures.none c.if-not-retreat.true) left
+    record_end cs c.retreat.new.self es (c.retreat.ensures.none c.if-not-retreat.true) left
+
+pub returns-then-count-budget-clause-recorded : goal.returns-then-count-budget-clause-recorded
+returns-then-count-budget-clause-recorded g c = λ k t r.
+    let i = c.loop-walker.invariant in
+    let cs = g.P.Propagate.conditions c.args.prop.now in
+    kept_record (g.P.Propagate.conditions c.loop-walker.prop) cs c.in-Ok-Kept.field-0 c.loop-walker.walker c.settle.new.self (g.R.Recorder.list c.loop-walker.rec) (g.R.Recorder.list c.settle.new.rec) i.1 c.in-Ok-Kept.field-0-is (c.in-Ok-Kept.ensures.record k) (i.4 k t r)
+
+pub returns-then-is_full-clause-recorded : goal.returns-then-is_full-clause-recorded
+returns-then-is_full-clause-recorded g c = λ k t r.
+    let i = c.loop-walker.invariant in
+    let s = c.settle.new.self in
+    let cs = g.P.Propagate.conditions c.args.prop.now in
+    let kept = kept_record (g.P.Propagate.conditions c.loop-walker.prop) cs c.in-Ok-Kept.field-0 c.loop-walker.walker s (g.R.Recorder.list c.loop-walker.rec) (g.R.Recorder.list c.settle.new.rec) i.1 c.in-Ok-Kept.field-0-is (c.in-Ok-Kept.ensures.record k) (i.4 k t r) in
+    let cases = cases_of (g.R.Recorder.keeps ≡ true → RecordsCases s.trail.state (variable_of c.variable-x.result) _ (g.R.Recorder.list c.settle.new.rec) (g.R.Recorder.list c.record_split.new.rec)) c.record_split.result c.record_split.ensures.cases (sym c.is_err.ensures.value ∙ c.if-is_err.false) k in
+    c.descend.ensures.record (c.settle.ensures.same.token ∙ i.0.same.token ∙ t) cs (g.R.Recorder.list c.settle.new.rec) (g.R.Recorder.list c.record_split.new.rec) cases kept

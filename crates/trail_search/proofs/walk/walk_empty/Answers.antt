@@ -13,7 +13,7 @@ use Rattle.trail_search.proofs.Standing.{well_settled}
 use Rattle.trail_search.proofs.Bare.{settled_dead, settled_kept, no_token, bare_after_found, bare_after_token, bare_dead, bare_kept, bare_budget, bare_found}
 use Rattle.derivation.proofs.Continuing.{growth_none}
 use Rattle.std.proofs.Common.{length}
-use Rattle.trail_search.proofs.Recording.{dead_record, record_start, record_end}
+use Rattle.trail_search.proofs.Recording.{dead_record, kept_record, record_as, record_start, record_end}
 use Rattle.trail_search.proofs.walk.walk_empty.Goals as goal
 
 pub returns-then-found-clause-walks : goal.returns-then-found-clause-walks
@@ -74,15 +74,33 @@ returns-then-count-budget-clause-grows g c = c.in-Ok-Kept.ensures.grows
 pub returns-else-count-budget-clause-grows : goal.returns-else-count-budget-clause-grows
 returns-else-count-budget-clause-grows g c = c.in-Ok-Kept.ensures.grows
 
-pub returns-then-found-clause-ended : goal.returns-then-found-clause-ended
-returns-then-found-clause-ended g c = λ e k f. absurd (false≢true (sym f ∙ c.if-found.true))
+pub returns-then-found-clause-recorded : goal.returns-then-found-clause-recorded
+returns-then-found-clause-recorded g c = λ k f. absurd (false≢true (sym f ∙ c.if-found.true))
 
-pub returns-then-has_token-clause-ended : goal.returns-then-has_token-clause-ended
-returns-then-has_token-clause-ended g c = λ e k f t. absurd (c.has_token.ensures.0 c.if-has_token.true t)
+pub returns-then-has_token-clause-recorded : goal.returns-then-has_token-clause-recorded
+returns-then-has_token-clause-recorded g c = λ k f t. absurd (c.has_token.ensures.0 c.if-has_token.true t)
 
-pub returns-in-Ok-Dead-clause-ended : goal.returns-in-Ok-Dead-clause-ended
-returns-in-Ok-Dead-clause-ended g c = λ e k f t u n.
+pub returns-in-Ok-Dead-clause-recorded : goal.returns-in-Ok-Dead-clause-recorded
+returns-in-Ok-Dead-clause-recorded g c = λ k f t u n.
     let cs = g.P.Propagate.conditions c.args.prop.now in
     let p = c.args.walker.now in
     let closed = dead_record cs cs c.in-Ok-Dead.field-0 p c.settle.new.self (g.R.Recorder.list c.args.rec.now) (g.R.Recorder.list c.settle.new.rec) refl c.in-Ok-Dead.field-0-is (c.in-Ok-Dead.ensures.record k) (record_start cs p (g.R.Recorder.list c.args.rec.now) u n) in
-    record_end cs p c.settle.new.self (g.R.Recorder.list c.settle.new.rec) c.settle.ensures.same.first (c.settle.ensures.depth ∙ ap length u.restores) closed
+    record_end cs c.settle.new.self (g.R.Recorder.list c.settle.new.rec) (c.settle.ensures.depth ∙ ap length u.restores) closed
+
+pub returns-then-count-budget-clause-recorded : goal.returns-then-count-budget-clause-recorded
+returns-then-count-budget-clause-recorded g c = λ k f t u n.
+    let cs = g.P.Propagate.conditions c.args.prop.now in
+    let p = c.args.walker.now in
+    kept_record cs cs c.in-Ok-Kept.field-0 p c.settle.new.self (g.R.Recorder.list c.args.rec.now) (g.R.Recorder.list c.settle.new.rec) refl c.in-Ok-Kept.field-0-is (c.in-Ok-Kept.ensures.record k) (record_start cs p (g.R.Recorder.list c.args.rec.now) u n)
+
+pub returns-else-count-budget-clause-recorded : goal.returns-else-count-budget-clause-recorded
+returns-else-count-budget-clause-recorded g c = λ k f t u n.
+    let cs = g.P.Propagate.conditions c.args.prop.now in
+    let p = c.args.walker.now in
+    let s = c.settle.new.self in
+    let q = c.visit_empty.new.self in
+    let kept = kept_record cs cs c.in-Ok-Kept.field-0 p s (g.R.Recorder.list c.args.rec.now) (g.R.Recorder.list c.settle.new.rec) refl c.in-Ok-Kept.field-0-is (c.in-Ok-Kept.ensures.record k) (record_start cs p (g.R.Recorder.list c.args.rec.now) u n) in
+    let e : q.trail ≡ s.trail = c.visit_empty.ensures.trail in
+    record_as cs s q (g.R.Recorder.list c.settle.new.rec)
+    (record { first = c.visit_empty.ensures.same.first; variables = c.visit_empty.ensures.same.variables; values = c.visit_empty.ensures.values; restores = ap (λ (r : Trail). r.restores) e })
+    (ap (λ (r : Trail). r.state) e) kept
