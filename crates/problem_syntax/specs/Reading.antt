@@ -13,7 +13,7 @@ use Rattle.problem_data.specs.declared.tree.SideText.{SideText}
 use Rattle.problem_data.specs.declared.tree.ParamText.{ParamText}
 use Rattle.problem_data.specs.Marks.{int_firsts, side_words, param_words, statement_firsts}
 use Rattle.problem_data.specs.Tree.{BoxTree, BodyTree, means, equals, DemandTree, apart, within, plain, StatementTree, ProblemTree}
-use Rattle.problem_data.specs.Grammar.{plain_int, negative_int, range_text, box_tree, attribute_text, side_text, param_text, shape_tree, object_tree, order_tree, sides_tree, macro_tree, rule_tree, problem_tree}
+use Rattle.problem_data.specs.Grammar.{plain_int, negative_int, range_text, box_tree, attribute_text, side_text, param_text, shape_tree, object_tree, order_tree, sides_tree, macro_tree, rule_tree}
 
 -- ---- lists
 
@@ -26,6 +26,10 @@ next_at r w = token_at (symbol symbols.Comma) w >>= λ mark rest. r rest
 
 abbrev pub listed_at : {A : Type 0} → Reader A → Reader (List A)
 listed_at r w = r w >>= λ a rest. many_at (symbol symbols.Comma) (next_at r) rest >>= λ others last. Got (Some (a ∷ others)) last
+
+-- a semicolon behind what a statement says
+abbrev pub ended_at : StatementTree → Reader StatementTree
+ended_at s w = token_at (symbol symbols.Semicolon) w >>= λ e rest. Got (Some s) rest
 
 -- ---- numbers, ranges and boxes
 
@@ -59,7 +63,7 @@ unfoldable pub names_at : List ℕ → Reader (List PlacedName)
 names_at text = listed_at (named_at text)
 
 unfoldable pub shape_at : List ℕ → Reader StatementTree
-shape_at text w = token_at (word keywords.Shape) w >>= λ t w1. named_at text w1 >>= λ a w2. boxes_at w2 >>= λ bs w3. token_at (symbol symbols.Semicolon) w3 >>= λ e rest. Got (Some (shape_tree a bs)) rest
+shape_at text w = token_at (word keywords.Shape) w >>= λ t w1. named_at text w1 >>= λ a w2. boxes_at w2 >>= λ bs w3. ended_at (shape_tree a bs) w3
 
 unfoldable pub attribute_at : List ℕ → Reader AttributeText
 attribute_at text w = named_at text w >>= λ a w1. token_at (symbol symbols.Equal) w1 >>= λ e w2. int_at w2 >>= λ v rest. Got (Some (attribute_text a v)) rest
@@ -73,15 +77,18 @@ some_attributes_at text w = token_at (word keywords.With) w >>= λ t rest. attri
 unfoldable pub attributes_at : List ℕ → Reader (List AttributeText)
 attributes_at text = opt_at (word keywords.With) (some_attributes_at text) []
 
+-- the ranges and the attributes of an object with this name and these shapes
+abbrev pub object_rest_at : List ℕ → PlacedName → List PlacedName → Reader StatementTree
+object_rest_at text a ss w =
+    token_at (word keywords.At) w >>= λ v w1. ranges_at w1 >>= λ rs w2. attributes_at text w2 >>= λ vs w3. ended_at (object_tree a ss rs vs) w3
+
 unfoldable pub object_at : List ℕ → Reader StatementTree
 object_at text w =
     token_at (word keywords.Object) w >>= λ t w1. named_at text w1 >>= λ a w2.
-    token_at (word keywords.As) w2 >>= λ u w3. names_at text w3 >>= λ ss w4.
-    token_at (word keywords.At) w4 >>= λ v w5. ranges_at w5 >>= λ rs w6.
-    attributes_at text w6 >>= λ vs w7. token_at (symbol symbols.Semicolon) w7 >>= λ e rest. Got (Some (object_tree a ss rs vs)) rest
+    token_at (word keywords.As) w2 >>= λ u w3. names_at text w3 >>= λ ss w4. object_rest_at text a ss w4
 
 unfoldable pub order_at : List ℕ → Reader StatementTree
-order_at text w = token_at (word keywords.Order) w >>= λ t w1. names_at text w1 >>= λ ns w2. token_at (symbol symbols.Semicolon) w2 >>= λ e rest. Got (Some (order_tree t ns)) rest
+order_at text w = token_at (word keywords.Order) w >>= λ t w1. names_at text w1 >>= λ ns w2. ended_at (order_tree t ns) w2
 
 abbrev pub side_at : Reader SideText
 side_at w = token_at side_words w >>= λ t rest. Got (Some (side_text t)) rest
@@ -90,7 +97,7 @@ unfoldable pub side_list_at : Reader (List SideText)
 side_list_at = one_or_more_at side_words side_at
 
 unfoldable pub sides_at : Reader StatementTree
-sides_at w = token_at (word keywords.Sides) w >>= λ t w1. side_list_at w1 >>= λ ss w2. token_at (symbol symbols.Semicolon) w2 >>= λ e rest. Got (Some (sides_tree t ss)) rest
+sides_at w = token_at (word keywords.Sides) w >>= λ t w1. side_list_at w1 >>= λ ss w2. ended_at (sides_tree t ss) w2
 
 -- ---- macros and rules
 
@@ -115,10 +122,12 @@ equals_at text n w = token_at (word keywords.Is) w >>= λ t w1. expr_at text n w
 unfoldable pub body_at : List ℕ → ℕ → Reader BodyTree
 body_at text n = either_at (word keywords.Means) (means_at text n) (equals_at text n)
 
+-- what a macro with this name stands for
+abbrev pub macro_rest_at : List ℕ → ℕ → PlacedName → Reader StatementTree
+macro_rest_at text n a w = params_at text w >>= λ ps w1. body_at text n w1 >>= λ b w2. ended_at (macro_tree a ps b) w2
+
 unfoldable pub macro_at : List ℕ → ℕ → Reader StatementTree
-macro_at text n w =
-    token_at (word keywords.Macro) w >>= λ t w1. named_at text w1 >>= λ a w2. params_at text w2 >>= λ ps w3.
-    body_at text n w3 >>= λ b w4. token_at (symbol symbols.Semicolon) w4 >>= λ e rest. Got (Some (macro_tree a ps b)) rest
+macro_at text n w = token_at (word keywords.Macro) w >>= λ t w1. named_at text w1 >>= λ a w2. macro_rest_at text n a w2
 
 abbrev pub apart_at : Reader DemandTree
 apart_at w = token_at (word keywords.Apart) w >>= λ t rest. Got (Some apart) rest
@@ -132,10 +141,12 @@ plain_at text n w = formula_at text n w >>= λ f rest. Got (Some (plain f)) rest
 unfoldable pub demand_at : List ℕ → ℕ → Reader DemandTree
 demand_at text n = either_at (word keywords.Apart) apart_at (either_at (word keywords.Within) within_at (plain_at text n))
 
+-- what a rule with this name asks for
+abbrev pub rule_rest_at : List ℕ → ℕ → PlacedName → Reader StatementTree
+rule_rest_at text n a w = token_at (symbol symbols.Colon) w >>= λ c w1. demand_at text n w1 >>= λ d w2. ended_at (rule_tree a d) w2
+
 unfoldable pub rule_at : List ℕ → ℕ → Reader StatementTree
-rule_at text n w =
-    token_at (word keywords.Rule) w >>= λ t w1. named_at text w1 >>= λ a w2. token_at (symbol symbols.Colon) w2 >>= λ c w3.
-    demand_at text n w3 >>= λ d w4. token_at (symbol symbols.Semicolon) w4 >>= λ e rest. Got (Some (rule_tree a d)) rest
+rule_at text n w = token_at (word keywords.Rule) w >>= λ t w1. named_at text w1 >>= λ a w2. rule_rest_at text n a w2
 
 -- ---- the whole text
 
@@ -144,7 +155,12 @@ statement_at text n =
     either_at (word keywords.Shape) (shape_at text) (either_at (word keywords.Object) (object_at text) (either_at (word keywords.Order) (order_at text)
     (either_at (word keywords.Sides) sides_at (either_at (word keywords.Macro) (macro_at text n) (rule_at text n)))))
 
+-- the statements of a text with this version and this number of dimensions
+abbrev pub problem_rest_at : List ℕ → ℕ → Int → Int → Reader ProblemTree
+problem_rest_at text n v d w =
+    many_at statement_firsts (statement_at text n) w >>= λ ss w1. token_at (word keywords.End) w1 >>= λ e rest. Got (Some (record { version = v; dims = d; statements = ss })) rest
+
 unfoldable pub problem_at : List ℕ → ℕ → Reader ProblemTree
 problem_at text n w =
-    token_at (word keywords.Geost) w >>= λ a w1. token_at numbers w1 >>= λ v w2. token_at (word keywords.Dims) w2 >>= λ b w3. token_at numbers w3 >>= λ d w4.
-    many_at statement_firsts (statement_at text n) w4 >>= λ ss w5. token_at (word keywords.End) w5 >>= λ e rest. Got (Some (problem_tree v d ss)) rest
+    token_at (word keywords.Geost) w >>= λ a w1. token_at numbers w1 >>= λ v w2.
+    token_at (word keywords.Dims) w2 >>= λ b w3. token_at numbers w3 >>= λ d w4. problem_rest_at text n (plain_int v) (plain_int d) w4

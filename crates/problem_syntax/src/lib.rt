@@ -1,6 +1,7 @@
 //! From the tokens of a text to the statements that they spell, or to the first fault of its grammar.
 #![tactic(auto)]
 
+mod end;
 pub mod numbers;
 pub mod objects;
 pub mod order;

@@ -25,7 +25,7 @@ pub fn values(alloc: Global, numbers: &[Int]) -> Result<Vec<i64>, AllocError>
 }
 
 /// What a number token says.
-fn int_of(number: Token) -> Int
+pub fn int_of(number: Token) -> Int
     ensures { result ≡ plain_int number }
 {
     Int {
@@ -35,7 +35,7 @@ fn int_of(number: Token) -> Int
 }
 
 /// A number without a sign.
-pub fn plain_int(tokens: &[Token]) -> Result<(Int, &[Token]), Stop<'_>>
+fn plain_int(tokens: &[Token]) -> Result<(Int, &[Token]), Stop<'_>>
     ensures { Gives (λ i. i) result (plain_int_at tokens.now) }
 {
     let (number, rest) = token(tokens, Kind::Number(0))?;

@@ -3,9 +3,10 @@
 ghost use Rattle.std.specs.Prelude.{◌≡◌};
 ghost use Rattle.geo_tokens.specs.Gives.{Gives};
 ghost use Rattle.rule_syntax.specs.Reading.{named_at};
-ghost use Rattle.problem_syntax.specs.Reading.{next_at, box_at, boxes_at, shape_at, names_at, attribute_at, attribute_list_at, attributes_at, object_at};
+ghost use Rattle.problem_syntax.specs.Reading.{next_at, box_at, boxes_at, shape_at, names_at, attribute_at, attribute_list_at, attributes_at, object_rest_at, object_at};
 ghost use Rattle.problem_data.specs.View.{box_view, box_views, statement_view};
 
+use crate::end::ended;
 use crate::numbers::{int, ints, ranges};
 use geo_tokens::stop::{Stop, next_is, token};
 use geo_tokens::token::{Keyword, Kind, Sym, Token};
@@ -61,8 +62,7 @@ pub fn shape<'a>(
     let (_, rest) = token(tokens, Kind::Word(Keyword::Shape))?;
     let (name, rest) = placed_name(alloc, text, rest)?;
     let (boxes, rest) = boxes(alloc, rest)?;
-    let (_, rest) = token(rest, Kind::Symbol(Sym::Semicolon))?;
-    Ok((Statement::Shape(ShapeText { name, boxes }), rest))
+    ended(Statement::Shape(ShapeText { name, boxes }), rest)
 }
 
 /// A comma and a name.
@@ -160,6 +160,28 @@ fn attributes<'a>(
     attribute_list(alloc, text, rest)
 }
 
+/// What stands behind the shapes of an object.
+fn object_rest<'a>(
+    alloc: Global,
+    text: &[u8],
+    name: PlacedName,
+    shapes: Vec<PlacedName>,
+    tokens: &'a [Token],
+) -> Result<(Statement, &'a [Token]), Stop<'a>>
+    ensures { Gives statement_view result (object_rest_at text.now name shapes.items tokens.now) }
+{
+    let (_, rest) = token(tokens, Kind::Word(Keyword::At))?;
+    let (ranges, rest) = ranges(alloc, rest)?;
+    let (attributes, rest) = attributes(alloc, text, rest)?;
+    let object = ObjectText {
+        name,
+        shapes,
+        ranges,
+        attributes,
+    };
+    ended(Statement::Object(object), rest)
+}
+
 /// The statement of an object.
 #[tactic(auto, unfolding(crate::specs::Reading::object_at))]
 pub fn object<'a>(
@@ -173,17 +195,5 @@ pub fn object<'a>(
     let (name, rest) = placed_name(alloc, text, rest)?;
     let (_, rest) = token(rest, Kind::Word(Keyword::As))?;
     let (shapes, rest) = names(alloc, text, rest)?;
-    let (_, rest) = token(rest, Kind::Word(Keyword::At))?;
-    let (ranges, rest) = ranges(alloc, rest)?;
-    let (attributes, rest) = attributes(alloc, text, rest)?;
-    let (_, rest) = token(rest, Kind::Symbol(Sym::Semicolon))?;
-    Ok((
-        Statement::Object(ObjectText {
-            name,
-            shapes,
-            ranges,
-            attributes,
-        }),
-        rest,
-    ))
+    object_rest(alloc, text, name, shapes, rest)
 }

@@ -7,9 +7,10 @@ ghost use Rattle.problem_data.specs.Marks.{side_words};
 ghost use Rattle.problem_syntax.specs.Reading.{order_at, side_at, side_list_at, sides_at};
 ghost use Rattle.problem_data.specs.View.{statement_view};
 
+use crate::end::ended;
 use crate::objects::names;
 use geo_tokens::stop::{Stop, next_in, one_of, token};
-use geo_tokens::token::{Keyword, Kind, Sym, Token};
+use geo_tokens::token::{Keyword, Kind, Token};
 use problem_data::tree::{OrderText, Side, SideText, SidesText, Statement};
 use std::alloc::Global;
 
@@ -24,14 +25,11 @@ pub fn order<'a>(
 {
     let (word, rest) = token(tokens, Kind::Word(Keyword::Order))?;
     let (names, rest) = names(alloc, text, rest)?;
-    let (_, rest) = token(rest, Kind::Symbol(Sym::Semicolon))?;
-    Ok((
-        Statement::Order(OrderText {
-            place: word.start,
-            names,
-        }),
-        rest,
-    ))
+    let order = OrderText {
+        place: word.start,
+        names,
+    };
+    ended(Statement::Order(order), rest)
 }
 
 /// A side.
@@ -88,12 +86,9 @@ pub fn sides(alloc: Global, tokens: &[Token]) -> Result<(Statement, &[Token]), S
 {
     let (word, rest) = token(tokens, Kind::Word(Keyword::Sides))?;
     let (sides, rest) = side_list(alloc, rest)?;
-    let (_, rest) = token(rest, Kind::Symbol(Sym::Semicolon))?;
-    Ok((
-        Statement::Sides(SidesText {
-            place: word.start,
-            sides,
-        }),
-        rest,
-    ))
+    let sides = SidesText {
+        place: word.start,
+        sides,
+    };
+    ended(Statement::Sides(sides), rest)
 }

@@ -2,9 +2,11 @@
 
 ghost use Rattle.std.specs.Prelude.{◌≡◌};
 ghost use Rattle.geo_tokens.specs.Gives.{Gives};
-ghost use Rattle.problem_syntax.specs.Reading.{next_at, param_at, param_list_at, some_params_at, params_at, means_at, equals_at, body_at, macro_at, apart_at, within_at, plain_at, demand_at, rule_at};
+ghost use Rattle.problem_data.specs.Grammar.{param_in};
+ghost use Rattle.problem_syntax.specs.Reading.{next_at, param_at, param_list_at, some_params_at, params_at, means_at, equals_at, body_at, macro_rest_at, macro_at, apart_at, within_at, plain_at, demand_at, rule_rest_at, rule_at};
 ghost use Rattle.problem_data.specs.View.{body_view, demand_view, statement_view};
 
+use crate::end::ended;
 use crate::numbers::ranges;
 use geo_tokens::stop::{Stop, next_is, one_of, token};
 use geo_tokens::token::{Keyword, Kind, Sym, Token};
@@ -13,8 +15,20 @@ use problem_data::tree::{
 };
 use rule_reading::formula::formula;
 use rule_syntax::expression::expression;
+use rule_syntax::tree::PlacedName;
 use rule_syntax::words::placed_name;
 use std::alloc::Global;
+
+/// What a parameter stands for, by its word.
+fn kind_of(word: Token) -> ParamKind
+    ensures { result ≡ param_in word.kind }
+{
+    match word.kind {
+        Kind::Word(Keyword::Int) => ParamKind::Int,
+        Kind::Word(Keyword::Object) => ParamKind::Object,
+        _ => ParamKind::Box,
+    }
+}
 
 /// A parameter of a macro.
 #[tactic(auto, unfolding(crate::specs::Reading::param_at))]
@@ -35,11 +49,7 @@ fn param<'a>(
             Kind::Word(Keyword::Box),
         ],
     )?;
-    let kind = match word.kind {
-        Kind::Word(Keyword::Int) => ParamKind::Int,
-        Kind::Word(Keyword::Object) => ParamKind::Object,
-        _ => ParamKind::Box,
-    };
+    let kind = kind_of(word);
     Ok((ParamText { name, kind }, rest))
 }
 
@@ -150,6 +160,21 @@ fn macro_body<'a>(
     }
 }
 
+/// What stands behind the name of a macro.
+fn macro_rest<'a>(
+    alloc: Global,
+    text: &[u8],
+    levels: u32,
+    name: PlacedName,
+    tokens: &'a [Token],
+) -> Result<(Statement, &'a [Token]), Stop<'a>>
+    ensures { Gives statement_view result (macro_rest_at text.now levels name tokens.now) }
+{
+    let (params, rest) = params(alloc, text, tokens)?;
+    let (body, rest) = macro_body(alloc, text, levels, rest)?;
+    ended(Statement::Macro(MacroText { name, params, body }), rest)
+}
+
 /// The statement of a macro.
 #[tactic(auto, unfolding(crate::specs::Reading::macro_at))]
 pub fn macro_statement<'a>(
@@ -162,10 +187,7 @@ pub fn macro_statement<'a>(
 {
     let (_, rest) = token(tokens, Kind::Word(Keyword::Macro))?;
     let (name, rest) = placed_name(alloc, text, rest)?;
-    let (params, rest) = params(alloc, text, rest)?;
-    let (body, rest) = macro_body(alloc, text, levels, rest)?;
-    let (_, rest) = token(rest, Kind::Symbol(Sym::Semicolon))?;
-    Ok((Statement::Macro(MacroText { name, params, body }), rest))
+    macro_rest(alloc, text, levels, name, rest)
 }
 
 /// The word `apart`.
@@ -217,6 +239,21 @@ fn rule_body<'a>(
     }
 }
 
+/// What stands behind the name of a rule.
+fn rule_rest<'a>(
+    alloc: Global,
+    text: &[u8],
+    levels: u32,
+    name: PlacedName,
+    tokens: &'a [Token],
+) -> Result<(Statement, &'a [Token]), Stop<'a>>
+    ensures { Gives statement_view result (rule_rest_at text.now levels name tokens.now) }
+{
+    let (_, rest) = token(tokens, Kind::Symbol(Sym::Colon))?;
+    let (body, rest) = rule_body(alloc, text, levels, rest)?;
+    ended(Statement::Rule(RuleText { name, body }), rest)
+}
+
 /// The statement of a rule.
 #[tactic(auto, unfolding(crate::specs::Reading::rule_at))]
 pub fn rule<'a>(
@@ -229,8 +266,5 @@ pub fn rule<'a>(
 {
     let (_, rest) = token(tokens, Kind::Word(Keyword::Rule))?;
     let (name, rest) = placed_name(alloc, text, rest)?;
-    let (_, rest) = token(rest, Kind::Symbol(Sym::Colon))?;
-    let (body, rest) = rule_body(alloc, text, levels, rest)?;
-    let (_, rest) = token(rest, Kind::Symbol(Sym::Semicolon))?;
-    Ok((Statement::Rule(RuleText { name, body }), rest))
+    rule_rest(alloc, text, levels, name, rest)
 }

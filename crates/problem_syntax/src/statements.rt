@@ -4,16 +4,16 @@ ghost use Rattle.std.specs.Prelude.{◌≡◌};
 ghost use Rattle.geo_tokens.specs.Reading.{next_is, many_at};
 ghost use Rattle.geo_tokens.specs.Gives.{Gives};
 ghost use Rattle.problem_data.specs.Marks.{statement_firsts};
-ghost use Rattle.problem_syntax.specs.Reading.{statement_at, problem_at};
+ghost use Rattle.problem_syntax.specs.Reading.{statement_at, problem_rest_at, problem_at};
 ghost use Rattle.problem_data.specs.View.{statement_view, statement_views, problem_view};
 
-use crate::numbers::plain_int;
+use crate::numbers::int_of;
 use crate::objects::{object, shape};
 use crate::order::{order, sides};
 use crate::rules::{macro_statement, rule};
 use geo_tokens::stop::{Stop, next_in, next_is, token};
 use geo_tokens::token::{Keyword, Kind, Token};
-use problem_data::tree::{ProblemText, Statement};
+use problem_data::tree::{Int, ProblemText, Statement};
 use std::alloc::Global;
 
 /// A statement, in which up to `levels` levels may be opened.
@@ -78,6 +78,30 @@ fn statements<'a>(
     Ok((read, rest))
 }
 
+/// What stands behind the number of dimensions of a text.
+fn problem_rest<'a>(
+    alloc: Global,
+    text: &[u8],
+    levels: u32,
+    version: Int,
+    dims: Int,
+    tokens: &'a [Token],
+) -> Result<(ProblemText, &'a [Token]), Stop<'a>>
+    ensures { Gives problem_view result
+        (problem_rest_at text.now levels version dims tokens.now) }
+{
+    let (statements, rest) = statements(alloc, text, levels, tokens)?;
+    let (_, rest) = token(rest, Kind::Word(Keyword::End))?;
+    Ok((
+        ProblemText {
+            version,
+            dims,
+            statements,
+        },
+        rest,
+    ))
+}
+
 /// What a text says, in which up to `levels` levels may be open at a time, and the tokens behind it.
 #[tactic(auto, unfolding(crate::specs::Reading::problem_at))]
 pub fn problem<'a>(
@@ -89,17 +113,8 @@ pub fn problem<'a>(
     ensures { Gives problem_view result (problem_at text.now levels tokens.now) }
 {
     let (_, rest) = token(tokens, Kind::Word(Keyword::Geost))?;
-    let (version, rest) = plain_int(rest)?;
+    let (version, rest) = token(rest, Kind::Number(0))?;
     let (_, rest) = token(rest, Kind::Word(Keyword::Dims))?;
-    let (dims, rest) = plain_int(rest)?;
-    let (statements, rest) = statements(alloc, text, levels, rest)?;
-    let (_, rest) = token(rest, Kind::Word(Keyword::End))?;
-    Ok((
-        ProblemText {
-            version,
-            dims,
-            statements,
-        },
-        rest,
-    ))
+    let (dims, rest) = token(rest, Kind::Number(0))?;
+    problem_rest(alloc, text, levels, int_of(version), int_of(dims), rest)
 }
