@@ -7,4 +7,5 @@ pub mod ExpressionsRead
 pub mod FormulasAgain
 pub mod FormulasRead
 pub mod ReadBack
+pub mod Framed
 pub mod Loops
