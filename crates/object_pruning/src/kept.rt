@@ -104,26 +104,25 @@ fn is_possible_there<const K: usize, I: Indexical<K>>(
     possible
 }
 
-// The kept support, if the condition is possible with the object there.
+// Forgets the kept support where the condition refutes it with the object there.
 fn retry_one<const K: usize, I: Indexical<K>>(
-    slot: Option<Placed<K>>,
+    slot: &mut Option<Placed<K>>,
     last: &mut Option<Asked<K>>,
     s: &State<K>,
     o: ObjId,
     x: &I,
-) -> Option<Placed<K>>
+)
     requires k { K ≤ MAX_DIMS }
     requires fits { FitsIn (I.cond x.now) s.now }
     requires object { o.0 < length s.now }
     requires last { IsAnswered (I.cond x.now) s.now o.0 last.old }
-    ensures kept { result ≡ retried (I.cond x.now) s.now o.0 slot.entry }
+    ensures kept { slot.new ≡ retried (I.cond x.now) s.now o.0 slot.old }
     ensures last { IsAnswered (I.cond x.now) s.now o.0 last.new }
 {
-    let q = slot?;
-    if is_possible_there(&q, last, s, o, x) {
-        Some(q)
-    } else {
-        None
+    if let Some(q) = slot {
+        if !is_possible_there(q, last, s, o, x) {
+            *slot = None;
+        }
     }
 }
 
@@ -141,7 +140,7 @@ pub fn retry<const K: usize, I: Indexical<K>>(
 {
     let mut last = None;
     for slot in kept.iter_mut() {
-        *slot = retry_one(*slot, &mut last, s, o, x);
+        retry_one(slot, &mut last, s, o, x);
     }
 }
 
