@@ -79,4 +79,3 @@ formula-cost-called p n k name m b e h i j =
     ap (λ o. option_map_or (formula_costs_of p n) o 0) e
     ∙ staged ℕ (formula_costs_of p) (λ k. body_formula_cost (formula_costs_of p k) p (macro_of p k).body) (λ n k. refl) n k h
     ∙ sym (ap (body_formula_cost (formula_costs_of p k) p) (j ∙ ap (λ x. x.body) i))
-
