@@ -72,9 +72,11 @@ impl<const K: usize> KBox<K> {
             ↔ (Has K self.now.lo.coordinates self.now.hi.coordinates p
             × Has K other.now.lo.coordinates other.now.hi.coordinates p) }
         ensures lo { (d : ℕ) → d < K → coordinate result.lo.coordinates d
-            ≡ int_max (coordinate self.now.lo.coordinates d) (coordinate other.now.lo.coordinates d) }
+            ≡ int_max (coordinate self.now.lo.coordinates d)
+            (coordinate other.now.lo.coordinates d) }
         ensures hi { (d : ℕ) → d < K → coordinate result.hi.coordinates d
-            ≡ int_min (coordinate self.now.hi.coordinates d) (coordinate other.now.hi.coordinates d) }
+            ≡ int_min (coordinate self.now.hi.coordinates d)
+            (coordinate other.now.hi.coordinates d) }
     {
         let mut lo = self.lo;
         let mut hi = self.hi;

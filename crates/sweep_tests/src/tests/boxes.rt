@@ -38,7 +38,8 @@ fn pair(
 ) -> [Counted<ApartIndexical<1>>; 2]
     requires first { FitsIn (apart x.first x.second x.short) _s.now }
     requires second { FitsIn (apart y.first y.second y.short) _s.now }
-    ensures fits { AllFit (map (λ x. apart x.inner.first x.inner.second x.inner.short) result) _s.now }
+    ensures fits { AllFit (map (λ x. apart x.inner.first x.inner.second x.inner.short) result)
+        _s.now }
 {
     [Counted::new(x), Counted::new(y)]
 }
