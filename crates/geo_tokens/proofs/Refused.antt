@@ -1,12 +1,11 @@
 -- A refusal is what reading a token gives that opens a level too many.
-use Rattle.std.proofs.Common.{◌≡◌, ◌∙◌, List, [], ◌∷◌, Bool, true, false, ap, sym}
+use Rattle.std.proofs.Common.{◌∙◌, List, [], ◌∷◌, Bool, ap, sym}
 use Rattle.std.specs.Prelude.{None, if◌then◌else◌}
 use Rattle.geo_tokens.specs.declared.token.Token.{Token}
 use Rattle.geo_tokens.specs.declared.stop.Stop.{Stop}
 use Rattle.geo_tokens.specs.declared.stop.Stop.TheVariants as stops
-use Rattle.geo_tokens.specs.Class.{class_of}
-use Rattle.geo_tokens.specs.Words.{Kinds, has}
-use Rattle.geo_tokens.specs.Reading.{Read, Got, Wrong, cut_at}
+use Rattle.geo_tokens.specs.Words.{Kinds}
+use Rattle.geo_tokens.specs.Reading.{Got, Wrong, cut_at}
 use Rattle.geo_tokens.specs.Gives.{Fails, Refuses}
 
 pub refused_fails : (A : Type 0) (ks : Kinds) (w : List Token) (s : Stop) → Refuses ks w s → Fails {A = A} s (cut_at {A = A} ks w)

@@ -8,5 +8,6 @@ pub mod Cut
 pub mod Front
 pub mod Spelled
 pub mod Fault
+pub mod First
 pub mod FirstEnd
 pub mod Names

@@ -1,16 +1,15 @@
 -- The first of some faults: of two kinds of faults, of one fault that may be there, and that there is one first alone.
-use Rattle.std.proofs.Common.{◌≡◌, ℕ, ◌≤◌, Bool, true, false, ◌&&◌, ◌||◌, Option, Some, None, ◌⊎◌, inl, inr, ⊎_elim, refl, sym, ap, ◌∙◌, subst, arith}
+use Rattle.std.proofs.Common.{◌≡◌, ℕ, ◌≤◌, Bool, true, false, ◌&&◌, ◌||◌, Option, None, ◌⊎◌, refl, sym, ap, ◌∙◌, subst, arith}
 use Rattle.std.proofs.lemmas.Bool.Decides.{nat_tests}
 use Rattle.std.specs.Prelude.{if◌then◌else◌, ◌==◌, nat_lt, nat_le, not}
 use Rattle.geo_tokens.specs.declared.fault.FaultWord.{FaultWord}
 use Rattle.geo_tokens.specs.declared.fault.FaultWord.TheVariants as words
+use Rattle.geo_tokens.specs.First.{IsOrdering}
+use Rattle.geo_tokens.proofs.Firsts as firsts
 use Rattle.problem_data.specs.declared.fault.Fault.{Fault}
 use Rattle.problem_data.specs.Least.{fault, word_rank, is_after, IsFirst, IsLeast, earlier, fault_if}
 
 -- ---- one place and rank after another, in plain numbers
-
-after_none : (p r : ℕ) → (nat_lt p p || ((p == p) && nat_lt r r)) ≡ false
-after_none p r = grind (arith, nat_tests)
 
 after_turn : (p r q s : ℕ) → (nat_lt q p || ((p == q) && nat_lt s r)) ≡ true → (nat_lt p q || ((q == p) && nat_lt r s)) ≡ false
 after_turn p r q s h = grind (arith, nat_tests)
@@ -25,9 +24,6 @@ same_rank : (p r q s : ℕ) → (nat_lt q p || ((p == q) && nat_lt s r)) ≡ fal
 same_rank p r q s h g = grind (arith, nat_tests)
 
 -- ---- of faults
-
-not_self : (f : Fault) → is_after f f ≡ false
-not_self f = after_none f.place (word_rank f.word)
 
 not_both : (f g : Fault) → is_after f g ≡ true → is_after g f ≡ false
 not_both f g h = after_turn f.place (word_rank f.word) g.place (word_rank g.word) h
@@ -76,27 +72,23 @@ same_fault f g a b =
     let d : f.word ≡ g.word = same_word f.word g.word (same_rank f.place (word_rank f.word) g.place (word_rank g.word) a b) in
     λ i. record { place = e i; word = d i }
 
+ordering : IsOrdering is_after
+ordering = record { turn = not_both; chain = chain; same = same_fault }
+
 pub one_first : (P : Fault → Type 0) (f g : Fault) → IsFirst P f → IsFirst P g → f ≡ g
-one_first P f g a b = same_fault f g (a.first g b.there) (b.first f a.there)
+one_first = firsts.one_first is_after ordering
 
 -- the first of the faults of two kinds
 pub least_or : (P Q : Fault → Type 0) (a b : Option Fault) → IsLeast P a → IsLeast Q b → IsLeast (λ f. P f ⊎ Q f) (earlier a b)
-least_or P Q None None h g = λ f. ⊎_elim (h f) (g f)
-least_or P Q None (Some y) h g = record { there = inr g.there; first = λ x. ⊎_elim (λ p. absurd (h x p)) (g.first x) }
-least_or P Q (Some x) None h g = record { there = inl h.there; first = λ y. ⊎_elim (h.first y) (λ q. absurd (g y q)) }
-least_or P Q (Some x) (Some y) h g = by (is_after x y) refl where
-  by : (t : Bool) → is_after x y ≡ t → IsLeast (λ f. P f ⊎ Q f) (if t then Some y else Some x)
-  by true e = record { there = inr g.there; first = λ z. ⊎_elim (λ p. chain y x z (not_both x y e) (h.first z p)) (g.first z) }
-  by false e = record { there = inl h.there; first = λ z. ⊎_elim (h.first z) (λ q. chain x y z e (g.first z q)) }
+least_or = firsts.least_or is_after ordering
 
 -- the first fault of the same faults
 pub least_same : (P Q : Fault → Type 0) (o : Option Fault) → ((f : Fault) → P f → Q f) → ((f : Fault) → Q f → P f) → IsLeast P o → IsLeast Q o
-least_same P Q None to back h = λ f q. h f (back f q)
-least_same P Q (Some x) to back h = record { there = to x h.there; first = λ y q. h.first y (back y q) }
+least_same = firsts.least_same is_after
 
 -- a fault that is there where the test says so
 pub least_if : (C : Type 0) (b : Bool) (p : ℕ) (w : FaultWord) → (b ≡ true → C) → (C → b ≡ true) → IsLeast (λ f. C × (f ≡ fault p w)) (fault_if b p w)
-least_if C true p w to back = record { there = (to refl, refl); first = λ g h. subst (λ (x : Fault). is_after (fault p w) x ≡ false) (sym h.1) (not_self (fault p w)) }
+least_if C true p w to back = record { there = (to refl, refl); first = λ g h. subst (λ (x : Fault). is_after (fault p w) x ≡ false) (sym h.1) (firsts.not_self is_after ordering (fault p w)) }
 least_if C false p w to back = λ f h. let e : false ≡ true = back h.0 in cc
 
 -- no fault

@@ -1,8 +1,9 @@
 -- Which of several faults comes first: the one at the least place, and at one place the one whose word stands first in the
 -- order limit, twice, unknown, range, size, order.
-use Rattle.std.specs.Prelude.{◌≡◌, ℕ, Option, Some, None, Bool, false, ◌==◌, ◌&&◌, ◌||◌, nat_lt, if◌then◌else◌}
+use Rattle.std.specs.Prelude.{ℕ, Option, Some, None, Bool, ◌==◌, ◌&&◌, ◌||◌, nat_lt, if◌then◌else◌}
 use Rattle.geo_tokens.specs.declared.fault.FaultWord.{FaultWord}
 use Rattle.geo_tokens.specs.declared.fault.FaultWord.TheVariants as words
+use Rattle.geo_tokens.specs.First.{IsFirstBy, IsLeastBy, earlier_by}
 use Rattle.problem_data.specs.declared.fault.Fault.{Fault}
 
 abbrev pub fault : ℕ → FaultWord → Fault
@@ -35,20 +36,16 @@ abbrev pub is_after : Fault → Fault → Bool
 is_after f g = nat_lt g.place f.place || ((f.place == g.place) && nat_lt (word_rank g.word) (word_rank f.word))
 
 -- f is one of these faults, and comes after none of them
-pub record IsFirst (P : Fault → Type 0) (f : Fault) : Type 0 where
-  pub there : P f
-  pub first : (g : Fault) → P g → is_after f g ≡ false
+abbrev pub IsFirst : (Fault → Type 0) → Fault → Type 0
+IsFirst P f = IsFirstBy is_after P f
 
 -- the first of these faults, or None where there is none
 abbrev pub IsLeast : (Fault → Type 0) → Option Fault → Type 0
-IsLeast P None = (f : Fault) → P f → ⊥
-IsLeast P (Some f) = IsFirst P f
+IsLeast P o = IsLeastBy is_after P o
 
 -- the one of two that comes first
 abbrev pub earlier : Option Fault → Option Fault → Option Fault
-earlier None b = b
-earlier (Some f) None = Some f
-earlier (Some f) (Some g) = if is_after f g then Some g else Some f
+earlier a b = earlier_by is_after a b
 
 -- the fault, where there is one
 abbrev pub fault_if : Bool → ℕ → FaultWord → Option Fault

@@ -1,9 +1,11 @@
 -- The first of several mistakes: of two lists, of a list that a loop goes over, and that there is one first alone.
-use Rattle.std.proofs.Common.{◌≡◌, ℕ, zero, suc, ◌+◌, ◌<◌, ◌≤◌, Bool, true, false, ◌&&◌, ◌||◌, List, [], ◌∷◌, ◌++◌, length, drop, get_or, Option, Some, None, ◌⊎◌, inl, inr, refl, sym, ap, ◌∙◌, subst, arith}
+use Rattle.std.proofs.Common.{◌≡◌, ℕ, zero, suc, ◌+◌, ◌<◌, ◌≤◌, Bool, true, false, ◌&&◌, ◌||◌, List, [], ◌∷◌, ◌++◌, length, drop, get_or, Option, Some, None, ◌⊎◌, inl, inr, ⊎_elim, refl, sym, ap, ◌∙◌, subst, arith}
 use Rattle.std.specs.Prelude.{if◌then◌else◌, ◌==◌, nat_lt}
 use Rattle.std.specs.List.{Contains}
 use Rattle.std.proofs.lemmas.Bool.Decides.{nat_tests}
 use Rattle.std.proofs.lemmas.List.{drop_more, drop_all}
+use Rattle.geo_tokens.specs.First.{IsLeastBy, IsOrdering}
+use Rattle.geo_tokens.proofs.Firsts as firsts
 use Rattle.rule_names.specs.declared.mistake.Flaw.{Flaw}
 use Rattle.rule_names.specs.declared.mistake.Flaw.TheVariants.{UnknownName, RepeatedName, WrongKind, WrongCount, UnknownField}
 use Rattle.rule_names.specs.declared.mistake.Mistake.{Mistake}
@@ -19,17 +21,9 @@ unfolding level
 level-chain-false a b c x y true k h g = grind (arith, nat_tests)
 level-chain-false a b c x y false k h g = grind (arith, nat_tests)
 
-level-chain-true : (a b c : ℕ) (x y z : Bool) → (x ≡ true → y ≡ true → z ≡ true) → level a b x ≡ true → level b c y ≡ true → level a c z ≡ true
-unfolding level
-level-chain-true a b c x y z k h g = grind (arith, nat_tests)
-
 level-turn : (a b : ℕ) (x y : Bool) → (x ≡ true → y ≡ false) → level a b x ≡ true → level b a y ≡ false
 unfolding level
 level-turn a b x y k h = grind (arith, nat_tests)
-
-level-self : (a : ℕ) (x : Bool) → x ≡ false → level a a x ≡ false
-unfolding level
-level-self a x k = grind (arith, nat_tests)
 
 level-same : (a b : ℕ) (x y : Bool) → level a b x ≡ false → level b a y ≡ false → a ≡ b
 unfolding level
@@ -60,14 +54,6 @@ chain-false f g h a b =
     (λ c d. level-chain-false f.place g.place h.place _ _ _ (λ k l. level-chain-false (rank f.flaw) (rank g.flaw) (rank h.flaw) false false false (λ _ _. refl) k l) c d)
     (sym (as_levels f g) ∙ a) (sym (as_levels g h) ∙ b)
 
-chain-true : (f g h : Mistake) → is_after f g ≡ true → is_after g h ≡ true → is_after f h ≡ true
-unfolding by_place
-chain-true f g h a b =
-    as_levels f h
-    ∙ level-chain-true (phase f.flaw) (phase g.flaw) (phase h.flaw) (by_place f g) (by_place g h) (by_place f h)
-    (λ c d. level-chain-true f.place g.place h.place _ _ _ (λ k l. level-chain-true (rank f.flaw) (rank g.flaw) (rank h.flaw) false false false (λ e _. e) k l) c d)
-    (sym (as_levels f g) ∙ a) (sym (as_levels g h) ∙ b)
-
 turn : (f g : Mistake) → is_after f g ≡ true → is_after g f ≡ false
 unfolding by_place
 turn f g a =
@@ -75,10 +61,6 @@ turn f g a =
     ∙ level-turn (phase f.flaw) (phase g.flaw) (by_place f g) (by_place g f)
     (λ c. level-turn f.place g.place _ _ (λ k. level-turn (rank f.flaw) (rank g.flaw) false false (λ e. refl) k) c)
     (sym (as_levels f g) ∙ a)
-
-not_self : (f : Mistake) → is_after f f ≡ false
-unfolding by_place
-not_self f = as_levels f f ∙ level-self (phase f.flaw) (by_place f f) (level-self f.place _ (level-self (rank f.flaw) false refl))
 
 -- a flaw by its rank
 flaw_at : ℕ → Flaw
@@ -105,39 +87,16 @@ same_mistake f g a b =
     let r : f.flaw ≡ g.flaw = same_flaw f.flaw g.flaw (level-same (rank f.flaw) (rank g.flaw) false false d.0 d.1) in
     λ i. record { place = p i; flaw = r i }
 
+ordering : IsOrdering is_after
+ordering = record { turn = turn; chain = chain-false; same = same_mistake }
+
 -- ---- the earlier of two
 
-pick : (b : Bool) (f g : Mistake) → b ≡ true → (if b then Some g else Some f) ≡ Some g
-pick true f g e = refl
-pick false f g e = cc
-
-keep : (b : Bool) (f g : Mistake) → b ≡ false → (if b then Some g else Some f) ≡ Some f
-keep true f g e = cc
-keep false f g e = refl
-
 pub earlier_none : (a : Option Mistake) → earlier a None ≡ a
-earlier_none None = refl
-earlier_none (Some a) = refl
-
-three : (f g h : Mistake) (b c : Bool) → is_after f g ≡ b → is_after g h ≡ c → earlier (earlier (Some f) (Some g)) (Some h) ≡ earlier (Some f) (earlier (Some g) (Some h))
-three f g h true true e d =
-    ap (λ x. earlier x (Some h)) (pick (is_after f g) f g e) ∙ pick (is_after g h) g h d
-    ∙ sym (ap (earlier (Some f)) (pick (is_after g h) g h d) ∙ pick (is_after f h) f h (chain-true f g h e d))
-three f g h true false e d =
-    ap (λ x. earlier x (Some h)) (pick (is_after f g) f g e) ∙ keep (is_after g h) g h d
-    ∙ sym (ap (earlier (Some f)) (keep (is_after g h) g h d) ∙ pick (is_after f g) f g e)
-three f g h false true e d =
-    ap (λ x. earlier x (Some h)) (keep (is_after f g) f g e)
-    ∙ sym (ap (earlier (Some f)) (pick (is_after g h) g h d))
-three f g h false false e d =
-    ap (λ x. earlier x (Some h)) (keep (is_after f g) f g e) ∙ keep (is_after f h) f h (chain-false f g h e d)
-    ∙ sym (ap (earlier (Some f)) (keep (is_after g h) g h d) ∙ keep (is_after f g) f g e)
+earlier_none = firsts.earlier_none is_after
 
 pub earlier_assoc : (a b c : Option Mistake) → earlier (earlier a b) c ≡ earlier a (earlier b c)
-earlier_assoc None b c = refl
-earlier_assoc (Some f) None c = refl
-earlier_assoc (Some f) (Some g) None = earlier_none (earlier (Some f) (Some g))
-earlier_assoc (Some f) (Some g) (Some h) = three f g h (is_after f g) (is_after g h) refl refl
+earlier_assoc = firsts.earlier_assoc is_after ordering
 
 pub first_append : (ms ns : List Mistake) → first_of (ms ++ ns) ≡ earlier (first_of ms) (first_of ns)
 first_append [] ns = refl
@@ -173,25 +132,13 @@ cases m ms f (zero, lt, e) = inl e
 cases m ms f (suc k, lt, e) = inr (k, omega arith, e)
 
 IsLeast : List Mistake → Option Mistake → Type 0
-IsLeast ms None = (f : Mistake) → Contains ms f → ⊥
-IsLeast ms (Some f) = IsFirst ms f
+IsLeast ms o = IsLeastBy is_after (Contains ms) o
 
 one_more : (m : Mistake) (ms : List Mistake) (o : Option Mistake) → IsLeast ms o → IsLeast (m ∷ ms) (earlier (Some m) o)
 unfolding IsLeast
-one_more m ms None h = record {
-  there = (0, omega arith, refl);
-  first = λ g there. elim (cases m ms g there) [ inl e ↦ subst (λ (x : Mistake). is_after m x ≡ false) e (not_self m) | inr b ↦ absurd (h g b) ];
-}
-one_more m ms (Some f) h = by (is_after m f) refl where
-  by : (t : Bool) → is_after m f ≡ t → IsLeast (m ∷ ms) (if t then Some f else Some m)
-  by true e = record {
-    there = behind m ms f h.there;
-    first = λ g there. elim (cases m ms g there) [ inl d ↦ subst (λ (x : Mistake). is_after f x ≡ false) d (turn m f e) | inr b ↦ h.first g b ];
-  }
-  by false e = record {
-    there = (0, omega arith, refl);
-    first = λ g there. elim (cases m ms g there) [ inl d ↦ subst (λ (x : Mistake). is_after m x ≡ false) d (not_self m) | inr b ↦ chain-false m f g e (h.first g b) ];
-  }
+one_more m ms o h =
+    firsts.least_same is_after (λ f. (m ≡ f) ⊎ Contains ms f) (Contains (m ∷ ms)) (earlier (Some m) o) (λ f. ⊎_elim (λ e. (0, omega arith, e)) (behind m ms f)) (cases m ms)
+    (firsts.least_or is_after ordering (λ f. m ≡ f) (Contains ms) (Some m) o (firsts.least_one is_after ordering m) h)
 
 least : (ms : List Mistake) → IsLeast ms (first_of ms)
 unfolding IsLeast
@@ -208,4 +155,4 @@ unfolding IsLeast
 is_first ms f e = subst (λ (o : Option Mistake). IsLeast ms o) (sym e) (least ms)
 
 pub one_first : (ms : List Mistake) (f g : Mistake) → IsFirst ms f → IsFirst ms g → f ≡ g
-one_first ms f g a b = same_mistake f g (a.first g b.there) (b.first f a.there)
+one_first ms = firsts.one_first is_after ordering (Contains ms)

@@ -1,9 +1,10 @@
 -- Which of several mistakes comes first: one of names before one of kinds, then the one at the least place, and at one place the
 -- one that stands first in the order of an unknown name, a repeated one, a wrong kind, a wrong count, an unknown field.
-use Rattle.std.specs.Prelude.{◌≡◌, ℕ, Bool, false, ◌==◌, ◌&&◌, ◌||◌, nat_lt, if◌then◌else◌, List, [], ◌∷◌, Option, Some, None}
+use Rattle.std.specs.Prelude.{ℕ, Bool, ◌==◌, ◌&&◌, ◌||◌, nat_lt, if◌then◌else◌, List, [], ◌∷◌, Option, Some, None}
 use Rattle.std.specs.List.{Contains}
 use Rattle.geo_tokens.specs.declared.fault.FaultWord.{FaultWord}
 use Rattle.geo_tokens.specs.declared.fault.FaultWord.TheVariants as words
+use Rattle.geo_tokens.specs.First.{IsFirstBy, earlier_by}
 use Rattle.rule_names.specs.declared.mistake.Flaw.{Flaw}
 use Rattle.rule_names.specs.declared.mistake.Flaw.TheVariants.{UnknownName, RepeatedName, WrongKind, WrongCount, UnknownField}
 use Rattle.rule_names.specs.declared.mistake.Mistake.{Mistake}
@@ -41,9 +42,7 @@ is_after f g =
 
 -- the one of two that comes first
 abbrev pub earlier : Option Mistake → Option Mistake → Option Mistake
-earlier None b = b
-earlier (Some f) None = Some f
-earlier (Some f) (Some g) = if is_after f g then Some g else Some f
+earlier a b = earlier_by is_after a b
 
 -- the first of a list, if it has any
 abbrev pub first_of : List Mistake → Option Mistake
@@ -55,6 +54,5 @@ abbrev pub mistake_if : Bool → ℕ → Flaw → List Mistake
 mistake_if wrong p f = if wrong then mistake p f ∷ [] else []
 
 -- f is one of the mistakes, and comes after none of them
-pub record IsFirst (ms : List Mistake) (f : Mistake) : Type 0 where
-  pub there : Contains ms f
-  pub first : (g : Mistake) → Contains ms g → is_after f g ≡ false
+abbrev pub IsFirst : List Mistake → Mistake → Type 0
+IsFirst ms f = IsFirstBy is_after (Contains ms) f
