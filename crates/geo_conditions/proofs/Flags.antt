@@ -1,5 +1,6 @@
 -- Lists of tests that begin with true ones.
-use Rattle.std.proofs.Common.{◌≡◌, ℕ, zero, suc, ◌+◌, ◌-◌, ◌<◌, ◌++◌, ◌∷◌, Bool, true, false, List, refl, ap, ◌∙◌, set, replicate, arith}
+use Rattle.std.proofs.Common.{◌≡◌, ℕ, zero, suc, ◌+◌, ◌-◌, ◌<◌, ◌≤◌, ◌++◌, ◌∷◌, length, Bool, true, false, List, refl, ap, ◌∙◌, set, replicate, arith}
+use Rattle.std.proofs.lemmas.List.{length-append, length-replicate}
 
 -- one test more is true
 set_next : (a b : ℕ) → set (replicate a true ++ replicate (suc b) false) a true ≡ replicate (suc a) true ++ replicate b false
@@ -15,3 +16,6 @@ flags_more n i xs h e =
     ∙ ap (λ (k : ℕ). set (replicate i true ++ replicate k false) i true) m
     ∙ set_next i b
     ∙ ap (λ (k : ℕ). replicate k true ++ replicate b false) s
+
+pub flags_length : (n i : ℕ) → i ≤ n → length (replicate i true ++ replicate (n - i) false) ≡ n
+flags_length n i h = simp (length-append, length-replicate) (omega arith)

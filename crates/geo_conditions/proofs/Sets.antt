@@ -1,8 +1,42 @@
 -- Sets of places as lists of tests.
-use Rattle.std.proofs.Common.{◌≡◌, ℕ, zero, suc, ◌+◌, ◌<◌, Bool, true, false, List, [], ◌∷◌, length, get_or, refl, sym, ap, ◌∙◌, subst, inl, inr, arith, eqb}
-use Rattle.std.proofs.lemmas.Bool.{and_from, and_parts, eq-eqb, eqb-true, false≢true, cases_Bool, cases_lt, false_from_ne_true}
-use Rattle.std.proofs.lemmas.List.{get_or_past}
-use Rattle.geo_conditions.specs.Reach.{place_in, is_only, only, how_many}
+use Rattle.std.proofs.Common.{◌≡◌, ℕ, zero, suc, ◌+◌, ◌<◌, ◌≤◌, ◌++◌, replicate, set, Bool, true, false, List, [], ◌∷◌, length, get_or, refl, sym, ap, ◌∙◌, subst, inl, inr, arith, eqb}
+use Rattle.std.proofs.lemmas.Bool.{and_from, and_parts, eq-eqb, eqb-true, false≢true, cases_Bool, false_from_ne_true}
+use Rattle.geo_conditions.specs.Reach.{place_in, is_only, only, how_many, count}
+
+-- ---- how many are there
+
+-- not more than the tests
+pub few_counted : (bs : List Bool) → how_many bs ≤ length bs
+few_counted [] = omega arith
+few_counted (true ∷ bs) = let h : how_many bs ≤ length bs = few_counted bs in omega arith
+few_counted (false ∷ bs) = let h : how_many bs ≤ length bs = few_counted bs in omega arith
+
+pub count_small : (b : Bool) → count b ≤ 1
+count_small true = omega arith
+count_small false = omega arith
+
+-- each that is there is counted
+pub counted_at : (bs : List Bool) (i : ℕ) → count (get_or bs i false) ≤ how_many bs
+counted_at [] i = omega arith
+counted_at (b ∷ bs) zero = omega arith
+counted_at (b ∷ bs) (suc i) = let h : count (get_or bs i false) ≤ how_many bs = counted_at bs i in omega arith
+
+-- one is put in or taken out
+pub counted_set : (bs : List Bool) (i : ℕ) (v : Bool) → i < length bs → how_many (set bs i v) + count (get_or bs i false) ≡ how_many bs + count v
+counted_set [] i v h = absurd (omega arith)
+counted_set (b ∷ bs) zero v h = omega arith
+counted_set (b ∷ bs) (suc i) v h =
+    let l : i < length bs = omega arith in
+    let e : how_many (set bs i v) + count (get_or bs i false) ≡ how_many bs + count v = counted_set bs i v l in omega arith
+
+none_of : (n : ℕ) → how_many (replicate n false) ≡ 0
+none_of zero = refl
+none_of (suc n) = let e : how_many (replicate n false) ≡ 0 = none_of n in omega arith
+
+-- the first n are there, and no other
+pub counted_first : (n m : ℕ) → how_many (replicate n true ++ replicate m false) ≡ n
+counted_first zero m = none_of m
+counted_first (suc n) m = let e : how_many (replicate n true ++ replicate m false) ≡ n = counted_first n m in omega arith
 
 -- where nothing is counted, nothing is there
 pub none_there : (bs : List Bool) (s : ℕ) → how_many bs ≡ 0 → place_in bs s ≡ true → ⊥
@@ -74,24 +108,9 @@ only_same (suc zero) (suc (suc u)) h = absurd (false≢true h)
 only_same (suc (suc s)) (suc zero) h = absurd (false≢true h)
 only_same (suc (suc s)) (suc (suc u)) h = ap suc (only_same (suc s) (suc u) h)
 
--- three ways to decide `is_only`
+-- a place that is not there is not the only one
 pub not_only_absent : (bs : List Bool) (s : ℕ) → place_in bs s ≡ false → false ≡ is_only bs s
 not_only_absent bs s h = sym (false_from_ne_true (is_only bs s) (λ k. false≢true (sym h ∙ (only_out bs s k).0)))
-
-pub not_only_other : (bs : List Bool) (s k : ℕ) → get_or bs k false ≡ true → (suc k ≡ s → ⊥) → false ≡ is_only bs s
-not_only_other bs s k h ne =
-    sym (false_from_ne_true (is_only bs s) (λ l. ne ((only_out bs s l).1 (suc k) h)))
-
-all_alone : (bs : List Bool) (s u : ℕ) → ((k : ℕ) → k < length bs → get_or bs k false ≡ true → k + 1 ≡ s) → place_in bs u ≡ true → u ≡ s
-all_alone bs s zero all h = absurd (false≢true h)
-all_alone bs s (suc k) all h =
-    elim (cases_lt k (length bs)) [
-      | inl b ↦ let e : k + 1 ≡ s = all k b h in omega arith
-      | inr b ↦ absurd (false≢true (sym (get_or_past bs k false b) ∙ h))
-    ]
-
-pub only_all : (bs : List Bool) (s : ℕ) → place_in bs s ≡ true → ((k : ℕ) → k < length bs → get_or bs k false ≡ true → k + 1 ≡ s) → true ≡ is_only bs s
-only_all bs s h all = sym (only_in bs s h (λ u. all_alone bs s u all))
 
 pub only_nowhere : (s : ℕ) → is_only [] s ≡ false
 only_nowhere zero = refl

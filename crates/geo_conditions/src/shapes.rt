@@ -1,5 +1,5 @@
 ghost use Rattle.std.specs.Prelude.{◌≡◌, ◌-◌, ◌≤◌, slice_set};
-ghost use Rattle.geo_conditions.specs.Reach.{place_in, is_only, first_places};
+ghost use Rattle.geo_conditions.specs.Reach.{place_in, is_only, first_places, count};
 
 use super::object::MAX_SHAPES;
 use std::marker::Model;
@@ -8,19 +8,29 @@ use std::marker::Model;
 #[derive(Clone, Copy)]
 pub struct ShapeSet {
     there: [bool; MAX_SHAPES],
+    // how many are there
+    count: usize,
 }
 
 impl Model for ShapeSet {
     ghost use Rattle.std.specs.Prelude.{List, Bool, ◌≡◌, length};
     ghost use Rattle.geo_conditions.specs.declared.object.TheConstants.{MAX_SHAPES};
+    ghost use Rattle.geo_conditions.specs.Reach.{how_many};
 
     ghost Value = { List Bool };
 
     ghost view = { λ s. s.there };
 
-    ghost invariant = { λ s. length s.there ≡ MAX_SHAPES };
+    ghost invariant = { λ s. (length s.there ≡ MAX_SHAPES) × (s.count ≡ how_many s.there) };
 
-    ghost inverse = { λ l. record { there = l } };
+    ghost inverse = { λ l. record { there = l; count = how_many l } };
+}
+
+// One for a place that is there.
+fn counted(there: bool) -> usize
+    ensures { result ≡ count there }
+{
+    if there { 1 } else { 0 }
 }
 
 impl ShapeSet {
@@ -33,7 +43,10 @@ impl ShapeSet {
         for i in 0..n as usize {
             there[i] = true;
         }
-        ShapeSet { there }
+        ShapeSet {
+            there,
+            count: n as usize,
+        }
     }
 
     /// Whether the place is there.
@@ -51,19 +64,10 @@ impl ShapeSet {
     }
 
     /// Whether that place is there, and no other.
-    #[tactic(auto, using(crate::proofs::Sets::not_only_absent, crate::proofs::Sets::not_only_other, crate::proofs::Sets::only_all))]
     pub fn is_only(&self, place: u8) -> bool
         ensures { result ≡ is_only self.now place }
     {
-        if !self.has(place) {
-            return false;
-        }
-        for (i, there) in self.there.iter().enumerate() {
-            if *there && i + 1 != place as usize {
-                return false;
-            }
-        }
-        true
+        self.has(place) && self.count == 1
     }
 
     /// Puts the place in, or takes it out.
@@ -71,6 +75,8 @@ impl ShapeSet {
         requires { (1 ≤ place) × (place ≤ MAX_SHAPES) }
         ensures { self.new ≡ slice_set self.old (place - 1) there }
     {
-        self.there[(place - 1) as usize] = there;
+        let i = (place - 1) as usize;
+        self.count = self.count + counted(there) - counted(self.there[i]);
+        self.there[i] = there;
     }
 }
