@@ -1,20 +1,18 @@
 -- The walk without variables: the empty tuple is its only member, where the first state is supported and there is no token.
-use Rattle.std.proofs.Common.{◌≡◌, ◌≢◌, ℕ, zero, suc, ◌+◌, ◌<◌, ◌≤◌, Bool, true, false, List, [], ◌∷◌, ◌++◌, length, take, refl, sym, ap, ◌∙◌, subst, inl, inr, arith, ℤ, Option, Some, None, Contains}
-use Rattle.std.specs.Prelude.{IfSome, Result, Ok, Err, IsTrue, ◌↔◌}
-use Rattle.std.specs.List.{All}
-use Rattle.std.proofs.lemmas.Bool.{false≢true}
+use Rattle.std.proofs.Common.{◌≡◌, ◌≢◌, ℕ, ◌+◌, ◌<◌, ◌≤◌, Bool, true, false, List, [], ◌∷◌, length, take, refl, sym, ap, ◌∙◌, subst, inl, inr, arith, ℤ, Option, Some, None}
+use Rattle.std.specs.Prelude.{Result, Ok}
 use Rattle.std.proofs.lemmas.List.Elements.{All-nil}
 use Rattle.geo_conditions.specs.declared.cond.Cond.{Cond}
-use Rattle.geo_conditions.specs.Reach.{State, Inside}
+use Rattle.geo_conditions.specs.Reach.{State}
 use Rattle.geo_conditions.specs.Supported.{IsSupported, IsGreatest, NoneInside}
-use Rattle.geo_conditions.specs.Walk.{Variable, Tree, Precedes, IsAfter, IsMember, IsIn, IsFront, IsWhole, GoesOn, is_full}
+use Rattle.geo_conditions.specs.Walk.{Variable, Tree, Precedes, IsIn, IsFront, IsWhole, GoesOn, is_full}
 use Rattle.geo_conditions.proofs.Points.{inside_self}
 use Rattle.geo_conditions.proofs.Steps.{front_none, front_push}
 use Rattle.geo_state.specs.declared.propagate.Settled.{Settled}
 use Rattle.geo_state.specs.declared.propagate.Settled.TheVariants.{Kept, Dead}
 use Rattle.geo_state.specs.Settle.{SettlesOr}
 use Rattle.trail_search.specs.declared.step.Step.TheVariants.{Found, Ended, Budget}
-use Rattle.trail_search.specs.Walker.{Position, tree_of, depth, path, SameWalk, IsWell, IsToken, IsReady, ReadyFor, Walks, GoesOnAs}
+use Rattle.trail_search.specs.Walker.{Position, tree_of, depth, path, SameWalk, IsWell, IsToken, IsReady, ReadyFor, GoesOnAs}
 
 -- ---- the tree without variables
 

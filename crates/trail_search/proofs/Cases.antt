@@ -1,17 +1,16 @@
 -- The two cases of a variable: what the search leaves of a state is exactly the one or the other.
-use Rattle.std.proofs.Common.{◌≡◌, ℕ, zero, suc, ◌+◌, ◌-◌, ◌<◌, ◌≤◌, Bool, true, false, List, [], ◌∷◌, length, set, get_or, map, refl, sym, ap, ◌∙◌, subst, inl, inr, ◌⊎◌, arith, ℤ, pos, negsuc, ◌+ℤ◌, ◌≤ℤ◌, ◌<ℤ◌}
+use Rattle.std.proofs.Common.{◌≡◌, ℕ, zero, suc, ◌+◌, ◌-◌, ◌<◌, ◌≤◌, Bool, true, false, List, [], ◌∷◌, length, set, get_or, map, refl, sym, ap, ◌∙◌, subst, inl, inr, arith, ℤ, pos, negsuc, ◌+ℤ◌, ◌≤ℤ◌, ◌<ℤ◌}
 use Rattle.std.specs.Prelude.{IsTrue, ◌↔◌}
 use Rattle.std.specs.Int.{int_min, int_max}
 use Rattle.std.proofs.lemmas.Int.{ints, clamps}
 use Rattle.std.proofs.lemmas.Bool.{cases_lt, cases_eq, false≢true}
 use Rattle.std.proofs.lemmas.List.{ext_get_or, get_or_past, get_or-set_same, get_or-set_other, set-get_or}
 use Rattle.std.proofs.Math.ListN.{length-set}
-use Rattle.geo_conditions.specs.Reach.{State, Reach, reach, nowhere, has, place_in, low, high, with_low, with_high, with_places, without, NotEmpty, HasNoEmpty, Inside}
+use Rattle.geo_conditions.specs.Reach.{State, Reach, reach, nowhere, has, low, high, with_low, with_high, with_places, without, NotEmpty}
 use Rattle.geo_conditions.proofs.Decide.{cases_ℤ}
 use Rattle.geo_conditions.proofs.Points.{inside_self}
 use Rattle.geo_conditions.specs.Walk.{Variable, PlaceOf, CoordinateOf, object_of, IsFixed, IsFirstValue}
 use Rattle.derivation.specs.declared.side.Side.TheVariants.{Upto, From}
-use Rattle.derivation.specs.Chains.{cut_to_side}
 use Rattle.derivation.proofs.Chains.{moved_is_cut}
 use Rattle.derivation.specs.Valid.{alone}
 use Rattle.geo_state.proofs.Shapes.{place_few}

@@ -8,7 +8,6 @@ use Rattle.geo_conditions.specs.Walk.{Variable as Seen, PlaceOf, CoordinateOf}
 use Rattle.geo_conditions.proofs.Defaults.{any_default}
 use Rattle.geo_conditions.proofs.Full.{IsAmong}
 use Rattle.trail_search.specs.declared.variable.Variable.{Variable}
-use Rattle.trail_search.specs.declared.variable.Variable.TheVariants.{Place}
 use Rattle.geo_state.proofs.Numbers.{small_kept}
 use Rattle.trail_search.specs.Cursor.{IsValueOf, AreValues}
 use Rattle.trail_search.specs.Variables.{variable_of, IsAt, HasOne}

@@ -1,9 +1,9 @@
 -- The values of the layout that was found.
-use Rattle.std.proofs.Common.{◌≡◌, ℕ, zero, suc, ◌+◌, ◌<◌, Bool, true, false, List, [], ◌∷◌, length, map, get_or, refl, sym, ap, ◌∙◌, subst, arith, ℤ, pos, Option, Some, None}
+use Rattle.std.proofs.Common.{◌≡◌, ℕ, ◌<◌, Bool, true, false, List, length, get_or, sym, ap, ◌∙◌, subst, arith, ℤ, pos, Some, None}
 use Rattle.std.proofs.Math.ListN.{get_or-map}
 use Rattle.std.proofs.lemmas.List.{length-map}
 use Rattle.geo_base.specs.Boxes.{coordinate}
-use Rattle.geo_conditions.specs.Reach.{State, IsState, Tuple, spot}
+use Rattle.geo_conditions.specs.Reach.{IsState, Tuple, spot}
 use Rattle.geo_conditions.specs.Walk.{Variable, PlaceOf, CoordinateOf, Order, NamesEach, value_in, values, variables_in}
 use Rattle.geo_conditions.proofs.Defaults.{any_default}
 use Rattle.geo_conditions.proofs.Few.{dims_are}

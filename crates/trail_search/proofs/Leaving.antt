@@ -1,8 +1,8 @@
 -- The level that is closed.
-use Rattle.std.proofs.Common.{◌≡◌, ℕ, suc, ◌<◌, List, [], ◌∷◌, ◌++◌, length, map, get_or, sym, ap, ◌∙◌, subst, arith, ℤ, pos}
+use Rattle.std.proofs.Common.{◌≡◌, ℕ, ◌<◌, List, [], ◌∷◌, ◌++◌, length, map, get_or, sym, ap, subst, arith, ℤ, pos}
 use Rattle.std.specs.List.{All}
 use Rattle.std.proofs.lemmas.Int.{ints}
-use Rattle.geo_conditions.specs.Reach.{State, Inside}
+use Rattle.geo_conditions.specs.Reach.{Inside}
 use Rattle.geo_conditions.specs.Walk.{Variable as Seen, PlaceOf, CoordinateOf, object_of}
 use Rattle.geo_state.specs.Trail.{Trail, IsSmallNumber}
 use Rattle.trail_search.specs.declared.variable.Variable.{Variable}

@@ -1,20 +1,17 @@
 -- The loop of a walk: one turn after another.
-use Rattle.std.proofs.Common.{◌≡◌, ◌≢◌, ℕ, zero, suc, ◌+◌, ◌-◌, ◌*◌, ◌<◌, ◌≤◌, Bool, true, false, List, [], ◌∷◌, ◌++◌, length, take, get_or, refl, sym, ap, ◌∙◌, subst, inl, inr, ◌⊎◌, arith, ℤ, pos, Option, Some, None, nat_eq, ne_eqb, suc-mul}
-use Rattle.std.specs.Prelude.{Result, Ok, Err}
-use Rattle.std.specs.List.{All}
-use Rattle.std.proofs.Math.ListN.{length-append}
+use Rattle.std.proofs.Common.{◌≡◌, ℕ, suc, ◌+◌, ◌-◌, ◌*◌, ◌<◌, ◌≤◌, true, false, List, [], ◌∷◌, ◌++◌, length, take, get_or, refl, sym, ap, ◌∙◌, subst, inl, inr, arith, ℤ, Some, None, nat_eq, ne_eqb, suc-mul}
+use Rattle.std.specs.Prelude.{Result, Ok}
 use Rattle.std.proofs.lemmas.List.{append-nil, append_assoc}
 use Rattle.std.proofs.lemmas.Bool.{cases_eq}
 use Rattle.std.proofs.lemmas.List.Elements.{All-nil, All-push}
 use Rattle.geo_conditions.specs.declared.cond.Cond.{Cond}
-use Rattle.geo_conditions.specs.Reach.{State, Inside}
-use Rattle.geo_conditions.specs.Walk.{Variable, IsFirstValue, Tree, IsIn, IsFront, IsWhole, GoesOn, is_full}
-use Rattle.trail_search.specs.declared.step.Step.TheVariants.{Found, Ended, Budget, Memory}
+use Rattle.geo_conditions.specs.Reach.{State}
+use Rattle.geo_conditions.specs.Walk.{Variable, IsFirstValue, Tree, IsFront, IsWhole, GoesOn, is_full}
+use Rattle.trail_search.specs.declared.step.Step.TheVariants.{Found, Ended, Budget}
 use Rattle.geo_state.specs.declared.propagate.Settled.{Settled}
 use Rattle.geo_state.specs.declared.propagate.Settled.TheVariants.{Kept, Dead}
 use Rattle.trail_search.specs.Cursor.{Stands, NoneMeets, Narrows, IsFrom, IsLeft}
 use Rattle.trail_search.specs.Walker.{Position, tree_of, depth, path, SameWalk, IsWell, Searches, Rests, IsStuck, SettledAs, KeptAs, DeadAs, Walks, Walking, IsReady, ReadyFor, IsFresh, FirstBound, IsToken}
-use Rattle.std.proofs.lemmas.Int.{ints}
 use Rattle.trail_search.proofs.Walking.{same_trans}
 use Rattle.trail_search.proofs.Standing.{tree_same, path_length, at_number, stands_whole, visit_in, searches_as, stands_start, stands_after, levels_none, left_start, left_bound}
 

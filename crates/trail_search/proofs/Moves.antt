@@ -1,11 +1,10 @@
 -- One variable narrowed: fixed to its first value, or cut before a bound.
-use Rattle.std.proofs.Common.{◌≡◌, ◌≢◌, ℕ, zero, suc, ◌+◌, ◌-◌, ◌<◌, ◌≤◌, Bool, true, false, List, length, set, negsuc, get_or, refl, sym, ap, ◌∙◌, subst, inl, inr, ◌⊎◌, arith, ℤ, pos, ◌≤ℤ◌, ◌<ℤ◌}
+use Rattle.std.proofs.Common.{◌≡◌, ◌≢◌, ℕ, zero, suc, ◌+◌, ◌<◌, ◌≤◌, Bool, true, false, List, length, set, refl, sym, ap, ◌∙◌, subst, inl, inr, arith, ℤ, pos, ◌≤ℤ◌, ◌<ℤ◌}
 use Rattle.std.proofs.lemmas.Int.{ints}
-use Rattle.std.proofs.Common.{◌+ℤ◌}
 use Rattle.std.proofs.lemmas.Bool.{cases_lt, cases_eq, false≢true}
 use Rattle.std.proofs.lemmas.List.{get_or_past, get_or-set_same, get_or-set_other}
 use Rattle.std.proofs.Math.ListN.{length-set}
-use Rattle.geo_conditions.specs.Reach.{State, Reach, Region, reach, dims, nowhere, place_in, has, low, high, with_low, with_high, without, Within, Inside, NotEmpty, HasNoEmpty}
+use Rattle.geo_conditions.specs.Reach.{State, Reach, reach, nowhere, place_in, has, low, high, with_low, with_high, without, Inside, NotEmpty, HasNoEmpty}
 use Rattle.geo_base.specs.Boxes.{coordinate}
 use Rattle.geo_conditions.proofs.Points.{inside_self, inside_trans}
 use Rattle.geo_conditions.proofs.Greatest.{narrowed, still_inside, at_set}

@@ -1,17 +1,18 @@
 -- What `next` answers.
-use Rattle.std.proofs.Common.{◌≡◌, ◌≢◌, ℕ, ◌+◌, ◌<◌, ◌≤◌, Bool, true, false, List, [], ◌∷◌, ◌++◌, length, drop, refl, sym, ap, ◌∙◌, subst, inl, inr, arith, ℤ, Option, Some, None, take, nat_eq, eq-eqb, eqb-true}
+use Rattle.std.proofs.Common.{◌≡◌, ◌≢◌, ℕ, ◌≤◌, Bool, true, false, List, [], ◌∷◌, ◌++◌, length, drop, refl, sym, ap, ◌∙◌, subst, inl, inr, arith, ℤ, Option, Some, None, take, nat_eq, eq-eqb, eqb-true}
 use Rattle.std.specs.List.{All}
 use Rattle.std.proofs.Math.ListN.{length-append}
 use Rattle.std.proofs.Math.Seq.{take-length}
 use Rattle.geo_conditions.specs.declared.cond.Cond.{Cond}
 use Rattle.geo_conditions.specs.Conditions.{FitsIn}
 use Rattle.geo_conditions.specs.Reach.{State, IsState}
-use Rattle.std.proofs.lemmas.Bool.{cases_lt}
+use Rattle.std.proofs.lemmas.Bool.{cases_lt, false≢true}
 use Rattle.geo_conditions.specs.Walk.{Order, NamesEach, Variable, variables, variables_in, Tree, is_full, IsFront, IsWhole, GoesOn}
 use Rattle.derivation.specs.declared.event.Event.{Event}
 use Rattle.trail_search.specs.declared.step.Step.{Step}
 use Rattle.trail_search.specs.declared.step.Step.TheVariants.{Found, Ended, Budget, Memory}
 use Rattle.trail_search.specs.Next.{SearchView, Answers, AsBefore, IsSound}
+use Rattle.trail_search.specs.Record.{Derives, IsUnmoved, RecordsStep}
 use Rattle.trail_search.specs.Walker.{Position, tree_of, depth, path, SameWalk, IsWell, IsReady, ReadyFor, StandsFor, StandsAt, GoesOnAs}
 use Rattle.trail_search.proofs.Standing.{tree_same, path_length}
 
@@ -109,3 +110,48 @@ no_objects k p h e = no_variables k p.first h.0.objects h.0.down h.1 (sym h.2 �
 pub no_events : (es : List Event) (n : ℕ) → n ≡ length es → nat_eq n 0 ≡ true → es ≡ []
 no_events [] n e h = refl
 no_events (x ∷ es) n e h = absurd (let z : n ≡ 0 = eqb-true n 0 h in omega (arith, e, z))
+
+-- a search that has found nothing so far stands behind no layout
+pub none_found : (found some : Bool) → (found ≡ true → some ≡ true) → some ≡ false → found ≡ false
+none_found true some h f = absurd (false≢true (sym f ∙ h refl))
+none_found false some h f = refl
+
+-- what is true of a search behind a step of its walk, but for what the answer decides
+sound_behind : (k : ℕ) (keeps : Bool) (cs ds : List Cond) (a b n : ℕ) (p q : Position) (found found' : Bool) (over over' : Option Step) (some some' began : Bool) (old new : List Event) →
+    IsSound k keeps cs a n p found over some began old → IsWell k q → SameWalk p q → ds ≡ cs → b ≡ a → (over' ≡ None → q.walked ≤ n) → (over' ≡ None → IsReady ds q found') → (over' ≡ Some Memory → keeps ≡ true) → over' ≢ Some Found →
+    (found' ≡ true → some' ≡ true) → (keeps ≡ true → began ≡ true → some' ≡ false → q.token ≡ None → Derives ds q over' new) → IsSound k keeps ds b n q found' over' some' began new
+sound_behind k keeps cs ds a b n p q found found' over over' some some' began old new i well same e m count ready memory last has derives = record {
+  well = well;
+  state = subst (IsState k) (sym same.first) i.state;
+  count = count;
+  objects = ap length same.first ∙ i.objects ∙ sym m;
+  fits = subst (λ (S : State). All (λ c. FitsIn c S) ds) (sym same.first) (subst (All (λ c. FitsIn c p.first)) (sym e) i.fits);
+  ready = ready;
+  memory = memory;
+  last = last;
+  named = (i.named.0, subst (λ (S : State). NamesEach k S i.named.0) (sym same.first) i.named.1, same.variables ∙ i.named.2);
+  some = has;
+  derives = derives;
+}
+
+-- the same where it has found a full member
+pub sound_found : (k : ℕ) (keeps : Bool) (cs ds : List Cond) (a b n : ℕ) (p q : Position) (found : Bool) (over : Option Step) (some began : Bool) (old new : List Event) (r : Step) → IsSound k keeps cs a n p found over some began old →
+    over ≡ None → IsWell k q → SameWalk p q → ds ≡ cs → b ≡ a → r ≡ Found → (IsReady cs p found → GoesOnAs cs n p r q) → IsSound k keeps ds b n q true over true began new
+sound_found k keeps cs ds a b n p q found over some began old new r i none well same e m is walks =
+    let h : GoesOnAs cs n p Found q = subst (λ (s : Step). GoesOnAs cs n p s q) is (walks (i.ready none)) in
+    sound_behind k keeps cs ds a b n p q found true over over some true began old new i well same e m (λ o. h.2.5) (λ o. subst (λ (z : List Cond). IsReady z q true) (sym e) h.2.6) (λ o. absurd (cc)) (λ o. cc) (λ o. refl)
+    (λ k b s t. absurd (cc))
+
+-- the same where it is over: a recorder that keeps nothing never wants memory
+pub sound_over : (k : ℕ) (keeps : Bool) (cs ds : List Cond) (a b n : ℕ) (p q : Position) (found : Bool) (over : Option Step) (some began : Bool) (old new : List Event) (r s : Step) → IsSound k keeps cs a n p found over some began old →
+    over ≡ None → IsWell k q → SameWalk p q → ds ≡ cs → b ≡ a → r ≡ s → s ≢ Found → (s ≡ Memory → keeps ≢ false) → (keeps ≡ true → found ≡ false → p.token ≡ None → IsUnmoved p → old ≡ [] → RecordsStep cs q r new) →
+    IsSound k keeps ds b n q false (Some s) some began new
+sound_over k keeps cs ds a b n p q found over some began old new r s i none well same e m is other memory records =
+    sound_behind k keeps cs ds a b n p q found false over (Some s) some some began old new i well same e m (λ o. absurd (cc)) (λ o. absurd (cc)) (λ o. kept keeps (memory (cc))) (λ o. other (cc)) (λ o. absurd (false≢true o)) (λ k b f t.
+    let token : p.token ≡ None = sym same.token ∙ t in
+    let d = subst (λ (o : Option Step). Derives cs p o old) none (i.derives k b f token) in
+    subst (λ (z : List Cond). RecordsStep z q s new) (sym e) (subst (λ (z : Step). RecordsStep cs q z new) is (records k (none_found found some i.some f) token d.0 d.1)))
+  where
+    kept : (b : Bool) → b ≢ false → b ≡ true
+    kept true h = refl
+    kept false h = absurd (h refl)

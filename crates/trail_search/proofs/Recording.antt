@@ -1,16 +1,13 @@
 -- The record of a search, move by move.
-use Rattle.std.proofs.Common.{◌≡◌, ℕ, zero, suc, ◌+◌, ◌<◌, ◌≤◌, true, false, Bool, List, [], ◌∷◌, ◌++◌, length, set, get_or, refl, sym, ap, ◌∙◌, subst, inl, inr, arith, ℤ, pos, ◌≤ℤ◌, Option, Some, None, append_assoc}
+use Rattle.std.proofs.Common.{◌≡◌, ℕ, zero, suc, ◌+◌, ◌<◌, true, false, Bool, List, [], ◌∷◌, ◌++◌, length, set, get_or, refl, sym, ap, ◌∙◌, subst, arith, ℤ, pos, append_assoc}
 use Rattle.std.specs.Prelude.{Result, Ok, Err, OnOk, IfOk, is_err}
 use Rattle.std.proofs.lemmas.Int.{ints}
 use Rattle.std.proofs.Math.ListN.{length-append}
 use Rattle.std.proofs.lemmas.List.{get_or_append_left, get_or_push, get_or-set_same, get_or-set_other, get_or_default}
 use Rattle.geo_conditions.specs.declared.cond.Cond.{Cond}
-use Rattle.geo_conditions.specs.Reach.{State, Reach, IsState, dims, has, reach}
+use Rattle.geo_conditions.specs.Reach.{State, IsState}
 use Rattle.geo_conditions.specs.Walk.{Variable, PlaceOf, CoordinateOf, object_of, IsFirstValue}
 use Rattle.derivation.specs.declared.event.Event.{Event}
-use Rattle.derivation.specs.Covers.{IsCut}
-use Rattle.derivation.specs.declared.side.Side.TheVariants.{Upto, From}
-use Rattle.geo_state.specs.Trail.{Trail}
 use Rattle.geo_state.specs.Settle.{Records}
 use Rattle.geo_state.specs.declared.propagate.Settled.{Settled}
 use Rattle.geo_state.specs.declared.propagate.Settled.TheVariants.{Kept, Dead}
@@ -19,8 +16,8 @@ use Rattle.whole_derivation.specs.Whole.{HalfFits, IsDerivation}
 use Rattle.whole_derivation.proofs.Completing.{completes_led, closes_derives, split_derives}
 use Rattle.trail_search.specs.Cursor.{HasAfter, HasDimension, IsValueOf}
 use Rattle.trail_search.specs.Variables.{half_of, split_of}
-use Rattle.trail_search.specs.Walker.{Position, SameWalk, depth}
-use Rattle.trail_search.specs.Record.{with_first, with_later, Level, level, HasLater, later_case, levels_below, open_levels, ClosesCase, ClosesWith, IsClosedRecord, IsRecord, SettlesRecord, RecordsCases, IsFixedTo, IsUnmoved}
+use Rattle.trail_search.specs.Walker.{Position, depth}
+use Rattle.trail_search.specs.Record.{with_later, Level, level, levels_below, open_levels, ClosesCase, IsClosedRecord, IsRecord, SettlesRecord, RecordsCases, IsFixedTo, IsUnmoved}
 
 -- only the levels below the number matter
 levels_as : (p q : Position) (n : ℕ) → ((i : ℕ) → i < n → level p i ≡ level q i) → levels_below p n ≡ levels_below q n

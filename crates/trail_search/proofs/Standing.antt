@@ -1,10 +1,9 @@
 -- The invariant of a search, and what each step does to it.
-use Rattle.std.proofs.Common.{◌≡◌, ◌≢◌, ℕ, zero, suc, ◌+◌, ◌<◌, ◌≤◌, Bool, true, false, List, [], ◌∷◌, ◌++◌, length, take, get_or, refl, sym, ap, ◌∙◌, subst, inl, inr, ◌⊎◌, arith, ℤ, pos, Option, Some, None, Contains}
+use Rattle.std.proofs.Common.{◌≡◌, ℕ, suc, ◌+◌, ◌<◌, ◌≤◌, Bool, true, false, List, [], ◌∷◌, ◌++◌, length, take, get_or, refl, sym, ap, ◌∙◌, subst, inl, inr, ◌⊎◌, arith, ℤ, pos, Option, Some, None}
 use Rattle.std.specs.Prelude.{IfSome}
 use Rattle.std.specs.List.{All}
-use Rattle.std.proofs.lemmas.Int.{ints}
 use Rattle.std.proofs.lemmas.Bool.{cases_lt, cases_eq}
-use Rattle.std.proofs.lemmas.List.{get_or_append_left, take-append-le, take_all}
+use Rattle.std.proofs.lemmas.List.{get_or_append_left, take-append-le}
 use Rattle.std.proofs.Math.Seq.{get_or-append_seam, take-append_seam}
 use Rattle.std.proofs.Math.ListN.{length-append}
 use Rattle.std.proofs.lemmas.List.Elements.{All-nil, All-push}
@@ -16,15 +15,13 @@ use Rattle.geo_conditions.proofs.Steps.{front_none, front_push, front_whole}
 use Rattle.geo_conditions.proofs.Fronts.{precedes_once}
 use Rattle.geo_conditions.specs.Walk.{Variable, AreOf, Precedes, IsAfter, IsFixed, IsFirstValue, Begins, Tree, IsIn, IsMember, IsFront, IsWhole}
 use Rattle.trail_search.specs.Cursor.{HasDimension, HasNoneFrom, IsValueOf, AreValues, after, IsFrom, AtNext, Meets, Rest, IsBest, IsLeft, NoneMeets, Narrows, IsLevel, AreLevels, FollowsToken, Stands, bound_at}
-use Rattle.trail_search.specs.Walker.{Position, tree_of, depth, path, SameWalk, Searches, Rests, IsStuck, IsDone, StaysOn, Closes, Tightens, IsWell, IsToken}
+use Rattle.trail_search.specs.Walker.{Position, tree_of, depth, path, SameWalk, Searches, Rests, IsStuck, IsDone, StaysOn, Closes, IsWell, IsToken}
 use Rattle.trail_search.proofs.Walking.{last_of, before_last}
 use Rattle.std.specs.Prelude.{Result, Ok, Err}
 use Rattle.geo_state.specs.declared.propagate.Settled.{Settled}
 use Rattle.geo_state.specs.declared.propagate.Settled.TheVariants.{Kept, Dead}
 use Rattle.geo_state.specs.Settle.{SettlesOr}
 use Rattle.trail_search.specs.Walker.{SettledAs}
-use Rattle.geo_state.proofs.Fits.{all_fit}
-use Rattle.geo_state.specs.Trail.{IsSmallNumber}
 use Rattle.geo_conditions.proofs.Defaults.{any_default}
 use Rattle.std.proofs.Common.{set}
 use Rattle.std.proofs.Math.Seq.{take-suc, take-suc-set}

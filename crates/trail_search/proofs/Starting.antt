@@ -1,6 +1,6 @@
 -- A walker that is made.
-use Rattle.std.proofs.Common.{◌≡◌, ◌≢◌, ℕ, zero, suc, ◌+◌, ◌-◌, ◌*◌, ◌<◌, ◌≤◌, Bool, true, false, List, [], ◌∷◌, ◌++◌, length, map, get_or, replicate, refl, sym, ap, ◌∙◌, subst, inl, inr, arith, ℤ, pos, negsuc, ◌≤ℤ◌, Option, Some, None, eqb, Contains, suc-mul}
-use Rattle.std.specs.Prelude.{IfSome, AllPairs, ◌||◌}
+use Rattle.std.proofs.Common.{◌≡◌, ℕ, suc, ◌+◌, ◌*◌, ◌<◌, ◌≤◌, Bool, true, List, [], ◌∷◌, ◌++◌, length, get_or, refl, sym, ap, ◌∙◌, subst, inl, inr, arith, ℤ, pos, Option, Some, None, eqb, suc-mul}
+use Rattle.std.specs.Prelude.{IfSome, ◌||◌}
 use Rattle.std.specs.List.{All, list_any}
 use Rattle.std.specs.Option.{option_map}
 use Rattle.std.proofs.lemmas.Int.{ints}
@@ -13,9 +13,8 @@ use Rattle.std.proofs.lemmas.List.Elements.{All-nil, All-cons, All-head, All-tai
 use Rattle.std.proofs.lemmas.Map.Steps.{length-le_from_distinct_below}
 use Rattle.std.proofs.Math.ListN.{length-append}
 use Rattle.geo_base.specs.declared.TheConstants.{MAX_DIMS}
-use Rattle.geo_base.specs.Boxes.{coordinate}
 use Rattle.geo_conditions.specs.declared.object.TheConstants.{MAX_OBJECTS}
-use Rattle.geo_conditions.specs.Reach.{State, IsState, Tuple, TupleIn, Inside, spot, reach, low, high}
+use Rattle.geo_conditions.specs.Reach.{State, IsState, Tuple, TupleIn, Inside, spot, reach}
 use Rattle.geo_conditions.specs.Walk.{Variable, PlaceOf, CoordinateOf, object_of, Order, NamesEach, AreOf, value_in, values, variables, variables_of, variables_in, coordinates_from}
 use Rattle.geo_conditions.proofs.Points.{inside_self}
 use Rattle.geo_conditions.proofs.Orders.{order_are_of}

@@ -1,13 +1,9 @@
 -- The steps of a search: what they leave to visit.
-use Rattle.std.proofs.Common.{◌≡◌, ℕ, zero, suc, ◌+◌, ◌<◌, ◌≤◌, Bool, true, false, List, [], ◌∷◌, ◌++◌, length, refl, sym, ap, ◌∙◌, subst, inl, inr, ◌⊎◌, arith, ℤ, pos, negsuc, ◌+ℤ◌, ◌≤ℤ◌, ◌<ℤ◌, Option, Some, None}
+use Rattle.std.proofs.Common.{◌≡◌, suc, ◌<◌, ◌≤◌, true, false, List, [], ◌∷◌, ◌++◌, length, refl, sym, ap, ◌∙◌, subst, inl, inr, ◌⊎◌, arith, ℤ, pos, ◌≤ℤ◌, ◌<ℤ◌, Option, Some, None}
 use Rattle.std.proofs.lemmas.Int.{ints, by_lt_z}
-use Rattle.std.specs.List.{All}
-use Rattle.geo_conditions.specs.declared.cond.Cond.{Cond}
-use Rattle.geo_conditions.specs.Reach.{State, Reach, reach, has, low, high, Inside, HasNoEmpty}
-use Rattle.geo_conditions.specs.Supported.{IsSupported, IsGreatest, NoneInside}
-use Rattle.geo_conditions.proofs.Points.{inside_trans, inside_self}
-use Rattle.geo_conditions.specs.Walk.{Variable, PlaceOf, CoordinateOf, object_of, AreOf, IsBefore, Precedes, IsFixed, IsFirstValue, Begins, Tree, IsIn, IsMember, IsFront, IsWhole}
-use Rattle.trail_search.specs.Cursor.{after, IsFrom, AtNext, Meets, Rest, IsBest, IsLeft, NoneMeets, Narrows, IsLevel, AreLevels}
+use Rattle.geo_conditions.specs.Reach.{State, low, high, Inside, HasNoEmpty}
+use Rattle.geo_conditions.specs.Walk.{Variable, PlaceOf, CoordinateOf, object_of, AreOf, IsBefore, Precedes, IsFixed, IsFirstValue, Begins}
+use Rattle.trail_search.specs.Cursor.{after, IsFrom, AtNext, Meets, Rest}
 
 -- ---- one variable
 

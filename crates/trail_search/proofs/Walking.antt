@@ -1,5 +1,5 @@
 -- Small facts for the walker's code.
-use Rattle.std.proofs.Common.{◌≡◌, ℕ, zero, suc, ◌+◌, ◌<◌, ◌≤◌, List, [], ◌∷◌, ◌++◌, map, length, get_or, refl, sym, ap, ◌∙◌, subst, arith, ℤ, pos, negsuc, ◌≤ℤ◌, ◌+ℤ◌, ◌^◌, true, false}
+use Rattle.std.proofs.Common.{◌≡◌, ℕ, zero, suc, ◌+◌, ◌<◌, ◌≤◌, List, [], ◌∷◌, ◌++◌, map, length, get_or, sym, ap, ◌∙◌, subst, arith, ℤ, pos, negsuc, ◌≤ℤ◌, ◌^◌, true, false}
 use Rattle.std.proofs.lemmas.Int.{ints}
 use lib.Signed.{mag}
 use Rattle.trail_search.specs.Cursor.{after, bound_at, token_bound}
@@ -10,7 +10,7 @@ use Rattle.trail_search.proofs.Token.{bound_last}
 use Rattle.std.specs.List.{All}
 use Rattle.std.proofs.Math.ListN.{get_or-map, length-append}
 use Rattle.std.proofs.lemmas.List.{length-map}
-use Rattle.geo_conditions.specs.Reach.{State, Inside}
+use Rattle.geo_conditions.specs.Reach.{State}
 use Rattle.geo_conditions.specs.Walk.{Variable as Seen, PlaceOf, CoordinateOf, object_of, AreOf}
 use Rattle.trail_search.specs.declared.variable.Variable.{Variable}
 use Rattle.trail_search.specs.Variables.{variable_of}

@@ -1,7 +1,6 @@
 -- Where a search stands: the values that it has fixed, what is left to visit, and what its levels restore.
-use Rattle.std.specs.Prelude.{◌≡◌, ℕ, zero, suc, ◌+◌, ◌<◌, ◌⊎◌, Bool, true, false, List, [], ◌∷◌, ◌++◌, length, ℤ, pos, negsuc, ◌+ℤ◌, ◌≤ℤ◌, ◌<ℤ◌, Option, Some, None, IfSome, slice_index_or, take}
+use Rattle.std.specs.Prelude.{◌≡◌, ℕ, zero, suc, ◌<◌, ◌⊎◌, Bool, true, false, List, [], ◌∷◌, length, ℤ, pos, negsuc, ◌+ℤ◌, ◌≤ℤ◌, ◌<ℤ◌, Option, Some, None, slice_index_or, take}
 use Rattle.std.specs.List.{All}
-use Rattle.geo_conditions.specs.declared.cond.Cond.{Cond}
 use Rattle.geo_state.specs.Trail.{IsSmallNumber}
 use Rattle.geo_conditions.specs.Reach.{State, has, low, high, Inside, HasNoEmpty}
 use Rattle.geo_conditions.specs.Supported.{IsSupported}

@@ -1,5 +1,5 @@
 -- The record of a search: what its events lead to, and what closes them.
-use Rattle.std.specs.Prelude.{◌≡◌, ◌≢◌, ℕ, zero, suc, false, List, [], ◌∷◌, ◌++◌, slice_index_or, ℤ, pos, Option, Some, None}
+use Rattle.std.specs.Prelude.{◌≡◌, ℕ, zero, suc, List, [], ◌∷◌, ◌++◌, slice_index_or, ℤ, pos, Option, Some, None}
 use Rattle.geo_conditions.specs.declared.cond.Cond.{Cond}
 use Rattle.geo_conditions.specs.Reach.{State, Reach}
 use Rattle.geo_conditions.specs.Walk.{Variable, PlaceOf, object_of, IsFirstValue}

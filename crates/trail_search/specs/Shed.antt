@@ -1,5 +1,5 @@
 -- Places that are taken away from an object.
-use Rattle.std.specs.Prelude.{◌≡◌, ◌⊎◌, ℕ, ◌+◌, ◌<◌, ◌≤◌, Bool, false, true, List, length, slice_index_or, slice_set}
+use Rattle.std.specs.Prelude.{◌≡◌, ◌⊎◌, ℕ, ◌+◌, ◌<◌, ◌≤◌, Bool, false, List, length, slice_index_or, slice_set}
 use Rattle.geo_conditions.specs.Reach.{State, reach, has, with_places, Inside}
 
 -- N is G without the object's places from a up to before b

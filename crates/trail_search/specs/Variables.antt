@@ -1,5 +1,5 @@
 -- The variables of the code.
-use Rattle.std.specs.Prelude.{◌≡◌, ◌<◌, ℕ, List, length, slice_index_or, map, Option, None, Some, ℤ, pos, negsuc, true, false}
+use Rattle.std.specs.Prelude.{◌≡◌, ◌<◌, ℕ, List, length, slice_index_or, Option, None, Some, ℤ, pos, negsuc, true, false}
 use Rattle.derivation.specs.declared.event.Event.{Event}
 use Rattle.derivation.specs.declared.side.Side.TheVariants.{Upto, From}
 use Rattle.derivation.specs.declared.half.Half.{Half}

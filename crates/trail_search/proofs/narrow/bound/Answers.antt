@@ -1,11 +1,11 @@
 use Rattle.std.proofs.Common.{◌≡◌, ◌<ℤ◌, set, length, pos, ◌≤ℤ◌, ap, sym, ◌∙◌, subst, ℤ, Bool, true, false}
 use Rattle.geo_conditions.specs.Reach.{State, reach, low, high, with_low, with_high}
 use Rattle.geo_state.proofs.Numbers.{kept64}
-use Rattle.geo_conditions.specs.Walk.{object_of, IsFixed, IsFirstValue, CoordinateOf}
+use Rattle.geo_conditions.specs.Walk.{IsFirstValue, CoordinateOf}
 use Rattle.trail_search.specs.declared.variable.Variable.{Variable}
-use Rattle.trail_search.specs.declared.variable.Variable.TheVariants.{Place, Coordinate}
+use Rattle.trail_search.specs.declared.variable.Variable.TheVariants.{Coordinate}
 use Rattle.trail_search.specs.Variables.{variable_of}
-use Rattle.trail_search.specs.Cursor.{HasDimension, Narrows, IsFrom}
+use Rattle.trail_search.specs.Cursor.{Narrows, IsFrom}
 use Rattle.trail_search.specs.Cursor.{after, HasAfter}
 use Rattle.trail_search.specs.Record.{with_later}
 use Rattle.trail_search.proofs.Moves.{bound_place}

@@ -1,9 +1,7 @@
-use Rattle.std.proofs.Common.{◌≡◌, ◌∙◌, true, false, sym, ap, subst, refl, ℤ}
-use Rattle.std.proofs.lemmas.Bool.{false≢true}
-use Rattle.geo_conditions.specs.Reach.{State}
-use Rattle.geo_conditions.specs.Walk.{IsFixed, IsFirstValue}
+use Rattle.std.proofs.Common.{◌∙◌, ap, subst, refl, ℤ}
+use Rattle.geo_conditions.specs.Walk.{IsFixed}
 use Rattle.geo_state.proofs.Numbers.{kept64}
-use Rattle.trail_search.specs.Cursor.{HasAfter, Narrows}
+use Rattle.trail_search.specs.Cursor.{Narrows}
 use Rattle.trail_search.specs.Record.{with_first}
 use Rattle.trail_search.specs.Variables.{variable_of}
 use Rattle.trail_search.proofs.Cases.{fixed_already, has_later, has_no_later}

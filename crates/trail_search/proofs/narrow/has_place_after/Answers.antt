@@ -1,4 +1,4 @@
-use Rattle.std.proofs.Common.{◌≡◌, ◌∙◌, sym, subst, ap, arith, ℤ, pos, ◌<ℤ◌, true}
+use Rattle.std.proofs.Common.{◌∙◌, sym, subst, arith, ℤ}
 use Rattle.std.proofs.lemmas.Int.{ints}
 use Rattle.std.proofs.lemmas.Bool.{false≢true}
 use Rattle.geo_state.proofs.Numbers.{kept64}

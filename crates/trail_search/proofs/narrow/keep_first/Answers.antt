@@ -1,14 +1,13 @@
 use Rattle.std.proofs.Common.{◌≡◌, ◌<◌, ◌≤◌, ◌+◌, ℕ, pos, length, set, arith, ap, sym, ◌∙◌, subst, refl, ℤ, Bool, true, false}
 use Rattle.std.proofs.lemmas.Int.{ints}
-use Rattle.geo_base.specs.Boxes.{coordinate}
-use Rattle.geo_conditions.specs.Reach.{State, IsState, Region, reach, has, NotEmpty, low, high, with_low, with_high}
+use Rattle.geo_conditions.specs.Reach.{State, IsState, reach, has, NotEmpty, with_low, with_high}
 use Rattle.geo_state.proofs.Numbers.{kept64}
-use Rattle.geo_state.proofs.Shapes.{lo_long, hi_long, places_long}
-use Rattle.geo_conditions.specs.Walk.{object_of, IsFixed, IsFirstValue, CoordinateOf}
+use Rattle.geo_state.proofs.Shapes.{lo_long, hi_long}
+use Rattle.geo_conditions.specs.Walk.{object_of, IsFixed, IsFirstValue}
 use Rattle.trail_search.specs.declared.variable.Variable.{Variable}
-use Rattle.trail_search.specs.declared.variable.Variable.TheVariants.{Place, Coordinate}
+use Rattle.trail_search.specs.declared.variable.Variable.TheVariants.{Coordinate}
 use Rattle.trail_search.specs.Variables.{variable_of}
-use Rattle.trail_search.specs.Cursor.{HasDimension, Narrows, IsFrom}
+use Rattle.trail_search.specs.Cursor.{HasDimension, Narrows}
 use Rattle.trail_search.specs.Record.{with_first}
 use Rattle.trail_search.proofs.Moves.{fix_least, fix_up, fix_down}
 use Rattle.trail_search.proofs.Cases.{first_place, first_up, first_down}

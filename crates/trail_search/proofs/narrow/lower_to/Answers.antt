@@ -1,9 +1,9 @@
-use Rattle.std.proofs.Common.{◌≡◌, ◌<◌, ◌+◌, length, set, arith, ap, sym, ◌∙◌, subst, refl, ℤ, Bool, true, false}
+use Rattle.std.proofs.Common.{◌≡◌, set, arith, ap, ◌∙◌, subst, ℤ}
 use Rattle.std.proofs.lemmas.Int.{ints}
 use Rattle.geo_base.specs.Boxes.{coordinate}
-use Rattle.geo_conditions.specs.Reach.{State, IsState, Region, reach, has, NotEmpty, low, high, with_low, with_high}
+use Rattle.geo_conditions.specs.Reach.{State, IsState, Region, reach, low, high, with_high}
 use Rattle.geo_state.proofs.Numbers.{kept64}
-use Rattle.geo_state.proofs.Shapes.{lo_long, hi_long, places_long}
+use Rattle.geo_state.proofs.Shapes.{hi_long, places_long}
 use Rattle.trail_search.proofs.Moves.{bound_none, bound_down, same_down, none_down}
 use Rattle.trail_search.proofs.narrow.lower_to.Goals as goal
 

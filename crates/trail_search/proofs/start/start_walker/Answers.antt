@@ -1,8 +1,7 @@
-use Rattle.std.proofs.Common.{◌≡◌, ◌≤◌, ap, sym, ◌∙◌, subst, refl, arith, List, map, length}
+use Rattle.std.proofs.Common.{ap, sym, ◌∙◌, subst, arith, List, map, length}
 use Rattle.std.specs.List.{All}
 use Rattle.std.proofs.lemmas.List.{length-map}
-use Rattle.geo_conditions.specs.Reach.{State}
-use Rattle.geo_conditions.specs.Walk.{Variable as Seen, AreOf, values, variables_in}
+use Rattle.geo_conditions.specs.Walk.{Variable as Seen, AreOf, values}
 use Rattle.std.specs.Option.{option_map, option_copied}
 use Rattle.geo_conditions.proofs.Orders.{order_are_of}
 use Rattle.geo_state.specs.Trail.{IsSmall}

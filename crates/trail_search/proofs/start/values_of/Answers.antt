@@ -1,6 +1,5 @@
-use Rattle.std.proofs.Common.{◌≡◌, ◌<◌, length, map, get_or, arith, ap, sym, ◌∙◌}
+use Rattle.std.proofs.Common.{◌<◌, length, map, get_or, arith}
 use Rattle.std.proofs.lemmas.List.{length-map}
-use Rattle.geo_conditions.specs.Walk.{object_of}
 use Rattle.geo_conditions.proofs.Defaults.{any_default}
 use Rattle.trail_search.specs.Cursor.{HasDimension}
 use Rattle.trail_search.specs.Variables.{variable_of}

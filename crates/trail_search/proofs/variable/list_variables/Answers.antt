@@ -1,4 +1,4 @@
-use Rattle.std.proofs.Common.{◌≡◌, ◌+◌, arith, map, refl}
+use Rattle.std.proofs.Common.{◌+◌, arith, map}
 use Rattle.trail_search.specs.Variables.{variable_of}
 use Rattle.trail_search.proofs.Listing.{listed}
 use Rattle.trail_search.proofs.variable.list_variables.Goals as goal

@@ -1,4 +1,4 @@
-use Rattle.std.proofs.Common.{◌≡◌, ◌+◌, refl, arith, get_or, false}
+use Rattle.std.proofs.Common.{◌+◌, refl, arith, get_or, false}
 use Rattle.trail_search.proofs.Listing.{pushed}
 use Rattle.trail_search.proofs.variable.push_variables.Goals as goal
 

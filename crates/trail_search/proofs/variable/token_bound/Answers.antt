@@ -1,9 +1,7 @@
-use Rattle.std.proofs.Common.{◌≡◌, ◌<◌, suc, length, ap, sym, ◌∙◌, subst, arith, ℤ, pos, map, get_or}
-use Rattle.std.proofs.lemmas.Int.{ints}
+use Rattle.std.proofs.Common.{sym, ◌∙◌, arith, pos, map, get_or}
 use Rattle.std.proofs.lemmas.List.{length-map}
 use Rattle.trail_search.specs.Variables.{variable_of}
-use Rattle.trail_search.specs.Cursor.{after}
-use Rattle.trail_search.proofs.Token.{bound_inner, bound_last}
+use Rattle.trail_search.proofs.Token.{bound_inner}
 use Rattle.geo_state.proofs.Numbers.{kept64, small_kept}
 use Rattle.trail_search.proofs.Walking.{bound_of}
 use Rattle.trail_search.proofs.variable.token_bound.Goals as goal

@@ -1,10 +1,8 @@
-use Rattle.std.proofs.Common.{◌≡◌, [], Bool, true, false, refl, ap, sym, ◌∙◌, subst, List, ℤ, length}
+use Rattle.std.proofs.Common.{◌≡◌, [], refl, ap, sym, ◌∙◌, subst, List, ℤ, length}
 use Rattle.std.proofs.lemmas.Bool.{false≢true}
-use Rattle.geo_conditions.specs.declared.cond.Cond.{Cond}
 use Rattle.trail_search.specs.Walker.{Position, SameWalk, Searches, IsReady}
 use Rattle.trail_search.proofs.Resuming.{walks_from, ready_before, ready_after, resumed_ended}
 use Rattle.derivation.proofs.Continuing.{growth_none}
-use Rattle.std.proofs.Common.{None}
 use Rattle.trail_search.specs.Record.{IsRecord}
 use Rattle.trail_search.proofs.Recording.{record_start}
 use Rattle.trail_search.proofs.walk.go_on.Goals as goal

@@ -1,19 +1,13 @@
-use Rattle.std.proofs.Common.{◌≡◌, ◌<◌, ◌+◌, ◌-◌, ◌*◌, ℕ, Bool, true, false, ap, sym, ◌∙◌, subst, arith, length, refl, List, ℤ, get_or}
-use Rattle.std.specs.Prelude.{Result, Ok, Err}
-use Rattle.std.specs.List.{All}
+use Rattle.std.proofs.Common.{◌≡◌, ◌<◌, Bool, true, ap, sym, ◌∙◌, subst, arith, length, refl}
 use Rattle.std.proofs.lemmas.Bool.{false≢true}
-use Rattle.geo_conditions.specs.declared.cond.Cond.{Cond}
-use Rattle.geo_conditions.specs.Conditions.{FitsIn}
-use Rattle.geo_conditions.specs.Walk.{IsFirstValue, object_of}
+use Rattle.geo_conditions.specs.Walk.{object_of}
 use Rattle.derivation.proofs.Continuing.{growth_none, growth_on, growth_err, growth_succeeded}
-use Rattle.geo_state.specs.declared.propagate.Settled.{Settled}
-use Rattle.geo_state.specs.declared.propagate.Settled.TheVariants.{Kept, Dead}
 use Rattle.geo_state.proofs.Numbers.{kept64}
 use Rattle.trail_search.specs.Variables.{variable_of}
 use Rattle.trail_search.specs.Cursor.{HasDimension, IsValueOf}
-use Rattle.trail_search.specs.Walker.{Position, SameWalk, Walking, KeptAs, DeadAs, depth}
+use Rattle.trail_search.specs.Walker.{depth}
 use Rattle.trail_search.proofs.Walking.{object_at, fact_at}
-use Rattle.trail_search.proofs.Loop.{loop_start, loop_dead, loop_ended, loop_budget, loop_visit, loop_found, measure_dead, measure_visit, dead_as, kept_as}
+use Rattle.trail_search.proofs.Loop.{loop_start, loop_dead, loop_ended, loop_budget, loop_visit, loop_found, measure_visit, dead_as, kept_as}
 use Rattle.std.specs.Prelude.{MatchBool}
 use Rattle.trail_search.specs.Record.{IsRecord, IsClosedRecord, RecordsCases}
 use Rattle.trail_search.proofs.Recording.{kept_record, dead_record, cases_of, record_end}

@@ -1,4 +1,4 @@
-use Rattle.std.proofs.Common.{◌≡◌, ◌+◌, ◌*◌, ◌-◌, ◌≤◌, true, length, None}
+use Rattle.std.proofs.Common.{◌≡◌, ◌+◌, ◌*◌, ◌-◌, true, length, None}
 use Rattle.derivation.specs.Events.{HasGrown}
 use Rattle.trail_search.specs.Record.{IsRecord}
 use Rattle.trail_search.specs.Walker.{Walking, depth}

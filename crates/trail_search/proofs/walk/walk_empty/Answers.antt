@@ -1,9 +1,5 @@
-use Rattle.std.proofs.Common.{◌≡◌, ◌<◌, ◌+◌, ℕ, Bool, true, false, refl, ap, sym, ◌∙◌, subst, arith, List}
-use Rattle.std.specs.Prelude.{Result, Ok, Err}
+use Rattle.std.proofs.Common.{◌≡◌, ◌+◌, ℕ, refl, ap, sym, ◌∙◌, subst, arith}
 use Rattle.std.proofs.lemmas.Bool.{false≢true}
-use Rattle.geo_conditions.specs.declared.cond.Cond.{Cond}
-use Rattle.geo_state.specs.declared.propagate.Settled.{Settled}
-use Rattle.geo_state.specs.declared.propagate.Settled.TheVariants.{Kept, Dead}
 use Rattle.geo_conditions.specs.Reach.{State, Inside}
 use Rattle.geo_conditions.proofs.Points.{inside_self}
 use Rattle.geo_state.specs.Trail.{Trail}

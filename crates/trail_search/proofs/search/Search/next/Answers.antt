@@ -1,4 +1,4 @@
-use Rattle.std.proofs.Common.{◌≡◌, Bool, true, false, ap, sym, ◌∙◌, subst, refl, arith, Option, Some, None, List, ◌+◌, ◌-◌, ◌^◌, ◌≤◌, min, ℕ}
+use Rattle.std.proofs.Common.{◌≡◌, true, false, ap, sym, ◌∙◌, subst, refl, arith, Option, Some, None, List, ◌+◌, ◌-◌, ◌^◌, ◌≤◌, min, ℕ}
 use Rattle.geo_conditions.specs.declared.cond.Cond.{Cond}
 use Rattle.trail_search.specs.declared.step.Step.{Step}
 use Rattle.trail_search.specs.declared.step.Step.TheVariants.{Found, Ended, Budget, Memory}
@@ -6,7 +6,7 @@ use Rattle.trail_search.specs.Next.{SearchView, layout_when}
 use Rattle.trail_search.specs.Record.{Derives, RecordsStep, open_levels}
 use Rattle.trail_search.specs.Walker.{GoesOnAs, tree_of, is_answer}
 use Rattle.trail_search.proofs.Standing.{tree_same}
-use Rattle.trail_search.proofs.Nexts.{found_answer, ended_answer, budget_answer, as_before, stands_at, no_objects}
+use Rattle.trail_search.proofs.Nexts.{found_answer, ended_answer, budget_answer, as_before, stands_at, no_objects, none_found, sound_found, sound_over}
 use Rattle.std.proofs.lemmas.Bool.{false≢true}
 use Rattle.trail_search.proofs.search.Search.next.Goals as goal
 
@@ -85,11 +85,6 @@ returns-in-Memory-clause-steps g c =
 pub returns-in-Memory-clause-no_record : goal.returns-in-Memory-clause-no_record
 returns-in-Memory-clause-no_record g c = λ k e. false≢true (sym (ap is_answer c.in-Memory.is) ∙ c.go_on.ensures.grows.no_record k)
 
--- a search that has found nothing so far stands behind no layout
-none_found : (found some : Bool) → (found ≡ true → some ≡ true) → some ≡ false → found ≡ false
-none_found true some h f = absurd (false≢true (sym f ∙ h refl))
-none_found false some h f = refl
-
 pub returns-in-Found-clause-recorded : goal.returns-in-Found-clause-recorded
 returns-in-Found-clause-recorded g c = λ k f b t.
     let i = c.self.invariant in
@@ -105,3 +100,31 @@ returns-in-Found-clause-recorded g c = λ k f b t.
     let d = subst (λ (o : Option Step). Derives cs p o old) c.in_default.is (i.derives k began none token) in
     let r = c.go_on.ensures.recorded k (none_found c.self.inside.found c.self.inside.some_found i.some none) token d.0 d.1 in
     subst (λ (ds : List Cond). RecordsStep ds q Found new) (sym c.go_on.ensures.conditions) (subst (λ (s : Step). RecordsStep cs q s new) c.in-Found.is r)
+
+pub invariant_of-self : goal.invariant_of-self
+invariant_of-self g c =
+    let i = c.self.inside in
+    let n = c.go_on.new in
+    sound_found g.row.K g.R.Recorder.keeps (g.P.Propagate.conditions i.prop) (g.P.Propagate.conditions n.prop) (g.P.Propagate.objects i.prop) (g.P.Propagate.objects n.prop) i.budget i.walker n.walker i.found i.over i.some_found i.began_empty
+    (g.R.Recorder.list i.rec) (g.R.Recorder.list n.rec) c.go_on.result c.self.invariant c.in_default.is c.go_on.ensures.well c.go_on.ensures.same c.go_on.ensures.conditions c.go_on.ensures.number c.in-Found.is c.go_on.ensures.walks
+
+pub invariant_of-self-in-Ended : goal.invariant_of-self-in-Ended
+invariant_of-self-in-Ended g c =
+    let i = c.self.inside in
+    let n = c.go_on.new in
+    sound_over g.row.K g.R.Recorder.keeps (g.P.Propagate.conditions i.prop) (g.P.Propagate.conditions n.prop) (g.P.Propagate.objects i.prop) (g.P.Propagate.objects n.prop) i.budget i.walker n.walker i.found i.over i.some_found i.began_empty
+    (g.R.Recorder.list i.rec) (g.R.Recorder.list n.rec) c.go_on.result Ended c.self.invariant c.in_default.is c.go_on.ensures.well c.go_on.ensures.same c.go_on.ensures.conditions c.go_on.ensures.number c.in-Ended.is (λ e. cc) (λ e. absurd (cc)) c.go_on.ensures.recorded
+
+pub invariant_of-self-in-Budget : goal.invariant_of-self-in-Budget
+invariant_of-self-in-Budget g c =
+    let i = c.self.inside in
+    let n = c.go_on.new in
+    sound_over g.row.K g.R.Recorder.keeps (g.P.Propagate.conditions i.prop) (g.P.Propagate.conditions n.prop) (g.P.Propagate.objects i.prop) (g.P.Propagate.objects n.prop) i.budget i.walker n.walker i.found i.over i.some_found i.began_empty
+    (g.R.Recorder.list i.rec) (g.R.Recorder.list n.rec) c.go_on.result Budget c.self.invariant c.in_default.is c.go_on.ensures.well c.go_on.ensures.same c.go_on.ensures.conditions c.go_on.ensures.number c.in-Budget.is (λ e. cc) (λ e. absurd (cc)) c.go_on.ensures.recorded
+
+pub invariant_of-self-in-Memory : goal.invariant_of-self-in-Memory
+invariant_of-self-in-Memory g c =
+    let i = c.self.inside in
+    let n = c.go_on.new in
+    sound_over g.row.K g.R.Recorder.keeps (g.P.Propagate.conditions i.prop) (g.P.Propagate.conditions n.prop) (g.P.Propagate.objects i.prop) (g.P.Propagate.objects n.prop) i.budget i.walker n.walker i.found i.over i.some_found i.began_empty
+    (g.R.Recorder.list i.rec) (g.R.Recorder.list n.rec) c.go_on.result Memory c.self.invariant c.in_default.is c.go_on.ensures.well c.go_on.ensures.same c.go_on.ensures.conditions c.go_on.ensures.number c.in-Memory.is (λ e. cc) (λ e k. false≢true (sym (ap is_answer c.in-Memory.is) ∙ c.go_on.ensures.grows.no_record k)) c.go_on.ensures.recorded

@@ -1,5 +1,5 @@
-use Rattle.std.proofs.Common.{◌≡◌, ℕ, ◌<◌, length, ap, sym, ◌∙◌, subst, refl, arith, ℤ, pos, List, Option, Some}
-use Rattle.geo_conditions.specs.Walk.{Variable as Seen, values}
+use Rattle.std.proofs.Common.{◌≡◌, ◌<◌, length, ap, sym, ◌∙◌, arith, Some}
+use Rattle.geo_conditions.specs.Walk.{values}
 use Rattle.geo_conditions.proofs.Walks.{same_pos}
 use Rattle.trail_search.specs.Next.{SearchView, layout_when}
 use Rattle.trail_search.proofs.Layouts.{has_place, found_values, place_found}

@@ -1,10 +1,8 @@
-use Rattle.std.proofs.Common.{◌≡◌, ◌∙◌, ℕ, Bool, true, false, List, [], ◌∷◌, length, Option, Some, None, nat_eq, sym, ap, subst, arith, eqb-true}
+use Rattle.std.proofs.Common.{◌≡◌, ◌∙◌, length, sym, ap, subst, arith}
 use Rattle.std.specs.List.{All}
-use Rattle.geo_conditions.specs.declared.cond.Cond.{Cond}
 use Rattle.geo_conditions.specs.Conditions.{FitsIn}
 use Rattle.geo_conditions.specs.Reach.{State, IsState}
 use Rattle.geo_conditions.specs.Walk.{NamesEach}
-use Rattle.derivation.specs.declared.event.Event.{Event}
 use Rattle.geo_state.specs.Trail.{Trail}
 use Rattle.trail_search.proofs.Nexts.{no_events}
 use Rattle.trail_search.proofs.search.Search.start.Goals as goal

@@ -1,6 +1,5 @@
-use Rattle.std.proofs.Common.{◌≡◌, ℕ, ◌<◌, length, ap, sym, ◌∙◌, subst, refl, arith, ℤ, pos, List, Option, Some}
-use Rattle.geo_conditions.specs.Walk.{Variable as Seen, values}
-use Rattle.geo_conditions.proofs.Walks.{same_pos}
+use Rattle.std.proofs.Common.{◌≡◌, ◌<◌, length, ap, sym, ◌∙◌, arith, Some}
+use Rattle.geo_conditions.specs.Walk.{values}
 use Rattle.geo_state.proofs.Numbers.{kept64}
 use Rattle.trail_search.specs.Next.{SearchView, layout_when}
 use Rattle.trail_search.proofs.Layouts.{has_coordinate, found_values, coordinate_found}

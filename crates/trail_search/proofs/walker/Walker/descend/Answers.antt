@@ -1,11 +1,11 @@
-use Rattle.std.proofs.Common.{◌≡◌, ◌<◌, ◌+◌, ◌++◌, ◌∷◌, [], List, true, Option, Some, None, suc, length, set, get_or, ap, sym, ◌∙◌, subst, arith, ℤ, pos, negsuc, ◌≤ℤ◌}
+use Rattle.std.proofs.Common.{◌≡◌, ◌<◌, Some, None, suc, length, set, ap, sym, ◌∙◌, subst, arith, ℤ, pos, negsuc, ◌≤ℤ◌}
 use Rattle.geo_conditions.specs.Reach.{State, Inside}
-use Rattle.geo_conditions.proofs.Points.{inside_trans, inside_self}
-use Rattle.geo_conditions.specs.Walk.{Variable as Seen, IsFixed, IsFirstValue, object_of}
+use Rattle.geo_conditions.proofs.Points.{inside_trans}
+use Rattle.geo_conditions.specs.Walk.{IsFixed, IsFirstValue, object_of}
 use Rattle.trail_search.specs.Variables.{variable_of}
 use Rattle.geo_state.specs.Trail.{Trail}
-use Rattle.trail_search.specs.Walker.{Position, StaysOn, depth, path, SameWalk, IsToken}
-use Rattle.trail_search.specs.Cursor.{HasDimension, Narrows, IsFrom, bound_at}
+use Rattle.trail_search.specs.Walker.{Position, StaysOn, depth, IsToken}
+use Rattle.trail_search.specs.Cursor.{HasDimension, Narrows, IsFrom}
 use Rattle.trail_search.proofs.Walking.{object_at, fact_at, same_trans, depth_entered, next_entered, bound_small, bound_fits}
 use Rattle.geo_state.proofs.Numbers.{kept64}
 use Rattle.trail_search.proofs.Standing.{well_entered, path_entered, descend_on, descend_off}
@@ -142,3 +142,15 @@ returns-in-None-clause-record g c = λ none cs old new cases h.
     cs old new c.requires.first
     (half_fits g.row.K p.trail.state x c.args.u shape there (fact_at (HasDimension g.row.K) p.variables (depth p) x o.dimensions c.requires.number c.requires.variable) c.requires.fits c.requires.first)
     fixed cases h
+
+pub returns-in-Some-clause-same : goal.returns-in-Some-clause-same
+returns-in-Some-clause-same g c = same_trans c.args.self.now c.enter.new.self c.tighten.new.self c.enter.ensures.same c.tighten.ensures.same
+
+pub returns-in-Some-clause-depth : goal.returns-in-Some-clause-depth
+returns-in-Some-clause-depth g c = omega (arith, depth_entered c.args.self.now c.tighten.new.self (c.tighten.ensures.restores ∙ c.enter.ensures.restores))
+
+pub returns-in-None-clause-same : goal.returns-in-None-clause-same
+returns-in-None-clause-same g c = same_trans c.args.self.now c.enter.new.self c.stray.new.self c.enter.ensures.same c.stray.ensures.same
+
+pub returns-in-None-clause-depth : goal.returns-in-None-clause-depth
+returns-in-None-clause-depth g c = omega (arith, depth_entered c.args.self.now c.stray.new.self (ap (λ (t : Trail). t.restores) c.stray.ensures.trail ∙ c.enter.ensures.restores))

@@ -11,7 +11,7 @@ use Rattle.trail_search.proofs.Moves.{none_from}
 use Rattle.geo_conditions.specs.Walk.{IsFirstValue}
 use Rattle.trail_search.specs.Record.{with_later}
 use Rattle.trail_search.proofs.Cases.{has_later, has_no_later}
-use Rattle.trail_search.proofs.Recording.{Shuts, shut_later, shut_none}
+use Rattle.trail_search.proofs.Recording.{shut_later, shut_none}
 use Rattle.trail_search.proofs.Leaving.{LeftAt, left_at}
 use Rattle.trail_search.proofs.walker.Walker.leave.Goals as goal
 

@@ -1,4 +1,4 @@
-use Rattle.std.proofs.Common.{◌≡◌, ap, sym, ◌∙◌, subst, map}
+use Rattle.std.proofs.Common.{ap, sym, ◌∙◌, map}
 use Rattle.std.proofs.lemmas.Bool.{false≢true}
 use Rattle.trail_search.specs.Walker.{Position}
 use Rattle.trail_search.specs.declared.variable.Variable.TheVariants.{Place}

@@ -1,4 +1,4 @@
-use Rattle.std.proofs.Common.{◌≡◌, ℕ, ◌<◌, length, ap, sym, ◌∙◌, subst, refl, arith, ℤ, pos, ◌≤ℤ◌, get_or}
+use Rattle.std.proofs.Common.{◌<◌, length, ap, sym, ◌∙◌, subst, refl, arith, ℤ, pos, ◌≤ℤ◌}
 use Rattle.trail_search.specs.Walker.{Position}
 use Rattle.trail_search.proofs.Finding.{place_values, place_kept}
 use Rattle.trail_search.proofs.Walking.{number_is}

@@ -1,6 +1,5 @@
-use Rattle.std.proofs.Common.{◌≡◌, ◌∙◌, ℤ, sym, ap}
+use Rattle.std.proofs.Common.{◌≡◌, ◌∙◌, ap}
 use Rattle.derivation.proofs.Continuing.{growth_none, growth_of_add}
-use Rattle.geo_conditions.specs.Reach.{State}
 use Rattle.geo_state.proofs.Numbers.{kept64}
 use Rattle.trail_search.specs.Variables.{variable_of, split_of}
 use Rattle.trail_search.specs.Walker.{Position}

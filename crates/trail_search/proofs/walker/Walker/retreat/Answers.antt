@@ -1,9 +1,9 @@
-use Rattle.std.proofs.Common.{◌≡◌, ◌++◌, ◌∷◌, [], Bool, true, false, List, ap, sym, ◌∙◌, subst, arith, length}
+use Rattle.std.proofs.Common.{◌≡◌, ◌++◌, ◌∷◌, [], Bool, refl, ap, ◌∙◌, subst, arith, length}
 use Rattle.std.proofs.Math.ListN.{length-append}
 use Rattle.geo_conditions.proofs.Points.{inside_self}
 use Rattle.std.specs.Prelude.{MatchBool}
 use Rattle.trail_search.specs.Record.{IsRecord, IsClosedRecord}
-use Rattle.trail_search.specs.Walker.{Position, Leaves}
+use Rattle.trail_search.specs.Walker.{Leaves}
 use Rattle.trail_search.proofs.Walking.{same_trans}
 use Rattle.trail_search.proofs.Standing.{well_left, retreated, still_stuck}
 use Rattle.trail_search.proofs.walker.Walker.retreat.Goals as goal
@@ -44,3 +44,29 @@ returns-then-leave-clause-record g c = λ cs es h.
 
 pub returns-clause-record : goal.returns-clause-record
 returns-clause-record g c = c.loop-self.invariant.5
+
+pub loop-self-init : goal.loop-self-init
+loop-self-init g c = (c.requires.well, record { first = refl; variables = refl; token = refl }, refl, omega arith, (λ cs w h. h), (λ cs es h. h))
+
+pub returns-then-leave-clause-same : goal.returns-then-leave-clause-same
+returns-then-leave-clause-same g c = same_trans c.args.self.now c.loop-self.self c.leave.new.self c.loop-self.invariant.1 c.leave.ensures.same
+
+pub returns-then-leave-clause-depth : goal.returns-then-leave-clause-depth
+returns-then-leave-clause-depth g c = λ t.
+    let i = c.loop-self.invariant in
+    let p = c.loop-self.self in
+    let r = c.leave.new.self in
+    let l = subst (λ (b : Bool). Leaves b p r) c.if-leave.true c.leave.ensures.left in
+    let n : length p.trail.restores ≡ length (r.trail.restores ++ l.0 ∷ []) = ap length l.3.restored in
+    omega (arith, i.3, n, length-append r.trail.restores (l.0 ∷ []))
+
+pub returns-then-leave-clause-stuck : goal.returns-then-leave-clause-stuck
+returns-then-leave-clause-stuck g c = λ e. absurd (cc)
+
+pub loop-self-smaller : goal.loop-self-smaller
+loop-self-smaller g c =
+    let p = c.loop-self.self in
+    let r = c.leave.new.self in
+    let l = subst (λ (b : Bool). Leaves b p r) c.if-leave.false c.leave.ensures.left in
+    let n : length p.trail.restores ≡ length (r.trail.restores ++ r.trail.state ∷ []) = ap length l.2.restored in
+    omega (arith, n, length-append r.trail.restores (r.trail.state ∷ []))

@@ -1,8 +1,8 @@
-use Rattle.std.proofs.Common.{◌≡◌, Option, Some, None, ap, sym, ◌∙◌, subst, ℤ, pos, negsuc, ◌≤ℤ◌}
+use Rattle.std.proofs.Common.{Some, ap, sym, ◌∙◌, subst, ℤ, pos, negsuc, ◌≤ℤ◌}
 use Rattle.geo_conditions.specs.Reach.{State}
 use Rattle.geo_state.specs.Trail.{Trail}
 use Rattle.trail_search.specs.Cursor.{Narrows, IsFrom}
-use Rattle.trail_search.specs.Walker.{Position, FirstBound, IsToken, SameWalk}
+use Rattle.trail_search.specs.Walker.{FirstBound, IsToken}
 use Rattle.geo_state.proofs.Numbers.{kept64}
 use Rattle.trail_search.proofs.Walking.{same_trans, bound_small, bound_fits}
 use Rattle.trail_search.proofs.Loop.{set_off_free, set_off_after}

@@ -1,12 +1,8 @@
-use Rattle.std.proofs.Common.{◌≡◌, ap, sym, ◌∙◌, subst, arith, length, refl}
+use Rattle.std.proofs.Common.{◌≡◌, ap, sym, ◌∙◌, subst, arith}
 use Rattle.geo_conditions.specs.Reach.{State, Inside}
-use Rattle.trail_search.specs.Walker.{Position, SameWalk}
+use Rattle.trail_search.specs.Walker.{Position}
 use Rattle.geo_state.specs.Settle.{SettlesOr}
 use Rattle.geo_state.proofs.Fits.{all_fit}
-use Rattle.std.specs.Prelude.{Result, Ok, Err, IfOk, true, List}
-use Rattle.derivation.specs.declared.event.Event.{Event}
-use Rattle.geo_state.specs.Settle.{Records}
-use Rattle.trail_search.specs.Record.{IsRecord, SettlesRecord}
 use Rattle.trail_search.proofs.Standing.{settled_in, settles_inside, well_settled}
 use Rattle.trail_search.proofs.Recording.{settled_if}
 use Rattle.trail_search.proofs.walker.Walker.settle.Goals as goal

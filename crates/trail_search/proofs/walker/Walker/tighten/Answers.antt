@@ -1,4 +1,4 @@
-use Rattle.std.proofs.Common.{◌≡◌, ◌<◌, length, ap, sym, ◌∙◌, subst, arith, ℤ}
+use Rattle.std.proofs.Common.{◌≡◌, length, ap, subst, arith, ℤ}
 use Rattle.geo_conditions.specs.Reach.{State}
 use Rattle.trail_search.specs.Walker.{Position, depth}
 use Rattle.trail_search.specs.Variables.{variable_of}
