@@ -2,6 +2,7 @@
 #![tactic(auto)]
 
 mod divisors;
+mod each;
 pub mod first;
 mod named;
 pub mod names;

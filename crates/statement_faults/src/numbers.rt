@@ -4,8 +4,9 @@ ghost use Rattle.std.specs.Prelude.{◌≡◌, ◌↔◌, IsTrue};
 ghost use Rattle.problem_data.specs.Limits.{IsSmall, IsSize};
 ghost use Rattle.problem_data.specs.Least.{fault, IsLeast};
 ghost use Rattle.geo_tokens.specs.declared.fault.FaultWord.TheVariants.{Limit};
-ghost use Rattle.problem_data.specs.Faults.{first_place, int_place, range_place, Among, OffsetFault, SizeFault, OffsetsFault, SizesFault, UpsideDown, RangeFault, RangesFault};
+ghost use Rattle.problem_data.specs.Faults.{first_place, int_place, range_place, OffsetFault, SizeFault, OffsetsFault, SizesFault, UpsideDown, RangeFault, RangesFault};
 
+use crate::each::{FindFault, each_fault};
 use geo_tokens::fault::FaultWord;
 use problem_data::fault::{Fault, earlier, fault_if};
 use problem_data::tree::{Int, RangeText};
@@ -43,6 +44,30 @@ fn size_fault(number: Int) -> Option<Fault>
     fault_if(!size, number.place, FaultWord::Size)
 }
 
+// Finds a number that is no offset.
+#[derive(Clone, Copy)]
+struct Offsets;
+
+impl FindFault<Int> for Offsets {
+    ghost IsFaultOf = { λ _. OffsetFault };
+
+    fn fault_of(&self, item: &Int) -> Option<Fault> {
+        offset_fault(*item)
+    }
+}
+
+// Finds a number that is no size.
+#[derive(Clone, Copy)]
+struct Sizes;
+
+impl FindFault<Int> for Sizes {
+    ghost IsFaultOf = { λ _. SizeFault };
+
+    fn fault_of(&self, item: &Int) -> Option<Fault> {
+        size_fault(*item)
+    }
+}
+
 /// The place of the first number, and 0 where there is none.
 pub fn first_int(numbers: &[Int]) -> u64
     ensures { result ≡ first_place int_place numbers.now }
@@ -53,34 +78,12 @@ pub fn first_int(numbers: &[Int]) -> u64
     }
 }
 
-fn each_offset(numbers: &[Int]) -> Option<Fault>
-    ensures { IsLeast (Among (λ before. OffsetFault) numbers.now) result }
-{
-    let mut found = None;
-    for number in numbers {
-        let here = offset_fault(*number);
-        found = earlier(found, here);
-    }
-    found
-}
-
-fn each_size(numbers: &[Int]) -> Option<Fault>
-    ensures { IsLeast (Among (λ before. SizeFault) numbers.now) result }
-{
-    let mut found = None;
-    for number in numbers {
-        let here = size_fault(*number);
-        found = earlier(found, here);
-    }
-    found
-}
-
 /// The first fault of the offsets of a box.
 pub fn offsets_fault(k: usize, numbers: &[Int]) -> Option<Fault>
     ensures { IsLeast (OffsetsFault k numbers.now) result }
 {
     let count = miscount(k, numbers.len(), first_int(numbers));
-    let each = each_offset(numbers);
+    let each = each_fault(&Offsets, numbers);
     earlier(count, each)
 }
 
@@ -89,7 +92,7 @@ pub fn sizes_fault(k: usize, numbers: &[Int]) -> Option<Fault>
     ensures { IsLeast (SizesFault k numbers.now) result }
 {
     let count = miscount(k, numbers.len(), first_int(numbers));
-    let each = each_size(numbers);
+    let each = each_fault(&Sizes, numbers);
     earlier(count, each)
 }
 
@@ -113,15 +116,16 @@ fn range_fault(range: &RangeText) -> Option<Fault>
     earlier(low, others)
 }
 
-fn each_range(ranges: &[RangeText]) -> Option<Fault>
-    ensures { IsLeast (Among (λ before. RangeFault) ranges.now) result }
-{
-    let mut found = None;
-    for range in ranges {
-        let here = range_fault(range);
-        found = earlier(found, here);
+// Finds the first fault of a range.
+#[derive(Clone, Copy)]
+struct Ranges;
+
+impl FindFault<RangeText> for Ranges {
+    ghost IsFaultOf = { λ _. RangeFault };
+
+    fn fault_of(&self, item: &RangeText) -> Option<Fault> {
+        range_fault(item)
     }
-    found
 }
 
 fn first_range(ranges: &[RangeText]) -> u64
@@ -138,6 +142,6 @@ pub fn ranges_fault(k: usize, ranges: &[RangeText]) -> Option<Fault>
     ensures { IsLeast (RangesFault k ranges.now) result }
 {
     let count = miscount(k, ranges.len(), first_range(ranges));
-    let each = each_range(ranges);
+    let each = each_fault(&Ranges, ranges);
     earlier(count, each)
 }

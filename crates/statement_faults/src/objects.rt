@@ -6,6 +6,7 @@ ghost use Rattle.problem_data.specs.View.{object_view};
 ghost use Rattle.problem_data.specs.Least.{IsLeast};
 ghost use Rattle.problem_data.specs.Faults.{Among, FieldFault, AttributesFault, ObjectFault, ObjectsFault, Repeated};
 
+use crate::each::{FindFault, each_fault};
 use crate::names::{limited, names_fault, not_made};
 use crate::numbers::ranges_fault;
 use geo_tokens::fault::FaultWord;
@@ -47,15 +48,16 @@ fn field_fault(attribute: &AttributeText) -> Option<Fault>
     fault_if(field, attribute.name.place, FaultWord::Twice)
 }
 
-fn each_attribute(attributes: &[AttributeText]) -> Option<Fault>
-    ensures { IsLeast (Among (λ before. FieldFault) attributes.now) result }
-{
-    let mut found = None;
-    for attribute in attributes {
-        let here = field_fault(attribute);
-        found = earlier(found, here);
+// Finds an attribute with the name of a field.
+#[derive(Clone, Copy)]
+struct FieldNames;
+
+impl FindFault<AttributeText> for FieldNames {
+    ghost IsFaultOf = { λ _. FieldFault };
+
+    fn fault_of(&self, item: &AttributeText) -> Option<Fault> {
+        field_fault(item)
     }
-    found
 }
 
 fn attributes_fault(
@@ -65,7 +67,7 @@ fn attributes_fault(
     ensures { IfOk result (IsLeast (AttributesFault attributes.now)) }
 {
     let names = names_fault(alloc, MOST_ATTRIBUTES, attributes)?;
-    let each = each_attribute(attributes);
+    let each = each_fault(&FieldNames, attributes);
     Ok(earlier(names, each))
 }
 

@@ -6,6 +6,7 @@ ghost use Rattle.problem_data.specs.Least.{IsLeast};
 ghost use Rattle.problem_data.specs.Faults.{Among, MacroFault, MacrosFault, DemandFault, RuleFault, RulesFault};
 
 use crate::divisors::{body_zero, divisor_fault, formula_zero};
+use crate::each::{FindFault, each_fault};
 use crate::names::names_fault;
 use crate::numbers::ranges_fault;
 use problem_data::fault::{Fault, earlier};
@@ -59,15 +60,18 @@ fn demand_fault(k: usize, body: &RuleBody) -> Option<Fault>
     }
 }
 
-fn each_rule(k: usize, rules: &[RuleText]) -> Option<Fault>
-    ensures { IsLeast (Among (λ before. RuleFault k) (map rule_view rules.now)) result }
-{
-    let mut found = None;
-    for rule in rules {
-        let here = demand_fault(k, &rule.body);
-        found = earlier(found, here);
+// Finds the first fault of what a rule demands, where there are so many dimensions.
+#[derive(Clone, Copy)]
+struct Demands {
+    k: usize,
+}
+
+impl FindFault<RuleText> for Demands {
+    ghost IsFaultOf = { λ d r. RuleFault d.k (rule_view r) };
+
+    fn fault_of(&self, item: &RuleText) -> Option<Fault> {
+        demand_fault(self.k, &item.body)
     }
-    found
 }
 
 /// The first fault of the statements of rules.
@@ -75,6 +79,6 @@ pub fn rules_fault(alloc: Global, k: usize, rules: &[RuleText]) -> Result<Option
     ensures { IfOk result (IsLeast (RulesFault k (map rule_view rules.now))) }
 {
     let names = names_fault(alloc, MOST_RULES, rules)?;
-    let each = each_rule(k, rules);
+    let each = each_fault(&Demands { k }, rules);
     Ok(earlier(names, each))
 }

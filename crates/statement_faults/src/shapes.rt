@@ -6,6 +6,7 @@ ghost use Rattle.problem_data.specs.View.{box_view, shape_view};
 ghost use Rattle.problem_data.specs.Least.{IsLeast};
 ghost use Rattle.problem_data.specs.Faults.{Among, BoxFault, ShapeFault, ShapesFault, Repeated, shape_name};
 
+use crate::each::{FindFault, each_fault};
 use crate::names::limited;
 use crate::numbers::{offsets_fault, sizes_fault};
 use geo_tokens::fault::FaultWord;
@@ -41,15 +42,18 @@ fn shape_fault(k: usize, shape: &ShapeText) -> Option<Fault>
     found
 }
 
-fn each_shape(k: usize, shapes: &[ShapeText]) -> Option<Fault>
-    ensures { IsLeast (Among (λ before. ShapeFault k) (map shape_view shapes.now)) result }
-{
-    let mut found = None;
-    for shape in shapes {
-        let here = shape_fault(k, shape);
-        found = earlier(found, here);
+// Finds the first fault of a shape, where there are so many dimensions.
+#[derive(Clone, Copy)]
+struct Shapes {
+    k: usize,
+}
+
+impl FindFault<ShapeText> for Shapes {
+    ghost IsFaultOf = { λ it s. ShapeFault it.k (shape_view s) };
+
+    fn fault_of(&self, item: &ShapeText) -> Option<Fault> {
+        shape_fault(self.k, item)
     }
-    found
 }
 
 /// The first fault of the statements of shapes, where the first name that is repeated is known.
@@ -58,6 +62,6 @@ pub fn shapes_fault(k: usize, shapes: &[ShapeText], repeated: Option<Fault>) -> 
     ensures { IsLeast (ShapesFault k (map shape_view shapes.now)) result }
 {
     let names = limited(MOST_SHAPES, shapes, repeated);
-    let each = each_shape(k, shapes);
+    let each = each_fault(&Shapes { k }, shapes);
     earlier(names, each)
 }
