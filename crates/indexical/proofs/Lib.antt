@@ -9,3 +9,4 @@ pub mod ApartForm
 pub mod PutBoxes
 pub mod TwoLengths
 pub mod Unnamed
+pub mod Faces

@@ -3,6 +3,7 @@ pub mod Widening
 pub mod Forbidden
 pub mod Names
 pub mod Free
+pub mod Faces
 pub mod Limits
 pub mod Listed
 pub mod Apart

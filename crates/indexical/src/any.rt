@@ -5,11 +5,13 @@ ghost use Rattle.geo_conditions.specs.Reach.{with_at, just};
 ghost use Rattle.geo_conditions.specs.Regions.{region_of};
 ghost use Rattle.geo_conditions.specs.Conditions.{possible, FitsIn};
 ghost use Rattle.indexical.specs.Apart.{SaysApart};
+ghost use Rattle.indexical.specs.Faces.{Faces};
 ghost use Rattle.indexical.specs.Forbidden.{IsForbiddenBox};
 ghost use Rattle.indexical.specs.Free.{LeavesFree, Spares, SparesAnywhere};
 ghost use Rattle.indexical.specs.Names.{IsFirstBefore, names};
 
 use super::apart::ApartIndexical;
+use super::facing::Facing;
 use super::indexical::Indexical;
 use super::point::tree_possible_at;
 use super::spared::{is_named, tree_spares, tree_spares_anywhere};
@@ -95,6 +97,17 @@ impl<const K: usize> AnyIndexical<K> {
         match &self.boxes {
             Some(_) => false,
             None => tree_spares_anywhere(&self.cond, s, o),
+        }
+    }
+
+    /// What the condition asks of places before it can be in the object's way. It is told of conditions that are met by two
+    /// boxes, one of them the object's.
+    pub fn facing(&self, o: ObjId) -> Facing
+        ensures { Faces self.now.cond o.0 result }
+    {
+        match &self.boxes {
+            Some(boxes) => boxes.facing(o),
+            None => Facing::unknown(),
         }
     }
 

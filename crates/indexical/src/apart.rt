@@ -2,6 +2,7 @@ ghost use Rattle.std.specs.Prelude.{ℕ, ◌<◌, ◌≤◌, ◌^◌, length};
 ghost use Rattle.geo_base.specs.declared.TheConstants.{MAX_DIMS};
 ghost use Rattle.indexical.specs.Apart.{apart_parts};
 
+use super::facing::{Facing, facing_beside};
 use super::overlap::{
     covers_some, must_overlap, must_overlap_beside, overlap_beside, spares_beside,
 };
@@ -26,10 +27,12 @@ impl<const K: usize> ApartIndexical<K> {
     ghost use Rattle.std.specs.Prelude.{◌≡◌, ◌≢◌, ◌↔◌, ◌||◌, ◌==◌, IsTrue, true, nat_lt, if◌then◌else◌, List, ℤ, MatchOption};
     ghost use Rattle.geo_base.specs.Boxes.{Has};
     ghost use Rattle.geo_conditions.specs.Reach.{with_at, just};
+    ghost use Rattle.geo_conditions.specs.declared.cond.Cond.{Cond};
     ghost use Rattle.geo_conditions.specs.Conditions.{FitsIn};
     ghost use Rattle.geo_conditions.specs.Regions.{region_of};
-    ghost use Rattle.indexical.specs.Apart.{apart, MustOverlap, IsOverlapBox};
+    ghost use Rattle.indexical.specs.Apart.{apart, MustOverlap, IsOverlapBox, SaysApart};
     ghost use Rattle.indexical.specs.Disjunctions.{IsDisjunction};
+    ghost use Rattle.indexical.specs.Faces.{Faces};
     ghost use Rattle.indexical.specs.Names.{IsFirst};
 
     /// The condition for two boxes of different objects. It takes no memory.
@@ -88,6 +91,20 @@ impl<const K: usize> ApartIndexical<K> {
             Some(second)
         } else {
             None
+        }
+    }
+
+    /// What the condition asks of places before it can be in o's way. Nothing is told where neither box is o's.
+    pub fn facing(&self, o: ObjId) -> Facing
+        ensures { (c : Cond) → SaysApart self.now.first self.now.second self.now.short c
+            → Faces c o.0 result }
+    {
+        if self.first.object().0 == o.0 {
+            facing_beside(&self.first, &self.second)
+        } else if self.second.object().0 == o.0 {
+            facing_beside(&self.second, &self.first)
+        } else {
+            Facing::unknown()
         }
     }
 

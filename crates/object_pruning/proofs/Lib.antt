@@ -4,3 +4,4 @@ pub mod Cases
 pub mod Supports
 pub mod Record
 pub mod LivePicks
+pub mod InRows

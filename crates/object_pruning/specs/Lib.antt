@@ -4,3 +4,4 @@ pub mod Ends
 pub mod Kept
 pub mod Record
 pub mod Gathered
+pub mod InRows

@@ -12,6 +12,8 @@ mod outer_points;
 mod places;
 mod prune;
 mod region_sweep;
+mod rows;
 
 pub use kept::{Placed, retry, slots};
 pub use prune::{Pruned, prune_kept, prune_object};
+pub use rows::{Group, Rows, rows_of};

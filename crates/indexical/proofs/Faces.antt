@@ -1,0 +1,74 @@
+-- What the condition of two boxes asks of places before it can be in the way of one of them.
+use Rattle.std.proofs.Common.{◌≡◌, ◌≢◌, ◌⊎◌, ◌==◌, ℕ, ◌<◌, ◌^◌, true, length, sym, ◌∙◌, subst, inl, inr, Some, Option, eqb-true, arith}
+use Rattle.std.specs.Prelude.{IfSome}
+use Rattle.std.proofs.lemmas.Bool.{false≢true, or_cases}
+use Rattle.geo_conditions.specs.declared.cond.Cond.{Cond}
+use Rattle.geo_conditions.specs.declared.object.ObjId.{ObjId}
+use Rattle.geo_conditions.specs.Reach.{State, is_only, only, reach, just, with_at}
+use Rattle.geo_conditions.specs.Conditions.{possible, FitsIn}
+use Rattle.geo_conditions.proofs.Sets.{only_out, only_same}
+use Rattle.indexical.specs.declared.placed.PlacedBox.{PlacedBox}
+use Rattle.indexical.specs.declared.facing.Facing.{Facing}
+use Rattle.indexical.specs.Apart.{apart_parts, MustOverlap, SaysApart}
+use Rattle.indexical.specs.Faces.{SparesElsewhere, SparesUnless, IsBeside, Faces}
+use Rattle.indexical.specs.Names.{names}
+use Rattle.indexical.proofs.PutBoxes.{other_way, possible_says, stands_out, shape_out}
+
+-- What a condition says of two boxes, the one of the object first.
+record SaysBeside {K : ℕ} (x y : PlacedBox K) (c : Cond) : Type 0 where
+  free : (T : State) → (MustOverlap x y T → ⊥) → possible c T ≡ true
+  named : (v : ℕ) → names v c ≡ true → (v ≡ x.object.0) ⊎ (v ≡ y.object.0)
+  first : (S : State) → FitsIn c S → x.object.0 < length S
+  second : (S : State) → FitsIn c S → y.object.0 < length S
+
+module _ {K : ℕ} (a b : PlacedBox K) (short : length (apart_parts a b) < 2 ^ 63) (c : Cond) (says : SaysApart a b short c) where
+  named_either : (v : ℕ) → names v c ≡ true → (v ≡ a.object.0) ⊎ (v ≡ b.object.0)
+  named_either v n = elim (or_cases (a.object.0 == v) (b.object.0 == v) (sym (says.named v) ∙ n)) [
+    | inl e ↦ inl (sym (eqb-true a.object.0 v e))
+    | inr e ↦ inr (sym (eqb-true b.object.0 v e))
+  ]
+
+  first_beside : SaysBeside a b c
+  first_beside = record {
+    free = possible_says a b short c says;
+    named = named_either;
+    first = λ S h. (says.exist S h).0;
+    second = λ S h. (says.exist S h).1;
+  }
+
+  second_beside : SaysBeside b a c
+  second_beside = record {
+    free = λ T f. possible_says a b short c says T (λ m. f (other_way a b T m));
+    named = λ v n. elim (named_either v n) [ inl e ↦ inr e | inr e ↦ inl e ];
+    first = λ S h. (says.exist S h).1;
+    second = λ S h. (says.exist S h).0;
+  }
+
+module _ {K : ℕ} (x y : PlacedBox K) (c : Cond) (says : SaysBeside x y c) (ne : y.object.0 ≢ x.object.0) where
+  elsewhere : (s : ℕ) → x.leaf ≡ true → x.place ≡ s → SparesElsewhere c x.object.0 s
+  elsewhere s leaf e S t fits there other p = says.free (with_at S x.object.0 t (just p)) (λ m.
+      let stands : is_only (only t) x.place ≡ true = stands_out x y S t there ne (just p) m leaf in
+      other (sym (only_same t x.place (only_out (only t) x.place stands).0) ∙ e))
+
+  unless : (s : ℕ) → y.leaf ≡ true → y.place ≡ s → SparesUnless c x.object.0 y.object.0 s
+  unless s leaf e S fits there not_only t p = says.free (with_at S x.object.0 t (just p)) (λ m.
+      let shape : is_only (reach S y.object.0).places y.place ≡ true = shape_out x y S t there ne (just p) m leaf in
+      false≢true (sym not_only ∙ subst (λ (v : ℕ). is_only (reach S y.object.0).places v ≡ true) e shape))
+
+  faces : (f : Facing) → (f.place ≢ 0 → (x.leaf ≡ true) × (x.place ≡ f.place)) → f.other ≡ Some y.object → (f.other_place ≢ 0 → (y.leaf ≡ true) × (y.place ≡ f.other_place)) → Faces c x.object.0 f
+  faces f own other other_place = record {
+    place = λ h. elsewhere f.place (own h).0 (own h).1;
+    other = subst (λ (u : Option ObjId). IfSome u (λ v. IsBeside c x.object.0 v.0 f.other_place)) (sym other) (record {
+      apart = ne;
+      named = says.named;
+      exists = says.second;
+      place = λ h. unless f.other_place (other_place h).0 (other_place h).1;
+    });
+  }
+
+module _ {K : ℕ} (a b : PlacedBox K) (short : length (apart_parts a b) < 2 ^ 63) (c : Cond) (says : SaysApart a b short c) (before : a.object.0 < b.object.0) (o : ℕ) (f : Facing) where
+  pub faces_first : a.object.0 ≡ o → (f.place ≢ 0 → (a.leaf ≡ true) × (a.place ≡ f.place)) → f.other ≡ Some b.object → (f.other_place ≢ 0 → (b.leaf ≡ true) × (b.place ≡ f.other_place)) → Faces c o f
+  faces_first is own other other_place = subst (λ (v : ℕ). Faces c v f) is (faces a b c (first_beside a b short c says) (λ e. absurd (omega arith)) f own other other_place)
+
+  pub faces_second : b.object.0 ≡ o → (f.place ≢ 0 → (b.leaf ≡ true) × (b.place ≡ f.place)) → f.other ≡ Some a.object → (f.other_place ≢ 0 → (a.leaf ≡ true) × (a.place ≡ f.other_place)) → Faces c o f
+  faces_second is own other other_place = subst (λ (v : ℕ). Faces c v f) is (faces b a c (second_beside a b short c says) (λ e. absurd (omega arith)) f own other other_place)

@@ -1,0 +1,53 @@
+//! What a condition asks of places before it can be in an object's way.
+
+ghost use Rattle.std.specs.Prelude.{◌≡◌, ◌≢◌, ℕ, Some, true};
+ghost use Rattle.geo_conditions.specs.declared.cond.Cond.{Cond};
+ghost use Rattle.indexical.specs.Faces.{Faces};
+
+use super::placed::PlacedBox;
+use geo_conditions::ObjId;
+
+/// What a condition asks of places before it can be in an object's way. Places count from 1; 0 stands where none is asked.
+#[derive(Clone, Copy)]
+pub struct Facing {
+    /// The place that the object has to have.
+    pub place: u8,
+    /// The other object, where the condition names no third one.
+    pub other: Option<ObjId>,
+    /// The place that the other object has to have, and no other place.
+    pub other_place: u8,
+}
+
+impl Facing {
+    /// Nothing is known to be asked.
+    pub fn unknown() -> Facing
+        ensures { (c : Cond) (o : ℕ) → Faces c o result }
+    {
+        Facing {
+            place: 0,
+            other: None,
+            other_place: 0,
+        }
+    }
+}
+
+// The place that the box's object has to have; 0 where none is asked.
+fn asked_place<const K: usize>(b: &PlacedBox<K>) -> u8
+    ensures { result ≢ 0 → (b.now.leaf ≡ true) × (b.now.place ≡ result) }
+{
+    if b.leaf() { b.place() } else { 0 }
+}
+
+/// What the condition that two boxes do not overlap asks before it can be in the way of the first one's object.
+pub fn facing_beside<const K: usize>(own: &PlacedBox<K>, other: &PlacedBox<K>) -> Facing
+    ensures place { result.place ≢ 0 → (own.now.leaf ≡ true) × (own.now.place ≡ result.place) }
+    ensures other { result.other ≡ Some other.now.object }
+    ensures other_place { result.other_place ≢ 0
+        → (other.now.leaf ≡ true) × (other.now.place ≡ result.other_place) }
+{
+    Facing {
+        place: asked_place(own),
+        other: Some(other.object()),
+        other_place: asked_place(other),
+    }
+}

@@ -1,0 +1,62 @@
+-- The picks of an object in rows, by the places that their conditions ask for.
+use Rattle.std.specs.Prelude.{◌≡◌, ◌⊎◌, ℕ, zero, suc, ◌+◌, ◌-◌, ◌<◌, ◌≤◌, List, [], ◌∷◌, ◌++◌, length, slice_get, slice_index, slice_set, Some, Contains}
+use Rattle.std.specs.declared.vec.Vec.{Vec}
+use Rattle.std.specs.declared.alloc.Global.{Global}
+use Rattle.geo_conditions.specs.declared.object.TheConstants.{MAX_SHAPES}
+use Rattle.geo_conditions.specs.declared.cond.Cond.{Cond}
+use Rattle.indexical.specs.declared.facing.Facing.{Facing}
+use Rattle.indexical.specs.Faces.{Faces}
+use Rattle.object_pruning.specs.declared.rows.Group.{Group}
+use Rattle.object_pruning.specs.declared.rows.Rows.{Rows}
+
+-- the groups of the r-th row; none past the last one
+abbrev pub row : List (Vec Group Global) → ℕ → List Group
+row [] r = []
+row (v ∷ vs) zero = v.items
+row (v ∷ vs) (suc r) = row vs r
+
+-- the number is one of the group's
+abbrev pub IsInGroup : Group → ℕ → Type 0
+IsInGroup g i = (g.first ≤ i) × (i ≤ g.last)
+
+-- some group has the number
+abbrev pub HaveNumber : List Group → ℕ → Type 0
+HaveNumber gs i = (k : ℕ) × (g : Group) × (slice_get gs k ≡ Some g) × IsInGroup g i
+
+-- what the conditions of a group in row r ask for
+abbrev pub facing_of : ℕ → Group → Facing
+facing_of r g = record { place = r; other = g.other; other_place = g.other_place }
+
+-- The group of row r has a number. Each of its numbers is a pick, and the condition asks for these places
+pub record IsGroup (cs : List Cond) (o : ℕ) (picks : List ℕ) (r : ℕ) (g : Group) : Type 0 where
+  pub some : g.first ≤ g.last
+  pub listed : (i : ℕ) → IsInGroup g i → Contains picks i
+  pub faces : (i : ℕ) (x : Cond) → IsInGroup g i → slice_get cs (i - 1) ≡ Some x → Faces x o (facing_of r g)
+
+-- so are the groups of row r
+abbrev pub AreGroups : List Cond → ℕ → List ℕ → ℕ → List Group → Type 0
+AreGroups cs o picks r gs = (k : ℕ) (g : Group) → slice_get gs k ≡ Some g → IsGroup cs o picks r g
+
+-- the rows of the first n picks
+pub record AreRowsBelow (cs : List Cond) (o : ℕ) (picks : List ℕ) (n : ℕ) (rows : List (Vec Group Global)) : Type 0 where
+  pub count : length rows ≡ MAX_SHAPES + 1
+  pub groups : (r : ℕ) → AreGroups cs o picks r (row rows r)
+  pub each : (k : ℕ) → k < n → (r : ℕ) × HaveNumber (row rows r) (slice_index picks k)
+
+-- each pick is in some row, and each row has picks whose conditions ask for its place
+abbrev pub AreRows : List Cond → ℕ → List ℕ → Rows → Type 0
+AreRows cs o picks rows = AreRowsBelow cs o picks (length picks) rows.rows.items
+
+-- a group of the number alone, whose condition asks for these places
+abbrev pub group_of : Facing → ℕ → Group
+group_of f i = record { other = f.other; other_place = f.other_place; first = i; last = i }
+
+-- the group with one number more
+abbrev pub longer : Group → ℕ → Group
+longer g i = record { other = g.other; other_place = g.other_place; first = g.first; last = i }
+
+-- the number has a group of its own at the end, or is put behind a group that asks for the same places
+abbrev pub PutsNumber : Facing → ℕ → List Group → List Group → Type 0
+PutsNumber f i old new =
+    (new ≡ old ++ group_of f i ∷ [])
+    ⊎ ((k : ℕ) × (g : Group) × (slice_get old k ≡ Some g) × (g.last + 1 ≡ i) × (g.other ≡ f.other) × (g.other_place ≡ f.other_place) × (new ≡ slice_set old k (longer g i)))
