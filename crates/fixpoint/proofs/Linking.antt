@@ -1,16 +1,14 @@
 -- The lists that link conditions and objects.
-use Rattle.std.proofs.Common.{◌≡◌, ◌≢◌, ◌⊎◌, ◌||◌, ◌&&◌, not, ℕ, zero, suc, ◌+◌, ◌-◌, ◌<◌, ◌≤◌, Bool, true, false, List, [], ◌∷◌, ◌++◌, length, set, get_or, refl, sym, ap, ◌∙◌, subst, inl, inr, arith, Some, slice_index, eq-eqb, eqb-true}
+use Rattle.std.proofs.Common.{◌≡◌, ◌||◌, ◌&&◌, not, ℕ, zero, suc, ◌+◌, ◌-◌, ◌<◌, ◌≤◌, Bool, true, false, List, [], ◌∷◌, ◌++◌, length, set, get_or, refl, sym, ap, ◌∙◌, subst, inl, inr, arith, Some, slice_index, eq-eqb, eqb-true}
 use Rattle.std.specs.Prelude.{slice_get, nat_eq}
 use Rattle.std.specs.List.{All, list_any}
 use Rattle.std.proofs.lemmas.Bool.{false≢true, or_cases, cases_eq}
-use Rattle.std.proofs.lemmas.List.{get_or-set_same, get_or-set_other}
 use Rattle.std.proofs.Math.ListN.{length-set}
 use Rattle.std.proofs.lemmas.List.Folds.{list_any-append}
 use Rattle.std.proofs.lemmas.List.Elements.{All-append}
 use Rattle.std.proofs.lemmas.List.Quantifiers.{all_pairs_push}
 use Rattle.std.proofs.lemmas.Option.{slice_get-get_or}
 use Rattle.geo_conditions.specs.declared.cond.Cond.{Cond}
-use Rattle.geo_conditions.specs.Reach.{State, reach}
 use Rattle.indexical.specs.Names.{names}
 use Rattle.sweep.specs.Picks.{ArePicks, picked}
 use Rattle.sweep.proofs.PickedConditions.{picked_at, pick_in}
@@ -19,8 +17,6 @@ use Rattle.std.specs.declared.alloc.Global.{Global}
 use Rattle.std.proofs.Math.Bool.{or-false}
 use Rattle.geo_conditions.specs.declared.object.ObjId.{ObjId}
 use Rattle.fixpoint.specs.declared.links.Links.{Links}
-use Rattle.fixpoint.specs.Near.{AreApart}
-use Rattle.fixpoint.specs.Queue.{Marks, Touches, CatchesUp}
 use Rattle.fixpoint.specs.Links.{NumbersOf, PicksOf, names_none, is_among, NamedBy, row, AreLinks, put_where, Numbers}
 
 -- the place of a number that is there
@@ -293,133 +289,30 @@ number_in cs n l u numbers k a h e b =
     let w = pick_in (length cs) numbers k (subst (ArePicks (length cs)) (sym e) (a.picks u h).within) b in
     (w.0, omega (arith, w.1, a.conditions), (a.named (slice_index numbers k - 1) (some_of cs (slice_index numbers k - 1) w.1) w.1).below)
 
--- an object that no list with u has is apart
-pub apart_of : (cs : List Cond) (n u o : ℕ) (l : Links) → AreLinks cs n l → u < n → o < n → ((k : ℕ) → k < length (row l.picks.items u) → is_among o (row l.named.items (slice_index (row l.picks.items u) k - 1)) ≡ false) → AreApart cs u o
-apart_of cs n u o l a hu ho f i d h t = by_test (names u (get_or cs i d)) refl
-  where
-    by_test : (b : Bool) → names u (get_or cs i d) ≡ b → names u (get_or cs i d) ≡ false
-    by_test false e = e
-    by_test true e =
-        let w = index_of (suc i) (row l.picks.items u) ((a.picks u hu).each i d h ∙ e) in
-        let q : slice_index (row l.picks.items u) w.0 - 1 ≡ i = omega (arith, w.2) in
-        let x : is_among o (row l.named.items i) ≡ false = subst (λ (j : ℕ). is_among o (row l.named.items j) ≡ false) q (f w.0 w.1) in
-        absurd (false≢true (sym x ∙ (a.named i d h).each o ho ∙ t))
-
--- ---- the loops that queue objects
+-- ---- lists of objects
 
 pub among_more : (v : ℕ) (list : List ObjId) (o : ObjId) → is_among v (list ++ o ∷ []) ≡ (is_among v list || nat_eq o.0 v)
 among_more v list o = list_any-append (λ (u : ObjId). nat_eq u.0 v) list (o ∷ []) ∙ ap (λ (b : Bool). is_among v list || b) (or-false (nat_eq o.0 v))
 
-or_true : (a b : Bool) → (a || (b || true)) ≡ true
-or_true true b = refl
-or_true false true = refl
-or_true false false = refl
+-- an object that is not among them, and not the next one
+pub among_not : (v : ℕ) (list : List ObjId) (o : ObjId) → is_among v list ≡ false → (v ≡ o.0 → ⊥) → is_among v (list ++ o ∷ []) ≡ false
+among_not v list o f ne = among_more v list o ∙ ap (λ (b : Bool). b || nat_eq o.0 v) f ∙ nat_eq_other o.0 v (λ e. ne (sym e))
 
-pub marks_start : (u : ℕ) (q : List Bool) → Marks u [] q q
-marks_start u q = record { objects = refl; itself = refl; others = λ o n h. sym (or-false (get_or q o false)) }
-
-pub marks_put : (u : ℕ) (list : List ObjId) (o : ObjId) (old q : List Bool) → o.0 < length old → (o.0 ≡ u → ⊥) → Marks u list old q → Marks u (list ++ o ∷ []) old (set q o.0 true)
-marks_put u list o old q b n m = record {
-  objects = length-set q o.0 true ∙ m.objects;
-  itself = get_or-set_other q o.0 u true false (λ e. n (sym e)) ∙ m.itself;
-  others = λ v nv h. elim (cases_eq v o.0) [
-    | inl e ↦ subst (λ (z : ℕ). get_or (set q o.0 true) z false ≡ (get_or old z false || is_among z (list ++ o ∷ []))) (sym e)
-        (get_or-set_same q o.0 true false (omega (arith, b, m.objects)) ∙ sym (ap (λ (x : Bool). get_or old o.0 false || x) (among_more o.0 list o ∙ ap (λ (x : Bool). is_among o.0 list || x) (eq-eqb o.0 o.0 refl)) ∙ or_true (get_or old o.0 false) (is_among o.0 list)))
-    | inr ne ↦ get_or-set_other q o.0 v true false ne ∙ m.others v nv h ∙ sym (ap (λ (x : Bool). get_or old v false || x) (among_more v list o ∙ ap (λ (x : Bool). is_among v list || x) (nat_eq_other o.0 v (λ e. ne (sym e))) ∙ or-false (is_among v list)))
-  ];
-}
-
-pub marks_skip : (u : ℕ) (list : List ObjId) (o : ObjId) (old q : List Bool) → o.0 ≡ u → Marks u list old q → Marks u (list ++ o ∷ []) old q
-marks_skip u list o old q e m = record {
-  objects = m.objects;
-  itself = m.itself;
-  others = λ v nv h. m.others v nv h ∙ sym (ap (λ (x : Bool). get_or old v false || x) (among_more v list o ∙ ap (λ (x : Bool). is_among v list || x) (nat_eq_other o.0 v (λ q. nv (sym q ∙ e))) ∙ or-false (is_among v list)));
-}
-
--- the objects of the first k lists that have u are queued too
-pub record TouchedBelow (l : Links) (u k : ℕ) (old new : List Bool) : Type 0 where
-  pub objects : length new ≡ length old
-  pub itself : get_or new u false ≡ get_or old u false
-  pub others : (o : ℕ) → (o ≡ u → ⊥) → o < length old → get_or new o false ≡ false
-      → (get_or old o false ≡ false) × ((j : ℕ) → j < k → is_among o (row l.named.items (slice_index (row l.picks.items u) j - 1)) ≡ false)
-
-pub touched_start : (l : Links) (u : ℕ) (q : List Bool) → TouchedBelow l u 0 q q
-touched_start l u q = record { objects = refl; itself = refl; others = λ o n h e. (e, λ j b. absurd (omega arith)) }
-
-or_first : (a b : Bool) → (a || b) ≡ false → a ≡ false
+pub or_first : (a b : Bool) → (a || b) ≡ false → a ≡ false
 or_first true b h = h
 or_first false b h = refl
 
-or_second : (a b : Bool) → (a || b) ≡ false → b ≡ false
+pub or_second : (a b : Bool) → (a || b) ≡ false → b ≡ false
 or_second true b h = absurd (false≢true (sym h))
 or_second false b h = h
 
-pub touched_more : (l : Links) (u k : ℕ) (old q new : List Bool) (list : List ObjId) → TouchedBelow l u k old q → list ≡ row l.named.items (slice_index (row l.picks.items u) k - 1) → Marks u list q new → TouchedBelow l u (k + 1) old new
-touched_more l u k old q new list t e m = record {
-  objects = m.objects ∙ t.objects;
-  itself = m.itself ∙ t.itself;
-  others = λ o n h f.
-      let both : (get_or q o false || is_among o list) ≡ false = sym (m.others o n (omega (arith, h, t.objects))) ∙ f in
-      let w = t.others o n h (or_first (get_or q o false) (is_among o list) both) in (
-        w.0,
-        λ j b. elim (cases_eq j k) [
-          | inl i ↦ subst (λ (z : ℕ). is_among o (row l.named.items (slice_index (row l.picks.items u) z - 1)) ≡ false) (sym i) (subst (λ (x : List ObjId). is_among o x ≡ false) e (or_second (get_or q o false) (is_among o list) both))
-          | inr ne ↦ w.1 j (omega arith)
-        ],
-      );
-}
+-- the condition that the j-th number of u names
+abbrev pub nth : Links → ℕ → ℕ → ℕ
+nth l u j = slice_index (row l.picks.items u) j - 1
 
-pub touched_end : (cs : List Cond) (l : Links) (u k : ℕ) (old new : List Bool) → AreLinks cs (length old) l → u < length old → length (row l.picks.items u) ≤ k → TouchedBelow l u k old new → Touches cs u old new
-touched_end cs l u k old new a h end t = record {
-  objects = t.objects;
-  itself = t.itself;
-  others = λ o n b f. let w = t.others o n b f in (w.0, apart_of cs (length old) u o l a h b (λ j i. w.1 j (omega (arith, i, end))));
-}
-
--- ---- the loop over what differs
-
--- of the objects below k each that differs is queued, with those near it
-pub record CaughtBelow (cs : List Cond) (k : ℕ) (S T : State) (old new : List Bool) : Type 0 where
-  pub objects : length new ≡ length old
-  pub before : (o : ℕ) → o < length old → get_or new o false ≡ false → get_or old o false ≡ false
-  pub same : (o : ℕ) → o < length old → o < k → get_or new o false ≡ false → reach S o ≡ reach T o
-  pub apart : (o u : ℕ) → o < length old → u < k → get_or new o false ≡ false → (reach S u ≡ reach T u) ⊎ AreApart cs u o
-
-pub caught_start : (cs : List Cond) (S T : State) (q : List Bool) → CaughtBelow cs 0 S T q q
-caught_start cs S T q = record { objects = refl; before = λ o h e. e; same = λ o h b e. absurd (omega arith); apart = λ o u h b e. absurd (omega arith) }
-
--- an object that is the same
-pub caught_same : (cs : List Cond) (k : ℕ) (S T : State) (old q : List Bool) → CaughtBelow cs k S T old q → reach S k ≡ reach T k → CaughtBelow cs (k + 1) S T old q
-caught_same cs k S T old q c e = record {
-  objects = c.objects;
-  before = c.before;
-  same = λ o h b f. elim (cases_eq o k) [ inl i ↦ subst (λ (z : ℕ). reach S z ≡ reach T z) (sym i) e | inr ne ↦ c.same o h (omega arith) f ];
-  apart = λ o u h b f. elim (cases_eq u k) [ inl i ↦ inl (subst (λ (z : ℕ). reach S z ≡ reach T z) (sym i) e) | inr ne ↦ c.apart o u h (omega arith) f ];
-}
-
--- an object that differs
-pub caught_more : (cs : List Cond) (k : ℕ) (S T : State) (old q new : List Bool) → CaughtBelow cs k S T old q → k < length q → Touches cs k (set q k true) new → CaughtBelow cs (k + 1) S T old new
-caught_more cs k S T old q new c h t = record {
-  objects = t.objects ∙ length-set q k true ∙ c.objects;
-  before = λ o b f. c.before o b (was o b f);
-  same = λ o b l f. c.same o b (omega (arith, l, other o f)) (was o b f);
-  apart = λ o u b l f. elim (cases_eq u k) [
-    | inl i ↦ inr (subst (λ (z : ℕ). AreApart cs z o) (sym i) (t.others o (other o f) (omega (arith, b, length-set q k true, c.objects)) f).1)
-    | inr ne ↦ c.apart o u b (omega arith) (was o b f)
-  ];
-}
-  where
-    there : get_or new k false ≡ true
-    there = t.itself ∙ get_or-set_same q k true false h
-
-    other : (o : ℕ) → get_or new o false ≡ false → o ≢ k
-    other o f e = false≢true (sym f ∙ subst (λ (z : ℕ). get_or new z false ≡ true) (sym e) there)
-
-    was : (o : ℕ) → o < length old → get_or new o false ≡ false → get_or q o false ≡ false
-    was o b f = sym (get_or-set_other q k o true false (other o f)) ∙ (t.others o (other o f) (omega (arith, b, length-set q k true, c.objects)) f).0
-
-pub caught_end : (cs : List Cond) (k : ℕ) (S T : State) (old new : List Bool) → length S ≡ length old → length old ≤ k → CaughtBelow cs k S T old new → CatchesUp cs S T old new
-caught_end cs k S T old new e h c = record {
-  objects = c.objects;
-  rest = λ o b f. (c.before o b f, record { itself = c.same o b (omega (arith, b, h)) f; others = λ u l. c.apart o u b (omega (arith, l, h, e)) f });
-}
+-- what holds of each condition of u's numbers holds of each condition that names u
+pub each_named : (P : Cond → Type 0) (cs : List Cond) (n u : ℕ) (l : Links) → AreLinks cs n l → u < n → ((j : ℕ) (d : Cond) → j < length (row l.picks.items u) → P (get_or cs (nth l u j) d)) → All (λ c. names u c ≡ true → P c) cs
+each_named P cs n u l a h f m d hm nu =
+    let w = index_of (suc m) (row l.picks.items u) ((a.picks u h).each m d hm ∙ nu) in
+    let s : nth l u w.0 ≡ m = omega (arith, w.2) in
+    subst (λ (z : ℕ). P (get_or cs z d)) s (f w.0 d w.1)

@@ -9,10 +9,11 @@ use Rattle.geo_conditions.specs.Conditions.{possible}
 use Rattle.geo_conditions.specs.Supported.{IsSupported, Supports, NoneRefuted}
 use Rattle.geo_conditions.proofs.Monotone.{possible_wider}
 use Rattle.geo_conditions.proofs.Points.{reach_same, reach_other, with_length, point_within, point_not_empty, place_from_1, put_inside, put_not_empty}
+use Rattle.indexical.specs.Free.{SparesAnywhere}
 use Rattle.indexical.specs.Names.{names}
 use Rattle.indexical.proofs.Unnamed.{same_answer}
 use Rattle.object_pruning.specs.Same.{SameBut}
-use Rattle.fixpoint.specs.Near.{AreApart, IsUntouched, NearSupports, IsFine, BarePossible}
+use Rattle.fixpoint.specs.Near.{Unhindered, IsUntouched, NearSupports, IsFine, BarePossible}
 
 abbrev place_of : Reach → ℕ → Bool
 place_of r s = place_in r.places s
@@ -25,34 +26,60 @@ same_seen c S T o b h u n = b.each u (λ e. absurd (false≢true (sym h ∙ subs
 pub same_without : (c : Cond) (S T : State) (o : ℕ) → SameBut o S T → names o c ≡ false → possible c S ≡ possible c T
 same_without c S T o b h = same_answer c S T (same_seen c S T o b h)
 
--- an object that no condition names with the one that changed is untouched
-pub apart_untouched : (cs : List Cond) (S T : State) (o u : ℕ) → SameBut o S T → u ≢ o → AreApart cs o u → IsUntouched cs S T u
-apart_untouched cs S T o u e ne far = record {
+-- all of them, or one
+either : (P : ℕ → Type 0) (Q : Type 0) (n : ℕ) → ((u : ℕ) → u < n → P u ⊎ Q) → ((u : ℕ) → u < n → P u) ⊎ Q
+either P Q zero f = inl (λ u h. absurd (omega arith))
+either P Q (suc n) f = elim (either P Q n (λ u h. f u (omega (arith, h)))) [
+  | inr y ↦ inr y
+  | inl g ↦ elim (f n (omega arith)) [
+    | inr y ↦ inr y
+    | inl p ↦ inl (λ u h. elim (cases_eq u n) [ inl e ↦ subst P (sym e) p | inr ne ↦ g u (omega (arith, h, ne)) ])
+  ]
+]
+
+-- a condition stays possible with the object there, if each other one that it names is the same or leaves it possible
+pub still_possible : (c : Cond) (S T : State) (o place : ℕ) (p : List ℤ) → length S ≡ length T → o < length S → ((u : ℕ) → u < length S → u ≢ o → names u c ≡ true → (reach S u ≡ reach T u) ⊎ SparesAnywhere c T o)
+    → possible c (with_at S o place (just p)) ≡ true → possible c (with_at T o place (just p)) ≡ true
+still_possible c S T o place p same h f was =
+    elim (either (λ u. u ≢ o → names u c ≡ true → reach S u ≡ reach T u) (possible c (with_at T o place (just p)) ≡ true) (length S) (λ u b. by_test u b (names u c) refl)) [
+      | inr y ↦ y
+      | inl g ↦ sym (same_answer c (with_at S o place (just p)) (with_at T o place (just p)) (seen g)) ∙ was
+    ]
+  where
+    by_test : (u : ℕ) → u < length S → (b : Bool) → names u c ≡ b → (u ≢ o → names u c ≡ true → reach S u ≡ reach T u) ⊎ (possible c (with_at T o place (just p)) ≡ true)
+    by_test u b false e = inl (λ n y. absurd (false≢true (sym e ∙ y)))
+    by_test u b true e = elim (cases_eq u o) [
+      | inl q ↦ inl (λ n y. absurd (n q))
+      | inr ne ↦ elim (f u b ne e) [ inl z ↦ inl (λ n y. z) | inr g ↦ inr (g place p) ]
+    ]
+
+    both : ((u : ℕ) → u < length S → u ≢ o → names u c ≡ true → reach S u ≡ reach T u) → (w : ℕ) → w ≢ o → names w c ≡ true → reach S w ≡ reach T w
+    both g w ne m = elim (cases_lt w (length S)) [
+      | inl l ↦ g w l ne m
+      | inr l ↦ get_or_past S w nowhere l ∙ sym (get_or_past T w nowhere (omega (arith, l, same)))
+    ]
+
+    seen : ((u : ℕ) → u < length S → u ≢ o → names u c ≡ true → reach S u ≡ reach T u) → (w : ℕ) → names w c ≡ true → reach (with_at S o place (just p)) w ≡ reach (with_at T o place (just p)) w
+    seen g w m = elim (cases_eq w o) [
+      | inl q ↦ subst (λ (v : ℕ). reach (with_at S o place (just p)) v ≡ reach (with_at T o place (just p)) v) (sym q) (reach_same S o place (just p) h ∙ sym (reach_same T o place (just p) (omega (arith, h, same))))
+      | inr ne ↦ reach_other S o place w (just p) ne ∙ both g w ne m ∙ sym (reach_other T o place w (just p) ne)
+    ]
+
+-- an object that the one that changed leaves unhindered is untouched
+pub unhindered_untouched : (cs : List Cond) (S T : State) (o u : ℕ) → SameBut o S T → u ≢ o → Unhindered cs T o u → IsUntouched cs S T u
+unhindered_untouched cs S T o u e ne free = record {
   itself = e.each u ne;
   others = λ v h. elim (cases_eq v o) [
-    | inl q ↦ inr (subst (λ (z : ℕ). AreApart cs z u) (sym q) far)
+    | inl q ↦ inr (subst (λ (z : ℕ). Unhindered cs T z u) (sym q) free)
     | inr m ↦ inl (e.each v m)
   ];
 }
 
--- a condition that names an untouched object sees the same with that object put somewhere
-seen_untouched : (cs : List Cond) (S T : State) (o s : ℕ) (b : Region) (k : ℕ) (d : Cond) → length S ≡ length T → o < length S → IsUntouched cs S T o → k < length cs → names o (get_or cs k d) ≡ true → (w : ℕ) → names w (get_or cs k d) ≡ true → reach (with_at S o s b) w ≡ reach (with_at T o s b) w
-seen_untouched cs S T o s b k d same h y hk n w m = elim (cases_eq w o) [
-  | inl q ↦ subst (λ (v : ℕ). reach (with_at S o s b) v ≡ reach (with_at T o s b) v) (sym q) (reach_same S o s b h ∙ sym (reach_same T o s b (omega (arith, h, same))))
-  | inr ne ↦ reach_other S o s w b ne ∙ both ∙ sym (reach_other T o s w b ne)
-]
-  where
-    both : reach S w ≡ reach T w
-    both = elim (cases_lt w (length S)) [
-      | inl l ↦ elim (y.others w l) [ inl e ↦ e | inr apart ↦ absurd (false≢true (sym (apart k d hk n) ∙ m)) ]
-      | inr l ↦ get_or_past S w nowhere l ∙ sym (get_or_past T w nowhere (omega (arith, l, same)))
-    ]
-
 near_untouched : (cs : List Cond) (S T : State) (o s : ℕ) (p : List ℤ) → length S ≡ length T → o < length S → IsUntouched cs S T o → NearSupports cs S o s p → NearSupports cs T o s p
-near_untouched cs S T o s p same h u y = record {
-  place = ap (λ (r : Reach). place_of r s) (sym u.itself) ∙ y.place;
-  point = subst (λ (r : Reach). InBox p r.region) u.itself y.point;
-  unrefuted = λ k d b n. sym (same_answer (get_or cs k d) (with_at S o s (just p)) (with_at T o s (just p)) (seen_untouched cs S T o s (just p) k d same h u b n)) ∙ y.unrefuted k d b n;
+near_untouched cs S T o s p same h y z = record {
+  place = ap (λ (r : Reach). place_of r s) (sym y.itself) ∙ z.place;
+  point = subst (λ (r : Reach). InBox p r.region) y.itself z.point;
+  unrefuted = λ k d b n. still_possible (get_or cs k d) S T o s p same h (λ u l ne m. elim (y.others u l) [ inl e ↦ inl e | inr g ↦ inr (g k d b m n) ]) (z.unrefuted k d b n);
 }
 
 -- an untouched object stays fine

@@ -8,11 +8,10 @@ use Rattle.std.proofs.lemmas.Option.{slice_get-get_or, same_Some}
 use Rattle.geo_conditions.specs.declared.cond.Cond.{Cond}
 use Rattle.geo_conditions.specs.declared.object.ObjId.{ObjId}
 use Rattle.geo_conditions.specs.Conditions.{possible}
-use Rattle.geo_conditions.specs.Reach.{State, reach, nowhere, just}
+use Rattle.geo_conditions.specs.Reach.{State, reach}
 use Rattle.geo_conditions.specs.Supported.{NoneRefuted}
-use Rattle.geo_conditions.proofs.Points.{reach_same, reach_other}
 use Rattle.indexical.specs.Names.{names}
-use Rattle.indexical.specs.Free.{LeavesFree, SparesAnywhere}
+use Rattle.indexical.specs.Free.{SparesAnywhere}
 use Rattle.sweep.specs.Picks.{picked}
 use Rattle.sweep.proofs.PickedConditions.{picked_all, pick_in}
 use Rattle.object_pruning.specs.declared.kept.Placed.{Placed}
@@ -21,19 +20,11 @@ use Rattle.object_pruning.specs.Same.{SameBut}
 use Rattle.object_pruning.proofs.Supports.{supports_at}
 use Rattle.fixpoint.specs.declared.links.Links.{Links}
 use Rattle.fixpoint.specs.Links.{PicksOf, NamedBy, is_among, row, AreLinks}
-use Rattle.fixpoint.specs.Near.{NearUnrefuted}
-use Rattle.fixpoint.specs.Kept.{Slots, kept_at, IsBlank, AllStand, StayFrom, Retries, BothUnrefuted, RetriesNear, StandsAlone}
-use Rattle.indexical.proofs.Unnamed.{same_answer}
-use Rattle.fixpoint.proofs.Linking.{index_of, named_all, row_set_same, row_set_other, among_more}
-
--- ---- what a condition sees
-
--- a condition keeps its answer with the object there while the other objects that it names are the same
-stays_possible : {K : ℕ} (c : Cond) (S T : State) (o : ℕ) (q : Placed K) → length S ≡ length T → o < length S → ((u : ℕ) → u ≢ o → names u c ≡ true → reach S u ≡ reach T u) → possible c (placed S o q) ≡ possible c (placed T o q)
-stays_possible c S T o q same h f = same_answer c (placed S o q) (placed T o q) (λ w m. elim (cases_eq w o) [
-  | inl e ↦ subst (λ (v : ℕ). reach (placed S o q) v ≡ reach (placed T o q) v) (sym e) (reach_same S o q.place (just q.point.coordinates) h ∙ sym (reach_same T o q.place (just q.point.coordinates) (omega (arith, h, same))))
-  | inr ne ↦ reach_other S o q.place w (just q.point.coordinates) ne ∙ f w ne m ∙ sym (reach_other T o q.place w (just q.point.coordinates) ne)
-])
+use Rattle.fixpoint.specs.Near.{NearUnrefuted, Unhindered}
+use Rattle.fixpoint.specs.Kept.{Slots, IsBlank, AllStand, StandBut, Stand, RetriesMarked, StandsAlone}
+use Rattle.fixpoint.specs.Marks.{Rows, NamesUnmarked, IsCleared, MarksAt, NotesChanges}
+use Rattle.fixpoint.proofs.Names.{still_possible}
+use Rattle.fixpoint.proofs.Linking.{named_all, row_set_same, row_set_other, nth, each_named, or_first, or_second}
 
 -- ---- one condition asks again
 
@@ -59,167 +50,101 @@ retried_anywhere {K} c S o f (Some q ∷ xs) =
     ap (λ (b : Bool). (if b then Some q else None) ∷ map (retried c S o) xs) (f q.place q.point.coordinates)
     ∙ ap (λ (l : List (Option (Placed K))). Some q ∷ l) (retried_anywhere c S o f xs)
 
-set_slot : {K : ℕ} (c : Cond) (S : State) (xs : Slots K) (o : ℕ) (v : Vec (Option (Placed K)) Global) → o < length xs → v.items ≡ map (retried c S o) (row xs o)
-    → (p i : ℕ) (q : Placed K) → kept_at (set xs o v) p i ≡ Some q → (kept_at xs p i ≡ Some q) × (p ≡ o → possible c (placed S p q) ≡ true)
-set_slot {K} c S xs o v h m p i q e = elim (cases_eq p o) [
-  | inl s ↦
-      let here : kept_at (set xs o v) o i ≡ Some q = subst (λ (z : ℕ). kept_at (set xs o v) z i ≡ Some q) s e in
-      let y = retried_some c S o (kept_at xs o i) q (sym (ap (λ (l : List (Option (Placed K))). get_or l i None) (row_set_same xs o v h ∙ m) ∙ map_slot (retried c S o) (row xs o) i refl) ∙ here) in
-      (subst (λ (z : ℕ). kept_at xs z i ≡ Some q) (sym s) y.0, λ t. subst (λ (z : ℕ). possible c (placed S z q) ≡ true) (sym s) y.1)
-  | inr ne ↦ (sym (ap (λ (l : List (Option (Placed K))). get_or l i None) (row_set_other xs o p v ne)) ∙ e, λ t. absurd (ne t))
+-- asked again, points stay at which the condition is possible
+pub retries_asked : {K : ℕ} (c : Cond) (S : State) (o : ℕ) (marks : List Bool) (old new : List (Option (Placed K))) → new ≡ map (retried c S o) old → RetriesMarked c S o marks old new
+retries_asked {K} c S o marks old new m = record { stay = λ i q e. (at i q e).0; tried = inr (λ i q e. (at i q e).1) }
+  where
+    at : (i : ℕ) (q : Placed K) → get_or new i None ≡ Some q → (get_or old i None ≡ Some q) × (possible c (placed S o q) ≡ true)
+    at i q e = retried_some c S o (get_or old i None) q (sym (map_slot (retried c S o) old i refl) ∙ sym (ap (λ (l : List (Option (Placed K))). get_or l i None) m) ∙ e)
+
+among_unmarked : (u : ℕ) (marks : List Bool) (list : List ObjId) → list_any (λ (v : ObjId). get_or marks v.0 false) list ≡ false → is_among u list ≡ true → get_or marks u false ≡ false
+among_unmarked u marks [] n a = absurd (false≢true a)
+among_unmarked u marks (v ∷ vs) n a = elim (or_cases (nat_eq v.0 u) (is_among u vs) a) [
+  | inl e ↦ subst (λ (z : ℕ). get_or marks z false ≡ false) (eqb-true v.0 u e) (or_first (get_or marks v.0 false) (list_any (λ (w : ObjId). get_or marks w.0 false) vs) n)
+  | inr e ↦ among_unmarked u marks vs (or_second (get_or marks v.0 false) (list_any (λ (w : ObjId). get_or marks w.0 false) vs) n) e
 ]
 
-pub retries_start : {K : ℕ} (c : Cond) (S : State) (u : ℕ) (xs : Slots K) → Retries c S u [] xs xs
-retries_start c S u xs = record { stay = λ o i q e. e; tried = λ o i q ne a e. absurd (false≢true a) }
-
-pub retries_put : {K : ℕ} (c : Cond) (S : State) (u : ℕ) (list : List ObjId) (o : ObjId) (old xs : Slots K) (v : Vec (Option (Placed K)) Global) → o.0 < length xs → v.items ≡ map (retried c S o.0) (row xs o.0) → Retries c S u list old xs → Retries c S u (list ++ o ∷ []) old (set xs o.0 v)
-retries_put c S u list o old xs v h m r = record {
-  stay = λ p i q e. r.stay p i q (set_slot c S xs o.0 v h m p i q e).0;
-  tried = λ p i q ne a e.
-      let y = set_slot c S xs o.0 v h m p i q e in
-      elim (or_cases (is_among p list) (nat_eq o.0 p) (sym (among_more p list o) ∙ a)) [
-        | inl t ↦ r.tried p i q ne t y.0
-        | inr t ↦ y.1 (sym (eqb-true o.0 p t))
-      ];
+-- a condition that names no marked object is not asked
+pub retries_skipped : {K : ℕ} (c : Cond) (S : State) (o : ℕ) (marks : List Bool) (list : List ObjId) (slots : List (Option (Placed K))) → NamedBy c (length S) list → length marks ≡ length S → list_any (λ (v : ObjId). get_or marks v.0 false) list ≡ false → RetriesMarked c S o marks slots slots
+retries_skipped c S o marks list slots k long none = record {
+  stay = λ i q e. e;
+  tried = inl (λ u n. elim (cases_lt u (length S)) [
+    | inl l ↦ among_unmarked u marks list none (k.each u l ∙ n)
+    | inr l ↦ get_or_past marks u false (omega (arith, l, long))
+  ]);
 }
 
-pub retries_skip : {K : ℕ} (c : Cond) (S : State) (u : ℕ) (list : List ObjId) (o : ObjId) (old xs : Slots K) → o.0 ≡ u → Retries c S u list old xs → Retries c S u (list ++ o ∷ []) old xs
-retries_skip c S u list o old xs s r = record {
-  stay = r.stay;
-  tried = λ p i q ne a e.
-      elim (or_cases (is_among p list) (nat_eq o.0 p) (sym (among_more p list o) ∙ a)) [
-        | inl t ↦ r.tried p i q ne t e
-        | inr t ↦ absurd (ne (sym (eqb-true o.0 p t) ∙ s))
-      ];
-}
+-- ---- the conditions that name an object ask again
 
-among_below : (o n : ℕ) (list : List ObjId) → All (λ u. u.0 < n) list → is_among o list ≡ true → o < n
-among_below o n [] a t = absurd (false≢true t)
-among_below o n (u ∷ us) a t = elim (or_cases (nat_eq u.0 o) (is_among o us) t) [
-  | inl e ↦ let here : u.0 < n = a 0 u (omega arith) in omega (arith, here, eqb-true u.0 o e)
-  | inr e ↦ among_below o n us (λ k d b. a (suc k) d (omega (arith, b))) e
-]
+-- the first k conditions that name o asked again
+pub record AskedBelow {K : ℕ} (cs : List Cond) (l : Links) (S : State) (o k : ℕ) (marks : List Bool) (old new : List (Option (Placed K))) : Type 0 where
+  pub stay : (i : ℕ) (q : Placed K) → get_or new i None ≡ Some q → get_or old i None ≡ Some q
+  pub tried : (i : ℕ) (q : Placed K) → get_or new i None ≡ Some q → (j : ℕ) (d : Cond) → j < k → NamesUnmarked marks (get_or cs (nth l o j) d) ⊎ (possible (get_or cs (nth l o j) d) (placed S o q) ≡ true)
 
--- where u leaves the others free there is nothing to ask
-pub retries_free : {K : ℕ} (c : Cond) (S : State) (u : ℕ) (list : List ObjId) (xs : Slots K) → NamedBy c (length S) list → LeavesFree c S u → Retries c S u list xs xs
-retries_free c S u list xs n f = record {
-  stay = λ o i q e. e;
-  tried = λ o i q ne a e. f o q.place q.point.coordinates ne (sym (n.each o (among_below o (length S) list n.below a)) ∙ a);
-}
+pub asked_start : {K : ℕ} (cs : List Cond) (l : Links) (S : State) (o : ℕ) (marks : List Bool) (slots : List (Option (Placed K))) → AskedBelow cs l S o 0 marks slots slots
+asked_start cs l S o marks slots = record { stay = λ i q e. e; tried = λ i q e j d b. absurd (omega arith) }
 
--- ---- the conditions that name u ask again
+-- the condition is possible with the object there, if it names a marked object
+abbrev Tried : {K : ℕ} → State → ℕ → List Bool → Placed K → Cond → Type 0
+Tried S o marks q x = NamesUnmarked marks x ⊎ (possible x (placed S o q) ≡ true)
 
--- the condition that the j-th number of u names
-abbrev nth : Links → ℕ → ℕ → ℕ
-nth l u j = slice_index (row l.picks.items u) j - 1
-
--- the first k conditions that name u asked again
-pub record RetriedBelow {K : ℕ} (cs : List Cond) (l : Links) (S : State) (u k : ℕ) (old new : Slots K) : Type 0 where
-  pub stay : StayFrom old new
-  pub tried : (o i : ℕ) (q : Placed K) → o ≢ u → kept_at new o i ≡ Some q → (j : ℕ) (d : Cond) → j < k → is_among o (row l.named.items (nth l u j)) ≡ true → possible (get_or cs (nth l u j) d) (placed S o q) ≡ true
-
-pub retried_start : {K : ℕ} (cs : List Cond) (l : Links) (S : State) (u : ℕ) (xs : Slots K) → RetriedBelow cs l S u 0 xs xs
-retried_start cs l S u xs = record { stay = λ o i q e. e; tried = λ o i q ne e j d b a. absurd (omega arith) }
-
-pub retried_more : {K : ℕ} (cs : List Cond) (l : Links) (S : State) (u k : ℕ) (old xs new : Slots K) (c : Cond) (list : List ObjId) → ((d : Cond) → get_or cs (nth l u k) d ≡ c) → list ≡ row l.named.items (nth l u k) → RetriedBelow cs l S u k old xs → Retries c S u list xs new → RetriedBelow cs l S u (k + 1) old new
-retried_more cs l S u k old xs new c list at those r t = record {
-  stay = λ o i q e. r.stay o i q (t.stay o i q e);
-  tried = λ o i q ne e j d b a. elim (cases_eq j k) [
-    | inl s ↦ subst (λ (z : ℕ). possible (get_or cs (nth l u z) d) (placed S o q) ≡ true) (sym s)
-        (subst (λ (x : Cond). possible x (placed S o q) ≡ true) (sym (at d)) (t.tried o i q ne (subst (λ (x : List ObjId). is_among o x ≡ true) (sym those) (subst (λ (z : ℕ). is_among o (row l.named.items (nth l u z)) ≡ true) s a)) e))
-    | inr n ↦ r.tried o i q ne (t.stay o i q e) j d (omega (arith, b, n)) a
+pub asked_more : {K : ℕ} (cs : List Cond) (l : Links) (S : State) (o k : ℕ) (marks : List Bool) (old slots new : List (Option (Placed K))) (c : Cond) → ((d : Cond) → get_or cs (nth l o k) d ≡ c) → AskedBelow cs l S o k marks old slots → RetriesMarked c S o marks slots new → AskedBelow cs l S o (k + 1) marks old new
+asked_more {K} cs l S o k marks old slots new c at a r = record {
+  stay = λ i q e. a.stay i q (r.stay i q e);
+  tried = λ i q e j d b. elim (cases_eq j k) [
+    | inl s ↦ subst (λ (z : ℕ). Tried S o marks q (get_or cs (nth l o z) d)) (sym s) (subst (Tried S o marks q) (sym (at d)) (last i q e))
+    | inr n ↦ a.tried i q (r.stay i q e) j d (omega (arith, b, n))
   ];
 }
+  where
+    last : (i : ℕ) (q : Placed K) → get_or new i None ≡ Some q → Tried S o marks q c
+    last i q e = elim r.tried [ inl u ↦ inl u | inr f ↦ inr (f i q e) ]
 
-pub retried_end : {K : ℕ} (cs : List Cond) (l : Links) (S : State) (u k : ℕ) (old new : Slots K) → AreLinks cs (length S) l → u < length S → length (row l.picks.items u) ≤ k → RetriedBelow cs l S u k old new → RetriesNear cs S u old new
-retried_end cs l S u k old new a h end r = record {
-  stay = r.stay;
-  tried = λ o i q ne b e m d hm nu mo.
-      let w = index_of (suc m) (row l.picks.items u) ((a.picks u h).each m d hm ∙ nu) in
-      let s : nth l u w.0 ≡ m = omega (arith, w.2) in
-      let among : is_among o (row l.named.items m) ≡ true = (a.named m d hm).each o b ∙ mo in
-      subst (λ (z : ℕ). possible (get_or cs z d) (placed S o q) ≡ true) s (r.tried o i q ne e w.0 d (omega (arith, w.1, end)) (subst (λ (z : ℕ). is_among o (row l.named.items z) ≡ true) (sym s) among));
-}
+pub asked_end : {K : ℕ} (cs : List Cond) (l : Links) (S : State) (o k : ℕ) (marks : List Bool) (old new : List (Option (Placed K))) → AreLinks cs (length S) l → o < length S → length (row l.picks.items o) ≤ k → AskedBelow cs l S o k marks old new → StandBut cs S o marks old → Stand cs S o new
+asked_end cs l S o k marks old new a h end r f i q e m d hm nm =
+    elim (each_named (λ c. NamesUnmarked marks c ⊎ (possible c (placed S o q) ≡ true)) cs (length S) o l a h (λ j x b. r.tried i q e j x (omega (arith, b, end))) m d hm nm) [
+      | inl u ↦ f i q (r.stay i q e) m d hm nm u
+      | inr y ↦ y
+    ]
 
 -- ---- after a change
 
--- one object changed, and the conditions that name it asked again
-pub stand_changed : {K : ℕ} (cs : List Cond) (S T : State) (o : ℕ) (old mid new : Slots K) → SameBut o S T → AllStand cs S old → StandsAlone cs T o old mid → RetriesNear cs T o mid new → AllStand cs T new
-stand_changed {K} cs S T o old mid new alone f y r u i q h e = elim (cases_eq u o) [
-  | inl s ↦ subst (λ (z : ℕ). NearUnrefuted cs (placed T z q) z) (sym s) (y.itself i q (subst (λ (z : ℕ). kept_at mid z i ≡ Some q) s (r.stay u i q e)))
-  | inr ne ↦ λ m d hm nu.
-      let hs : u < length S = omega (arith, h, alone.objects) in
-      let was : kept_at old u i ≡ Some q = sym (ap (λ (l : List (Option (Placed K))). get_or l i None) (y.others u ne)) ∙ r.stay u i q e in
-      by_test (get_or cs m d) u q hs ne (names o (get_or cs m d)) refl (f u i q hs was m d hm nu) (λ mo. r.tried u i q ne h e m d hm mo nu)
-]
-  where
-    by_test : (c : Cond) (u : ℕ) (q : Placed K) → u < length S → u ≢ o → (b : Bool) → names o c ≡ b → possible c (placed S u q) ≡ true → (names o c ≡ true → possible c (placed T u q) ≡ true) → possible c (placed T u q) ≡ true
-    by_test c u q hs ne true e before now = now e
-    by_test c u q hs ne false e before now = sym (stays_possible c S T u q alone.objects hs (λ v nv t. alone.each v (λ s. false≢true (sym e ∙ subst (λ (z : ℕ). names z c ≡ true) s t)))) ∙ before
+-- what stands but for marked neighbours stands so after a change of neighbours that are marked
+noted_one : {K : ℕ} (cs : List Cond) (S T : State) (o : ℕ) (before after : List Bool) (slots : List (Option (Placed K))) → length S ≡ length T → o < length S → ((u : ℕ) → get_or after u false ≡ false → get_or before u false ≡ false)
+    → ((u : ℕ) → u < length S → u ≢ o → get_or after u false ≡ false → (reach S u ≡ reach T u) ⊎ Unhindered cs T u o) → StandBut cs S o before slots → StandBut cs T o after slots
+noted_one cs S T o before after slots same h stay fresh f i q e m d hm nm un =
+    still_possible (get_or cs m d) S T o q.place q.point.coordinates same h (λ u b ne nu. elim (fresh u b ne (un u nu)) [ inl y ↦ inl y | inr g ↦ inr (g m d hm nu nm) ]) (f i q e m d hm nm (λ u nu. stay u (un u nu)))
 
--- ---- what differs at the start
-
--- for the objects below k that differ the conditions that name them asked again
-pub record RetriedChanged {K : ℕ} (cs : List Cond) (k : ℕ) (S T : State) (old new : Slots K) : Type 0 where
-  pub stay : StayFrom old new
-  pub tried : (u : ℕ) → u < k → (reach S u ≡ reach T u) ⊎ ((o i : ℕ) (q : Placed K) → o ≢ u → o < length T → kept_at new o i ≡ Some q → BothUnrefuted cs (placed T o q) u o)
-
-pub changed_start : {K : ℕ} (cs : List Cond) (S T : State) (xs : Slots K) → RetriedChanged cs 0 S T xs xs
-changed_start cs S T xs = record { stay = λ o i q e. e; tried = λ u b. absurd (omega arith) }
-
-pub changed_same : {K : ℕ} (cs : List Cond) (k : ℕ) (S T : State) (old xs : Slots K) → reach S k ≡ reach T k → RetriedChanged cs k S T old xs → RetriedChanged cs (k + 1) S T old xs
-changed_same cs k S T old xs s r = record {
-  stay = r.stay;
-  tried = λ u b. elim (cases_eq u k) [ inl e ↦ inl (subst (λ (z : ℕ). reach S z ≡ reach T z) (sym e) s) | inr ne ↦ r.tried u (omega (arith, b, ne)) ];
-}
-
-pub changed_more : {K : ℕ} (cs : List Cond) (k : ℕ) (S T : State) (old xs new : Slots K) → RetriesNear cs T k xs new → RetriedChanged cs k S T old xs → RetriedChanged cs (k + 1) S T old new
-changed_more cs k S T old xs new t r = record {
-  stay = λ o i q e. r.stay o i q (t.stay o i q e);
-  tried = λ u b. elim (cases_eq u k) [
-    | inl s ↦ inr (λ o i q ne h e. subst (λ (z : ℕ). BothUnrefuted cs (placed T o q) z o) (sym s) (t.tried o i q (λ m. ne (m ∙ sym s)) h e))
-    | inr n ↦ elim (r.tried u (omega (arith, b, n))) [
-      | inl s ↦ inl s
-      | inr f ↦ inr (λ o i q ne h e. f o i q ne h (t.stay o i q e))
-    ]
-  ];
-}
-
--- all of them, or one
-either : (P : ℕ → Type 0) (Q : Type 0) (n : ℕ) → ((u : ℕ) → u < n → P u ⊎ Q) → ((u : ℕ) → u < n → P u) ⊎ Q
-either P Q zero f = inl (λ u h. absurd (omega arith))
-either P Q (suc n) f = elim (either P Q n (λ u h. f u (omega (arith, h)))) [
-  | inr y ↦ inr y
-  | inl g ↦ elim (f n (omega arith)) [
-    | inr y ↦ inr y
-    | inl p ↦ inl (λ u h. elim (cases_eq u n) [ inl e ↦ subst P (sym e) p | inr ne ↦ g u (omega (arith, h, ne)) ])
-  ]
-]
-
-pub changed_end : {K : ℕ} (cs : List Cond) (k : ℕ) (S T : State) (old new : Slots K) → length S ≡ length T → length T ≤ k → RetriedChanged cs k S T old new → AllStand cs S old → AllStand cs T new
-changed_end {K} cs k S T old new same end r f o i q h e m d hm mo =
+pub stand_noted : {K : ℕ} (cs : List Cond) (S T : State) (before after : Rows) (kept : Slots K) → length S ≡ length T → AllStand cs S before kept → NotesChanges cs S T before after → AllStand cs T after kept
+stand_noted cs S T before after kept same f n o h =
     let hs : o < length S = omega (arith, h, same) in
-    let was : possible (get_or cs m d) (placed S o q) ≡ true = f o i q hs (r.stay o i q e) m d hm mo in
-    elim (either (λ u. u ≢ o → names u (get_or cs m d) ≡ true → reach S u ≡ reach T u) (possible (get_or cs m d) (placed T o q) ≡ true) k one) [
-      | inr y ↦ y
-      | inl g ↦ sym (stays_possible (get_or cs m d) S T o q same hs (λ u ne nu. elim (cases_lt u k) [
-        | inl b ↦ g u b ne nu
-        | inr b ↦ get_or_past S u nowhere (omega (arith, b, end, same)) ∙ sym (get_or_past T u nowhere (omega (arith, b, end)))
-      ])) ∙ was
-    ]
-  where
-    by_test : (u : ℕ) → o ≢ u → BothUnrefuted cs (placed T o q) u o → (b : Bool) → names u (get_or cs m d) ≡ b → (u ≢ o → names u (get_or cs m d) ≡ true → reach S u ≡ reach T u) ⊎ (possible (get_or cs m d) (placed T o q) ≡ true)
-    by_test u ne g true t = inr (g m d hm t mo)
-    by_test u ne g false t = inl (λ n y. absurd (false≢true (sym t ∙ y)))
+    noted_one cs S T o (row before o) (row after o) (row kept o) same hs (λ u. n.stay o u) (λ u b ne. n.fresh o u hs b (λ e. ne (sym e))) (f o hs)
 
-    one : (u : ℕ) → u < k → (u ≢ o → names u (get_or cs m d) ≡ true → reach S u ≡ reach T u) ⊎ (possible (get_or cs m d) (placed T o q) ≡ true)
-    one u b = elim (r.tried u b) [
-      | inl s ↦ inl (λ n y. s)
-      | inr g ↦ elim (cases_eq o u) [
-        | inl s ↦ inl (λ n y. absurd (n (sym s)))
-        | inr ne ↦ by_test u ne (g o i q ne h e) (names u (get_or cs m d)) refl
-      ]
-    ]
+-- an object whose row is cleared after what is kept of it was asked again
+pub stand_cleared : {K : ℕ} (cs : List Cond) (S : State) (o : ℕ) (before after : Rows) (old new : Slots K) → AllStand cs S before old → IsCleared o before after → StandsAlone cs S o old new → AllStand cs S after new
+stand_cleared {K} cs S o before after old new f c y u h = elim (cases_eq u o) [
+  | inl s ↦ subst (λ (z : ℕ). StandBut cs S z (row after z) (row new z)) (sym s) (λ i q e m d hm nm un. y.itself i q e m d hm nm)
+  | inr ne ↦ subst (λ (l : List Bool). StandBut cs S u l (row new u)) (sym (c.others u ne)) (subst (λ (l : List (Option (Placed K))). StandBut cs S u (row before u) l) (sym (y.others u ne)) (f u h))
+]
+
+-- one object changed, and is marked at those that it may hinder
+pub stand_changed : {K : ℕ} (cs : List Cond) (S T : State) (o : ℕ) (before after : Rows) (old new : Slots K) → SameBut o S T → length before ≡ length S → AllStand cs S before old → StandsAlone cs T o old new → MarksAt (Unhindered cs T o) o before after → AllStand cs T after new
+stand_changed {K} cs S T o before after old new alone long f y m u h = elim (cases_eq u o) [
+  | inl s ↦ subst (λ (z : ℕ). StandBut cs T z (row after z) (row new z)) (sym s) (λ i q e k d hm nm un. y.itself i q e k d hm nm)
+  | inr ne ↦
+      let hs : u < length S = omega (arith, h, alone.objects) in
+      noted_one cs S T u (row before u) (row after u) (row new u) alone.objects hs (λ v. m.stay u v) (λ v b nv un. elim (cases_eq v o) [
+        | inl s ↦ inr (subst (λ (z : ℕ). Unhindered cs T z u) (sym s) (m.fresh u ne (omega (arith, hs, long)) (subst (λ (z : ℕ). get_or (row after u) z false ≡ false) s un)))
+        | inr other ↦ inl (alone.each v other)
+      ]) (subst (λ (l : List (Option (Placed K))). StandBut cs S u (row before u) l) (sym (y.others u ne)) (f u hs))
+]
+
+-- no object changed
+pub stand_same : {K : ℕ} (cs : List Cond) (S T : State) (o : ℕ) (marks : Rows) (old new : Slots K) → T ≡ S → AllStand cs S marks old → StandsAlone cs T o old new → AllStand cs T marks new
+stand_same {K} cs S T o marks old new same f y u h = elim (cases_eq u o) [
+  | inl s ↦ subst (λ (z : ℕ). StandBut cs T z (row marks z) (row new z)) (sym s) (λ i q e m d hm nm un. y.itself i q e m d hm nm)
+  | inr ne ↦ subst (λ (l : List (Option (Placed K))). StandBut cs T u (row marks u) l) (sym (y.others u ne)) ((subst (λ (X : State). AllStand cs X marks old) (sym same) f) u h)
+]
 
 -- ---- what is kept of one object
 
@@ -243,23 +168,25 @@ stands_slot cs S o picks None p f = tt
 stands_slot cs S o picks (Some q) p f = picked_named (λ c. possible c (placed S o q) ≡ true) cs o picks p (f q refl)
 
 -- what stands is kept as the pruning of the object wants it
-pub supports_of : {K : ℕ} (cs : List Cond) (S : State) (o : ℕ) (picks : List ℕ) (kept : Slots K) → o < length S → PicksOf cs o picks → AllStand cs S kept → AllSupport (picked cs picks) S o (row kept o)
-supports_of cs S o picks kept h p f i d b = stands_slot cs S o picks (get_or (row kept o) i d) p (λ q e. f o i q h (get_or_default (row kept o) i None d b ∙ e))
+pub supports_of : {K : ℕ} (cs : List Cond) (S : State) (o : ℕ) (picks : List ℕ) (slots : List (Option (Placed K))) → PicksOf cs o picks → Stand cs S o slots → AllSupport (picked cs picks) S o slots
+supports_of cs S o picks slots p f i d b = stands_slot cs S o picks (get_or slots i d) p (λ q e. f i q (get_or_default slots i None d b ∙ e))
 
 -- and what the pruning keeps stands
-pub stands_alone : {K : ℕ} (cs : List Cond) (S : State) (o : ℕ) (picks : List ℕ) (kept : Slots K) (v : Vec (Option (Placed K)) Global) → o < length kept → PicksOf cs o picks → AllSupport (picked cs picks) S o v.items → StandsAlone cs S o kept (set kept o v)
-stands_alone {K} cs S o picks kept v h p a = record {
+pub stand_of : {K : ℕ} (cs : List Cond) (S : State) (o : ℕ) (picks : List ℕ) (slots : List (Option (Placed K))) → PicksOf cs o picks → AllSupport (picked cs picks) S o slots → Stand cs S o slots
+stand_of cs S o picks slots p a i q e = named_all (λ c. possible c (placed S o q) ≡ true) cs o picks p (supports_at (picked cs picks) S o slots i q a e)
+
+-- the slots of one object are replaced by what stands
+pub stands_alone : {K : ℕ} (cs : List Cond) (S : State) (o : ℕ) (kept : Slots K) (v : Vec (Option (Placed K)) Global) → o < length kept → Stand cs S o v.items → StandsAlone cs S o kept (set kept o v)
+stands_alone {K} cs S o kept v h f = record {
   others = λ u ne. row_set_other kept o u v ne;
-  itself = λ i q e.
-      let here : get_or v.items i None ≡ Some q = sym (ap (λ (l : List (Option (Placed K))). get_or l i None) (row_set_same kept o v h)) ∙ e in
-      named_all (λ c. possible c (placed S o q) ≡ true) cs o picks p (supports_at (picked cs picks) S o v.items i q a here);
+  itself = subst (λ (l : List (Option (Placed K))). Stand cs S o l) (sym (row_set_same kept o v h)) f;
 }
 
 -- ---- at the start
 
 -- nothing stands in the way where nothing is kept
-pub blank_stands : {K : ℕ} (cs : List Cond) (S : State) (kept : Slots K) → IsBlank kept → AllStand cs S kept
-blank_stands cs S kept f o i q h e = let n = f o i in absurd (cc)
+pub blank_stands : {K : ℕ} (cs : List Cond) (S : State) (marks : Rows) (kept : Slots K) → IsBlank kept → AllStand cs S marks kept
+blank_stands cs S marks kept f o h i q e = let n = f o i in absurd (cc)
 
 pub blank_more : {K : ℕ} (xs : List (Option (Placed K))) → ((i : ℕ) → get_or xs i None ≡ None) → (i : ℕ) → get_or (xs ++ None ∷ []) i None ≡ None
 blank_more [] f zero = refl

@@ -13,9 +13,9 @@ use Rattle.geo_conditions.proofs.Points.{inside_self, inside_trans}
 use Rattle.geo_conditions.proofs.Greatest.{keeps_trans}
 use Rattle.geo_state.proofs.Fits.{fits_inside}
 use Rattle.object_pruning.specs.Same.{SameBut}
-use Rattle.fixpoint.specs.Near.{AreApart, IsFine, BarePossible}
-use Rattle.fixpoint.specs.Queue.{NoneQueued, IsPopped, Touches, RestFine, CatchesUp, Narrowed}
-use Rattle.fixpoint.proofs.Names.{same_without, apart_untouched, fine_untouched, all_fine}
+use Rattle.fixpoint.specs.Near.{Unhindered, IsFine, BarePossible}
+use Rattle.fixpoint.specs.Queue.{NoneQueued, IsPopped, Queues, RestFine, CatchesUp, Narrowed}
+use Rattle.fixpoint.proofs.Names.{same_without, unhindered_untouched, fine_untouched, all_fine}
 
 -- what the loop keeps
 pub record Going (cs : List Cond) (S R : State) (queued : List Bool) : Type 0 where
@@ -47,21 +47,21 @@ going_same cs S R T q p o g d f = subst (λ (X : State). Going cs S X p) (sym f.
   bare = g.bare;
 })
 
--- an object other than o that is not queued afterwards was not queued before, and is apart from o
-abbrev Others : List Cond → ℕ → List Bool → List Bool → Type 0
-Others cs o p r = (u : ℕ) → u ≢ o → u < length p → get_or r u false ≡ false → (get_or p u false ≡ false) × AreApart cs o u
+-- an object other than o that is not queued afterwards was not queued before, and o leaves it unhindered
+abbrev Others : List Cond → State → ℕ → List Bool → List Bool → Type 0
+Others cs T o p r = (u : ℕ) → u ≢ o → u < length p → get_or r u false ≡ false → (get_or p u false ≡ false) × Unhindered cs T o u
 
 -- the objects that are not queued, but perhaps the one that changed, stay fine
-rest_fine : (cs : List Cond) (R T : State) (q p r : List Bool) (o : ℕ) → length q ≡ length R → RestFine cs R q → p ≡ set q o false → SameBut o R T → Others cs o p r → (u : ℕ) → u ≢ o → u < length T → get_or r u false ≡ false → IsFine cs T u
+rest_fine : (cs : List Cond) (R T : State) (q p r : List Bool) (o : ℕ) → length q ≡ length R → RestFine cs R q → p ≡ set q o false → SameBut o R T → Others cs T o p r → (u : ℕ) → u ≢ o → u < length T → get_or r u false ≡ false → IsFine cs T u
 rest_fine cs R T q p r o long f d alone m u ne h n =
     let lp : length p ≡ length R = ap length d ∙ length-set q o false ∙ long in
     let hr : u < length R = omega (arith, h, alone.objects) in
     let w = m u ne (omega (arith, lp, hr)) n in
     let nq : get_or q u false ≡ false = sym (get_or-set_other q o u false false ne) ∙ ap (λ (l : List Bool). get_or l u false) (sym d) ∙ w.0 in
-    fine_untouched cs R T u alone.objects hr (apart_untouched cs R T o u alone ne w.1) (f u hr nq)
+    fine_untouched cs R T u alone.objects hr (unhindered_untouched cs R T o u alone ne w.1) (f u hr nq)
 
 -- an object that changed
-pub going_changed : (cs : List Cond) (S R T : State) (q p r : List Bool) (o : ℕ) → Going cs S R q → IsPopped q p o → Narrowed cs R T o → Touches cs o p r → Going cs S T r
+pub going_changed : (cs : List Cond) (S R T : State) (q p r : List Bool) (o : ℕ) → Going cs S R q → IsPopped q p o → Narrowed cs R T o → Queues (Unhindered cs T o) o p r → Going cs S T r
 going_changed cs S R T q p r o g d w m = record {
   keeps = keeps_trans cs S R T g.keeps w.keeps;
   fits = λ j e b. fits_inside (get_or cs j e) R T w.keeps.inside (g.fits j e b);
@@ -75,13 +75,12 @@ going_changed cs S R T q p r o g d w m = record {
 }
 
 -- an object without a point, which is queued again
-pub rest_dead : (cs : List Cond) (S R T : State) (q p r : List Bool) (o : ℕ) → Going cs S R q → IsPopped q p o → SameBut o R T → Touches cs o (set p o true) r → RestFine cs T r
+pub rest_dead : (cs : List Cond) (S R T : State) (q p r : List Bool) (o : ℕ) → Going cs S R q → IsPopped q p o → SameBut o R T → Queues (Unhindered cs T o) o p r → RestFine cs T (set r o true)
 rest_dead cs S R T q p r o g d alone m u h n =
-    let long : o < length p = omega (arith, d.0, ap length d.2, length-set q o false) in
-    let there : get_or r o false ≡ true = m.itself ∙ get_or-set_same p o true false long in
-    let ne : u ≢ o = λ e. absurd (false≢true (sym n ∙ subst (λ (v : ℕ). get_or r v false ≡ true) (sym e) there)) in
-    let t : Others cs o p r = λ v nv hv nr. let w = m.others v nv (omega (arith, hv, length-set p o true)) nr in (sym (get_or-set_other p o v true false nv) ∙ w.0, w.1) in
-    rest_fine cs R T q p r o g.objects g.fine d.2 alone t u ne h n
+    let long : o < length r = omega (arith, d.0, ap length d.2, length-set q o false, m.objects) in
+    let there : get_or (set r o true) o false ≡ true = get_or-set_same r o true false long in
+    let ne : u ≢ o = λ e. absurd (false≢true (sym n ∙ subst (λ (v : ℕ). get_or (set r o true) v false ≡ true) (sym e) there)) in
+    rest_fine cs R T q p r o g.objects g.fine d.2 alone m.others u ne h (sym (get_or-set_other r o u true false ne) ∙ n)
 
 pub gone_kept : (cs : List Cond) (S R : State) (q : List Bool) → Going cs S R q → NoneQueued q → IsGreatest cs S R
 gone_kept cs S R q g n = record { supported = all_fine cs R (λ o h. g.fine o h (n o)) g.bare; inside = g.keeps.inside; greatest = g.keeps.all }

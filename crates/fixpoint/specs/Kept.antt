@@ -1,16 +1,17 @@
--- Points that are kept of each object: with the object there, no condition that names it is refuted.
-use Rattle.std.specs.Prelude.{◌≡◌, ◌≢◌, ℕ, ◌<◌, true, List, length, slice_index_or, Option, None, Some}
+-- Points that are kept of each object: with the object there, no condition that names it is refuted, but perhaps one that names
+-- a neighbour that is marked.
+use Rattle.std.specs.Prelude.{◌≡◌, ◌≢◌, ◌⊎◌, ℕ, ◌<◌, Bool, true, List, length, slice_index_or, Option, None, Some}
 use Rattle.std.specs.List.{All}
 use Rattle.std.specs.declared.vec.Vec.{Vec}
 use Rattle.std.specs.declared.alloc.Global.{Global}
 use Rattle.geo_conditions.specs.declared.cond.Cond.{Cond}
-use Rattle.geo_conditions.specs.declared.object.ObjId.{ObjId}
 use Rattle.geo_conditions.specs.Conditions.{possible}
 use Rattle.geo_conditions.specs.Reach.{State}
 use Rattle.indexical.specs.Names.{names}
 use Rattle.object_pruning.specs.declared.kept.Placed.{Placed}
 use Rattle.object_pruning.specs.Kept.{placed}
-use Rattle.fixpoint.specs.Links.{row, is_among}
+use Rattle.fixpoint.specs.Links.{row}
+use Rattle.fixpoint.specs.Marks.{Rows, NamesUnmarked}
 use Rattle.fixpoint.specs.Near.{NearUnrefuted}
 
 -- the slots of each object
@@ -25,29 +26,28 @@ kept_at kept o i = slice_index_or (row kept o) i None
 abbrev pub IsBlank : {K : ℕ} → Slots K → Type 0
 IsBlank kept = (o i : ℕ) → kept_at kept o i ≡ None
 
--- with an object at a point that is kept of it, no condition that names it is refuted
-abbrev pub AllStand : {K : ℕ} → List Cond → State → Slots K → Type 0
-AllStand {K} cs S kept = (o i : ℕ) (q : Placed K) → o < length S → kept_at kept o i ≡ Some q → NearUnrefuted cs (placed S o q) o
+-- no condition is refuted that names the object and no marked one
+abbrev pub UnmarkedUnrefuted : List Cond → State → List Bool → ℕ → Type 0
+UnmarkedUnrefuted cs S marks o = All (λ c. names o c ≡ true → NamesUnmarked marks c → possible c S ≡ true) cs
 
--- what is kept was kept before
-abbrev pub StayFrom : {K : ℕ} → Slots K → Slots K → Type 0
-StayFrom {K} old new = (o i : ℕ) (q : Placed K) → kept_at new o i ≡ Some q → kept_at old o i ≡ Some q
+-- with the object at what is kept in its slots, no condition is refuted that names it and no marked one
+abbrev pub StandBut : {K : ℕ} → List Cond → State → ℕ → List Bool → List (Option (Placed K)) → Type 0
+StandBut {K} cs S o marks slots = (i : ℕ) (q : Placed K) → slice_index_or slots i None ≡ Some q → UnmarkedUnrefuted cs (placed S o q) marks o
 
--- of the objects of the list, but u, points stay at which the condition is possible
-pub record Retries {K : ℕ} (c : Cond) (S : State) (u : ℕ) (list : List ObjId) (old new : Slots K) : Type 0 where
-  pub stay : StayFrom old new
-  pub tried : (o i : ℕ) (q : Placed K) → o ≢ u → is_among o list ≡ true → kept_at new o i ≡ Some q → possible c (placed S o q) ≡ true
+-- so it is of each object with its row of marks
+abbrev pub AllStand : {K : ℕ} → List Cond → State → Rows → Slots K → Type 0
+AllStand cs S marks kept = (o : ℕ) → o < length S → StandBut cs S o (row marks o) (row kept o)
 
--- no condition that names both objects is refuted
-abbrev pub BothUnrefuted : List Cond → State → ℕ → ℕ → Type 0
-BothUnrefuted cs S u o = All (λ c. names u c ≡ true → names o c ≡ true → possible c S ≡ true) cs
-
--- of each object, but u, points stay at which the conditions that name it and u are possible
-pub record RetriesNear {K : ℕ} (cs : List Cond) (S : State) (u : ℕ) (old new : Slots K) : Type 0 where
-  pub stay : StayFrom old new
-  pub tried : (o i : ℕ) (q : Placed K) → o ≢ u → o < length S → kept_at new o i ≡ Some q → BothUnrefuted cs (placed S o q) u o
+-- with the object at what is kept in its slots, no condition that names it is refuted
+abbrev pub Stand : {K : ℕ} → List Cond → State → ℕ → List (Option (Placed K)) → Type 0
+Stand {K} cs S o slots = (i : ℕ) (q : Placed K) → slice_index_or slots i None ≡ Some q → NearUnrefuted cs (placed S o q) o
 
 -- what is kept of o stands, and what is kept of other objects is as it was
 pub record StandsAlone {K : ℕ} (cs : List Cond) (S : State) (o : ℕ) (old new : Slots K) : Type 0 where
   pub others : (u : ℕ) → u ≢ o → row new u ≡ row old u
-  pub itself : (i : ℕ) (q : Placed K) → kept_at new o i ≡ Some q → NearUnrefuted cs (placed S o q) o
+  pub itself : Stand cs S o (row new o)
+
+-- what is kept was kept, and the condition is possible there if it names a marked object
+pub record RetriesMarked {K : ℕ} (c : Cond) (S : State) (o : ℕ) (marks : List Bool) (old new : List (Option (Placed K))) : Type 0 where
+  pub stay : (i : ℕ) (q : Placed K) → slice_index_or new i None ≡ Some q → slice_index_or old i None ≡ Some q
+  pub tried : NamesUnmarked marks c ⊎ ((i : ℕ) (q : Placed K) → slice_index_or new i None ≡ Some q → possible c (placed S o q) ≡ true)

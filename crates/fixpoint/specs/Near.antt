@@ -5,16 +5,21 @@ use Rattle.geo_base.specs.Boxes.{coordinate}
 use Rattle.geo_conditions.specs.declared.cond.Cond.{Cond}
 use Rattle.geo_conditions.specs.Reach.{State, reach, has, low, high, dims, just, InBox, with_at, NotEmpty}
 use Rattle.geo_conditions.specs.Conditions.{possible}
+use Rattle.indexical.specs.Free.{SparesAnywhere}
 use Rattle.indexical.specs.Names.{names}
 
--- no condition names both objects
-abbrev pub AreApart : List Cond → ℕ → ℕ → Type 0
-AreApart cs o u = All (λ c. names u c ≡ true → names o c ≡ false) cs
+-- if the condition names the object, it is possible wherever that is put
+abbrev pub Unhinders : Cond → State → ℕ → Type 0
+Unhinders c S o = names o c ≡ true → SparesAnywhere c S o
 
--- the object o is the same in the two states, and so is each object that a condition names with it
+-- each condition that names both objects is possible wherever o is put
+abbrev pub Unhindered : List Cond → State → ℕ → ℕ → Type 0
+Unhindered cs S u o = All (λ c. names u c ≡ true → Unhinders c S o) cs
+
+-- the object o is the same in the two states, and each other one is the same too or leaves it unhindered in T
 pub record IsUntouched (cs : List Cond) (S T : State) (o : ℕ) : Type 0 where
   pub itself : reach S o ≡ reach T o
-  pub others : (u : ℕ) → u < length S → (reach S u ≡ reach T u) ⊎ AreApart cs u o
+  pub others : (u : ℕ) → u < length S → (reach S u ≡ reach T u) ⊎ Unhindered cs T u o
 
 -- at the place s the object o has the point p of its region, and there no condition that names o is refuted
 pub record NearSupports (cs : List Cond) (S : State) (o s : ℕ) (p : List ℤ) : Type 0 where

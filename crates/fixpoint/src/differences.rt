@@ -4,16 +4,14 @@ ghost use Rattle.std.specs.Prelude.{◌≡◌, ◌<◌, ◌≤◌, ◌↔◌, Is
 ghost use Rattle.geo_conditions.specs.Conditions.{AllFit};
 ghost use Rattle.geo_conditions.specs.Reach.{reach};
 ghost use Rattle.fixpoint.specs.Links.{AreLinks};
-ghost use Rattle.fixpoint.specs.Kept.{AllStand};
+ghost use Rattle.fixpoint.specs.Marks.{IsSquare, NotesChanges};
 ghost use Rattle.fixpoint.specs.Queue.{CatchesUp};
 
-use super::kept::retry_near;
 use super::links::Links;
-use super::queue::touch;
+use super::waking::wake;
 use geo_base::MAX_DIMS;
 use geo_conditions::{ObjId, State};
 use indexical::AnyIndexical;
-use object_pruning::Placed;
 
 // Whether the object has the same places in both states.
 fn has_same_places<const K: usize>(a: &State<K>, b: &State<K>, o: ObjId) -> bool
@@ -55,31 +53,29 @@ fn is_same<const K: usize>(a: &State<K>, b: &State<K>, o: ObjId) -> bool
     has_same_region(a, b, o) && has_same_places(a, b, o)
 }
 
-/// Queues each object that differs in the two states, and each that a condition names with one. Of what is kept of the others
-/// it forgets where such a condition is refuted.
+/// Queues each object that differs in the two states, and wakes those that it may hinder.
 pub fn queue_changed<const K: usize>(
     list: &[AnyIndexical<K>],
     links: &Links,
     from: &State<K>,
     to: &State<K>,
     queued: &mut [bool],
-    kept: &mut [Vec<Option<Placed<K>>>],
+    dirty: &mut [Vec<bool>],
 )
-    requires k { (0 < K) × (K ≤ MAX_DIMS) }
+    requires k { K ≤ MAX_DIMS }
     requires fits { AllFit (map (λ x. x.cond) list.now) to.now }
-    requires objects { (length from.now ≡ length to.now)
-        × (length queued.old ≡ length to.now) × (length kept.old ≡ length to.now) }
+    requires objects { (length from.now ≡ length to.now) × (length queued.old ≡ length to.now) }
     requires links { AreLinks (map (λ x. x.cond) list.now) (length queued.old) links.now }
-    requires stand { AllStand (map (λ x. x.cond) list.now) from.now kept.old }
+    requires square { IsSquare (length queued.old) dirty.old }
     ensures queued { CatchesUp (map (λ x. x.cond) list.now) from.now to.now queued.old queued.new }
-    ensures stand { AllStand (map (λ x. x.cond) list.now) to.now kept.new }
+    ensures noted { NotesChanges (map (λ x. x.cond) list.now) from.now to.now dirty.old dirty.new }
+    ensures square { IsSquare (length queued.old) dirty.new }
 {
     let _objects = from.objects();
     for u in 0..queued.len() {
         if !is_same(from, to, ObjId(u as u16)) {
             queued[u] = true;
-            touch(links, u, queued);
-            retry_near(list, links, u, to, kept);
+            wake(list, links, u, to, queued, dirty);
         }
     }
 }

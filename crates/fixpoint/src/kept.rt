@@ -1,10 +1,12 @@
 //! Points that are kept of the objects, and asked again where something changed.
 
-ghost use Rattle.std.specs.Prelude.{◌≡◌, ℕ, ◌<◌, ◌≤◌, None, List, length, map, slice_index_or, IfOk};
+ghost use Rattle.std.specs.Prelude.{◌≡◌, ℕ, ◌<◌, ◌≤◌, false, None, List, length, map, slice_index_or, IfOk};
+ghost use Rattle.std.specs.List.{All, list_any};
 ghost use Rattle.geo_conditions.specs.Conditions.{AllFit, FitsIn};
 ghost use Rattle.object_pruning.specs.Kept.{retried};
 ghost use Rattle.fixpoint.specs.Links.{AreLinks, NamedBy};
-ghost use Rattle.fixpoint.specs.Kept.{IsBlank, Retries, RetriesNear};
+ghost use Rattle.fixpoint.specs.Kept.{AllStand, IsBlank, RetriesMarked, Stand, StandBut, StandsAlone};
+ghost use Rattle.fixpoint.specs.Marks.{IsCleared, IsSquare};
 
 use super::links::Links;
 use geo_base::MAX_DIMS;
@@ -59,50 +61,93 @@ fn retry_object<const K: usize>(
     retry(kept, s, o, x);
 }
 
-// Asks the condition again at what is kept of the objects that it names, but of u, and forgets where it is refuted. Where u
-// leaves them free, there is nothing to ask.
-fn retry_named<const K: usize>(
+// Whether one of the objects is marked.
+fn is_any_marked(list: &[ObjId], marks: &[bool]) -> bool
+    requires { All (λ o. o.0 < length marks.now) list.now }
+    ensures { result ≡ list_any (λ o. slice_index_or marks.now o.0 false) list.now }
+{
+    for o in list {
+        if marks[o.0 as usize] {
+            return true;
+        }
+    }
+    false
+}
+
+// Asks the condition again at what is kept of the object, if it names a marked one.
+fn retry_marked<const K: usize>(
     x: &AnyIndexical<K>,
     named: &[ObjId],
-    u: ObjId,
+    marks: &[bool],
+    o: ObjId,
     s: &State<K>,
-    kept: &mut [Vec<Option<Placed<K>>>],
+    kept: &mut [Option<Placed<K>>],
 )
-    requires k { (0 < K) × (K ≤ MAX_DIMS) }
+    requires k { K ≤ MAX_DIMS }
     requires fits { FitsIn x.now.cond s.now }
-    requires objects { length kept.old ≡ length s.now }
+    requires object { o.0 < length s.now }
+    requires marks { length marks.now ≡ length s.now }
     requires named { NamedBy x.now.cond (length s.now) named.now }
-    ensures { Retries x.now.cond s.now u.0 named.now kept.old kept.new }
+    ensures { RetriesMarked x.now.cond s.now o.0 marks.now kept.old kept.new }
 {
-    if x.surely_leaves_free(s, u) {
-        return;
-    }
-    for o in named {
-        if o.0 != u.0 {
-            retry_object(x, *o, s, &mut kept[o.0 as usize]);
-        }
+    if is_any_marked(named, marks) {
+        retry_object(x, o, s, kept);
     }
 }
 
-/// Asks each condition that names u again, at what is kept of the other objects that it names, and forgets where it is refuted.
-pub fn retry_near<const K: usize>(
+// Asks each condition that names the object and a marked one again, at what is kept of the object, and forgets where it is refuted.
+// Then all of it stands.
+fn ask_again<const K: usize>(
     list: &[AnyIndexical<K>],
     links: &Links,
-    u: usize,
+    o: usize,
     s: &State<K>,
-    kept: &mut [Vec<Option<Placed<K>>>],
+    marks: &[bool],
+    kept: &mut [Option<Placed<K>>],
 )
-    requires k { (0 < K) × (K ≤ MAX_DIMS) }
+    requires k { K ≤ MAX_DIMS }
     requires fits { AllFit (map (λ x. x.cond) list.now) s.now }
-    requires objects { length kept.old ≡ length s.now }
     requires links { AreLinks (map (λ x. x.cond) list.now) (length s.now) links.now }
-    requires object { u < length s.now }
-    ensures { RetriesNear (map (λ x. x.cond) list.now) s.now u kept.old kept.new }
+    requires object { (o < length s.now) × (length marks.now ≡ length s.now) }
+    requires stand { StandBut (map (λ x. x.cond) list.now) s.now o marks.now kept.old }
+    ensures { Stand (map (λ x. x.cond) list.now) s.now o kept.new }
 {
     let _objects = s.objects();
-    let changed = ObjId(u as u16);
-    for number in &links.picks[u] {
+    let object = ObjId(o as u16);
+    for number in &links.picks[o] {
         let i = *number as usize - 1;
-        retry_named(&list[i], &links.named[i], changed, s, kept);
+        retry_marked(&list[i], &links.named[i], marks, object, s, kept);
     }
+}
+
+// Takes all marks away.
+fn clear(marks: &mut [bool])
+    ensures { (u : ℕ) → slice_index_or marks.new u false ≡ false }
+{
+    for mark in marks.iter_mut() {
+        *mark = false;
+    }
+}
+
+/// Asks what is kept of the object again where a neighbour changed. Then all of it stands, and no neighbour is marked any more.
+pub fn refresh<const K: usize>(
+    list: &[AnyIndexical<K>],
+    links: &Links,
+    o: usize,
+    s: &State<K>,
+    dirty: &mut [Vec<bool>],
+    kept: &mut [Vec<Option<Placed<K>>>],
+)
+    requires k { K ≤ MAX_DIMS }
+    requires fits { AllFit (map (λ x. x.cond) list.now) s.now }
+    requires links { AreLinks (map (λ x. x.cond) list.now) (length s.now) links.now }
+    requires object { (o < length s.now) × (length kept.old ≡ length s.now) }
+    requires square { IsSquare (length s.now) dirty.old }
+    requires stand { AllStand (map (λ x. x.cond) list.now) s.now dirty.old kept.old }
+    ensures kept { StandsAlone (map (λ x. x.cond) list.now) s.now o kept.old kept.new }
+    ensures cleared { IsCleared o dirty.old dirty.new }
+    ensures square { IsSquare (length s.now) dirty.new }
+{
+    ask_again(list, links, o, s, &dirty[o], &mut kept[o]);
+    clear(&mut dirty[o]);
 }

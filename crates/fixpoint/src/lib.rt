@@ -6,5 +6,6 @@ mod kept;
 mod links;
 mod propagation;
 mod queue;
+mod waking;
 
 pub use propagation::Fixpoint;

@@ -1,6 +1,6 @@
 //! Propagation by a queue of objects.
 
-ghost use Rattle.std.specs.Prelude.{◌≡◌, ◌+◌, ◌-◌, ◌^◌, ◌<◌, ◌≤◌, ℕ, false, true, List, length, map, min, slice_set, IfOk, IfSome, IsOk, OnErr, MatchOption};
+ghost use Rattle.std.specs.Prelude.{◌≡◌, ◌+◌, ◌-◌, ◌^◌, ◌<◌, ◌≤◌, ◌≢◌, ℕ, false, true, List, length, map, min, IfOk, IfSome, IsOk, OnErr, MatchOption};
 ghost use Rattle.std.specs.List.{AllPairs};
 ghost use Rattle.geo_conditions.specs.declared.cond.Cond.{Cond};
 ghost use Rattle.geo_base.specs.declared.TheConstants.{MAX_DIMS};
@@ -12,16 +12,18 @@ ghost use Rattle.derivation.specs.Events.{Grows};
 ghost use Rattle.geo_state.specs.Settle.{BlamesFirst, Records, SettlesOr};
 ghost use Rattle.sweep.specs.Picks.{ArePicks, picked};
 ghost use Rattle.object_pruning.specs.Same.{SameBut};
-ghost use Rattle.fixpoint.specs.Kept.{AllStand, StandsAlone};
-ghost use Rattle.fixpoint.specs.Links.{AreLinks};
-ghost use Rattle.fixpoint.specs.Near.{BarePossible};
-ghost use Rattle.fixpoint.specs.Queue.{Prunes, RestFine, Touches};
+ghost use Rattle.fixpoint.specs.Kept.{AllStand, Stand, StandsAlone};
+ghost use Rattle.fixpoint.specs.Links.{AreLinks, row};
+ghost use Rattle.fixpoint.specs.Marks.{IsSquare};
+ghost use Rattle.fixpoint.specs.Near.{BarePossible, Unhindered};
+ghost use Rattle.fixpoint.specs.Queue.{Prunes, Queues, RestFine};
 ghost use Rattle.fixpoint.specs.Record.{NoneLower, RecordsPruning};
 
 use super::differences::queue_changed;
-use super::kept::{all_blank, blank_slots, retry_near};
+use super::kept::{all_blank, blank_slots, refresh};
 use super::links::{Links, links_of};
-use super::queue::{pop, touch};
+use super::queue::pop;
+use super::waking::{no_marks, wake};
 use derivation::{Event, Recorder};
 use geo_base::{KBox, MAX_DIMS, Point};
 use geo_conditions::{MAX_OBJECTS, ObjId, State};
@@ -68,7 +70,7 @@ fn prune_linked<const K: usize, R: Recorder>(
     requires fits { AllFit (map (λ x. x.cond) list.now) t.old.state }
     requires object { (o < length t.old.state) × (length kept.old ≡ length t.old.state) }
     requires links { AreLinks (map (λ x. x.cond) list.now) (length t.old.state) links.now }
-    requires stand { AllStand (map (λ x. x.cond) list.now) t.old.state kept.old }
+    requires stand { Stand (map (λ x. x.cond) list.now) t.old.state o (row kept.old o) }
     ensures pruned { IfOk result (λ a.
         Prunes (map (λ x. x.cond) list.now) t.old.state o a t.new.state) }
     ensures alone { SameBut o t.old.state t.new.state × Inside t.new.state t.old.state }
@@ -84,57 +86,56 @@ fn prune_linked<const K: usize, R: Recorder>(
     prune_kept(t, ObjId(o as u16), list, picks, &mut kept[o], hints, rec)
 }
 
-// Prunes an object. Where it changed, the conditions that name it are asked again at what is kept of other objects; so are they
-// after an error.
-fn prune_and_retry<const K: usize, R: Recorder>(
+// Prunes an object, after what is kept of it was asked again. Where it changed, the neighbours that it may hinder are woken; so are
+// they after an error.
+fn prune_and_wake<const K: usize, R: Recorder>(
     list: &[AnyIndexical<K>],
     links: &Links,
     o: usize,
     t: &mut Trailed<K>,
+    queued: &mut [bool],
+    dirty: &mut [Vec<bool>],
     kept: &mut [Vec<Option<Placed<K>>>],
     hints: &mut [Option<Placed<K>>],
     rec: &mut R,
 ) -> Result<Pruned, AllocError>
     requires k { (0 < K) × (K ≤ MAX_DIMS) }
     requires fits { AllFit (map (λ x. x.cond) list.now) t.old.state }
-    requires object { (o < length t.old.state) × (length kept.old ≡ length t.old.state) }
+    requires object { (o < length t.old.state) × (length kept.old ≡ length t.old.state)
+        × (length queued.old ≡ length t.old.state) }
     requires links { AreLinks (map (λ x. x.cond) list.now) (length t.old.state) links.now }
-    requires stand { AllStand (map (λ x. x.cond) list.now) t.old.state kept.old }
+    requires square { IsSquare (length t.old.state) dirty.old }
+    requires stand { AllStand (map (λ x. x.cond) list.now) t.old.state dirty.old kept.old }
     ensures pruned { IfOk result (λ a.
         Prunes (map (λ x. x.cond) list.now) t.old.state o a t.new.state) }
     ensures alone { SameBut o t.old.state t.new.state × Inside t.new.state t.old.state }
     ensures levels { (t.new.levels ≡ t.old.levels) × (t.new.restores ≡ t.old.restores) }
-    ensures stand { AllStand (map (λ x. x.cond) list.now) t.new.state kept.new }
+    ensures same { result ≡ Ok Pruned.Same → queued.new ≡ queued.old }
+    ensures woken { result ≢ Ok Pruned.Same → Queues
+        (Unhindered (map (λ x. x.cond) list.now) t.new.state o) o queued.old queued.new }
+    ensures square { IsSquare (length t.old.state) dirty.new }
+    ensures stand { AllStand (map (λ x. x.cond) list.now) t.new.state dirty.new kept.new }
     ensures record { IfOk result (λ a. R.keeps ≡ true
         → RecordsPruning (map (λ x. x.cond) list.now) t.old.state a t.new.state
         (R.list rec.old) (R.list rec.new)) }
     ensures grows { Grows R.keeps R.list R.refusals rec.old rec.new result }
 {
+    refresh(list, links, o, t.state(), dirty, kept);
     let pruned = prune_linked(list, links, o, t, kept, hints, rec);
     match pruned {
         Ok(Pruned::Same) => {}
-        _ => retry_near(list, links, o, t.state(), kept),
+        _ => wake(list, links, o, t.state(), queued, dirty),
     }
     pruned
 }
 
-// Queues the object again, and each that a condition names with it.
-fn requeue(links: &Links, o: usize, queued: &mut [bool])
-    requires links { (cs : List Cond) × AreLinks cs (length queued.old) links.now }
-    requires object { o < length queued.old }
-    ensures { (cs : List Cond) → AreLinks cs (length queued.old) links.now
-        → Touches cs o (slice_set queued.old o true) queued.new }
-{
-    queued[o] = true;
-    touch(links, o, queued);
-}
-
-// Prunes the queued objects until none is left. An object comes back where one changed that a condition names with it. At a
-// dead end, and after an error, it is queued again itself.
+// Prunes the queued objects until none is left. An object comes back where one changed that may hinder it. At a dead end, and
+// after an error, it is queued again itself.
 fn prune_queued<const K: usize, R: Recorder>(
     list: &[AnyIndexical<K>],
     links: &Links,
     queued: &mut [bool],
+    dirty: &mut [Vec<bool>],
     t: &mut Trailed<K>,
     kept: &mut [Vec<Option<Placed<K>>>],
     hints: &mut [Option<Placed<K>>],
@@ -147,11 +148,13 @@ fn prune_queued<const K: usize, R: Recorder>(
     requires links { AreLinks (map (λ x. x.cond) list.now) (length queued.old) links.now }
     requires bare { BarePossible (map (λ x. x.cond) list.now) t.old.state }
     requires fine { RestFine (map (λ x. x.cond) list.now) t.old.state queued.old }
-    requires stand { AllStand (map (λ x. x.cond) list.now) t.old.state kept.old }
+    requires square { IsSquare (length queued.old) dirty.old }
+    requires stand { AllStand (map (λ x. x.cond) list.now) t.old.state dirty.old kept.old }
     ensures settles { SettlesOr (map (λ x. x.cond) list.now) t.old.state result t.new.state }
     ensures levels { (t.new.levels ≡ t.old.levels) × (t.new.restores ≡ t.old.restores) }
     ensures fine { RestFine (map (λ x. x.cond) list.now) t.new.state queued.new }
-    ensures stand { AllStand (map (λ x. x.cond) list.now) t.new.state kept.new }
+    ensures square { IsSquare (length queued.old) dirty.new }
+    ensures stand { AllStand (map (λ x. x.cond) list.now) t.new.state dirty.new kept.new }
     ensures record { IfOk result (λ a. R.keeps ≡ true
         → Records (map (λ x. x.cond) list.now) t.old.state a t.new.state
         (R.list rec.old) (R.list rec.new)) }
@@ -160,15 +163,15 @@ fn prune_queued<const K: usize, R: Recorder>(
     let mut next = 0;
     while let Some(o) = pop(queued, next) {
         next = o + 1;
-        match prune_and_retry(list, links, o, t, kept, hints, rec) {
+        match prune_and_wake(list, links, o, t, queued, dirty, kept, hints, rec) {
             Ok(Pruned::Same) => {}
-            Ok(Pruned::Changed) => touch(links, o, queued),
+            Ok(Pruned::Changed) => {}
             Ok(Pruned::Empty) => {
-                requeue(links, o, queued);
+                queued[o] = true;
                 return Ok(Settled::Dead);
             }
             Err(e) => {
-                requeue(links, o, queued);
+                queued[o] = true;
                 return Err(e);
             }
         }
@@ -183,6 +186,7 @@ fn settle<const K: usize, R: Recorder>(
     links: &Links,
     last: &mut State<K>,
     queued: &mut [bool],
+    dirty: &mut [Vec<bool>],
     kept: &mut [Vec<Option<Placed<K>>>],
     hints: &mut [Option<Placed<K>>],
     t: &mut Trailed<K>,
@@ -194,12 +198,14 @@ fn settle<const K: usize, R: Recorder>(
         × (length last.old ≡ length t.old.state) × (length kept.old ≡ length t.old.state) }
     requires links { AreLinks (map (λ x. x.cond) list.now) (length queued.old) links.now }
     requires fine { RestFine (map (λ x. x.cond) list.now) last.old queued.old }
-    requires stand { AllStand (map (λ x. x.cond) list.now) last.old kept.old }
+    requires square { IsSquare (length queued.old) dirty.old }
+    requires stand { AllStand (map (λ x. x.cond) list.now) last.old dirty.old kept.old }
     ensures settles { SettlesOr (map (λ x. x.cond) list.now) t.old.state result t.new.state }
     ensures levels { (t.new.levels ≡ t.old.levels) × (t.new.restores ≡ t.old.restores) }
     ensures objects { length last.new ≡ length last.old }
     ensures fine { RestFine (map (λ x. x.cond) list.now) last.new queued.new }
-    ensures stand { AllStand (map (λ x. x.cond) list.now) last.new kept.new }
+    ensures square { IsSquare (length queued.old) dirty.new }
+    ensures stand { AllStand (map (λ x. x.cond) list.now) last.new dirty.new kept.new }
     ensures record { IfOk result (λ a. R.keeps ≡ true
         → Records (map (λ x. x.cond) list.now) t.old.state a t.new.state
         (R.list rec.old) (R.list rec.new)) }
@@ -213,8 +219,8 @@ fn settle<const K: usize, R: Recorder>(
             Err(e) => Err(e),
         };
     }
-    queue_changed(list, links, last, t.state(), queued, kept);
-    let settled = prune_queued(list, links, queued, t, kept, hints, rec);
+    queue_changed(list, links, last, t.state(), queued, dirty);
+    let settled = prune_queued(list, links, queued, dirty, t, kept, hints, rec);
     last.copy_from(t.state());
     settled
 }
@@ -240,6 +246,7 @@ pub struct Fixpoint<const K: usize> {
     links: Links,
     last: State<K>,
     queued: Vec<bool>,
+    dirty: Vec<Vec<bool>>,
     kept: Vec<Vec<Option<Placed<K>>>>,
     hints: Vec<Option<Placed<K>>>,
     ghost dims: { (0 < K) × (K ≤ MAX_DIMS) },
@@ -247,7 +254,8 @@ pub struct Fixpoint<const K: usize> {
     ghost objects: { (length last ≡ length queued.items)
         × (length kept.items ≡ length queued.items) },
     ghost fine: { ∥ RestFine (map (λ x. x.cond) list.items) last queued.items ∥₁ },
-    ghost stand: { AllStand (map (λ x. x.cond) list.items) last kept.items },
+    ghost square: { IsSquare (length queued.items) dirty.items },
+    ghost stand: { AllStand (map (λ x. x.cond) list.items) last dirty.items kept.items },
 }
 
 impl<const K: usize> Fixpoint<K> {
@@ -268,6 +276,7 @@ impl<const K: usize> Fixpoint<K> {
         let links = links_of(alloc, &list, objects)?;
         let last = some_state(alloc, objects)?;
         let queued = Vec::from_elem(alloc, true, objects)?;
+        let dirty = no_marks(alloc, objects)?;
         let kept = all_blank(alloc, objects)?;
         let hints = blank_slots(alloc)?;
         Ok(Fixpoint {
@@ -275,6 +284,7 @@ impl<const K: usize> Fixpoint<K> {
             links,
             last,
             queued,
+            dirty,
             kept,
             hints,
         })
@@ -296,6 +306,7 @@ impl<const K: usize> Propagate<K> for Fixpoint<K> {
             &self.links,
             &mut self.last,
             &mut self.queued,
+            &mut self.dirty,
             &mut self.kept,
             &mut self.hints,
             t,

@@ -2,23 +2,29 @@ use Rattle.std.proofs.Common.{◌≡◌, ◌<◌, ◌+◌, true, ℕ, map, set, 
 use Rattle.std.proofs.Math.ListN.{length-set}
 use Rattle.indexical.specs.declared.any.AnyIndexical.{AnyIndexical}
 use Rattle.fixpoint.specs.Links.{AreLinks}
-use Rattle.fixpoint.specs.Kept.{Slots}
-use Rattle.fixpoint.proofs.Linking.{CaughtBelow, caught_start, caught_same, caught_more, caught_end}
-use Rattle.fixpoint.proofs.Standing.{RetriedChanged, changed_start, changed_same, changed_more, changed_end}
+use Rattle.fixpoint.specs.Marks.{Rows, IsSquare}
+use Rattle.fixpoint.proofs.Woken.{CaughtBelow, caught_start, caught_same, caught_more, caught_end, NotedBelow, noted_start, noted_same, noted_more, noted_end}
 use Rattle.fixpoint.proofs.differences.queue_changed.Goals as goal
 use Rattle.fixpoint.proofs.differences.queue_changed.Goals.{then-not-is_same, else-not-is_same}
 
 pub loop-u-init : goal.loop-u-init
-loop-u-init g c = (caught_start _ c.args.from.now c.args.to.now c.args.queued.now, changed_start _ c.args.from.now c.args.to.now c.args.kept.now)
+loop-u-init g c = record {
+  caught = caught_start _ c.args.from.now c.args.to.now c.args.queued.now;
+  noted = noted_start _ c.args.from.now c.args.to.now c.args.dirty.now;
+  square = c.requires.square;
+}
 
-pub retry_near-requires : goal.retry_near-requires
-retry_near-requires g c =
+pub wake-requires : goal.wake-requires
+wake-requires g c =
     let cs = map (λ (x : AnyIndexical g.row.K). x.cond) c.args.list.now in
     let T = c.args.to.now in
     let o = c.requires.objects in
-    let links : AreLinks cs (length T) c.args.links.now = subst (λ (n : ℕ). AreLinks cs n c.args.links.now) o.1 c.requires.links in
-    let object : c.loop-u.u < length T = omega (arith, c.loop-u-test.true, c.loop-u.auto.queued, o.1) in
-    let objects : length c.loop-u.kept ≡ length T = c.loop-u.auto.kept ∙ o.2 in
+    let q = set c.loop-u.queued c.loop-u.u true in
+    let long : length q ≡ length c.args.queued.now = length-set c.loop-u.queued c.loop-u.u true ∙ c.loop-u.auto.queued in
+    let links : AreLinks cs (length q) c.args.links.now = subst (λ (n : ℕ). AreLinks cs n c.args.links.now) (sym long) c.requires.links in
+    let square : IsSquare (length q) c.loop-u.dirty = subst (λ (n : ℕ). IsSquare n c.loop-u.dirty) (sym long) c.loop-u.invariant.square in
+    let object : c.loop-u.u < length q = omega (arith, c.loop-u-test.true, length-set c.loop-u.queued c.loop-u.u true) in
+    let objects : length q ≡ length T = long ∙ o.1 in
     search rules
 
 pub loop-u-preserved : goal.loop-u-preserved
@@ -30,26 +36,30 @@ loop-u-preserved g c =
     let q = c.loop-u.queued in
     let u = c.loop-u.u in
     let i = c.loop-u.invariant in
+    let rows : length c.loop-u.dirty ≡ length S = i.square.rows ∙ c.requires.objects.1 ∙ sym c.requires.objects.0 in
     elim c.if-not-is_same.branch [
       | then-not-is_same w ↦
           let long : length (set q u true) ≡ length old = length-set q u true ∙ c.loop-u.auto.queued in
-          let t = w.touch.ensures cs (subst (λ (n : ℕ). AreLinks cs n c.args.links.now) (sym long) c.requires.links) in (
-            subst (CaughtBelow cs (u + 1) S T old) (sym w.queued-is) (caught_more cs u S T old q w.touch.new.queued i.0 (omega (arith, c.loop-u-test.true, c.loop-u.auto.queued)) t),
-            subst (λ (vs : Slots g.row.K). RetriedChanged cs (u + 1) S T c.args.kept.now vs) (sym w.kept-is) (changed_more cs u S T c.args.kept.now c.loop-u.kept w.retry_near.new.kept w.retry_near.ensures i.1),
-          )
+          record {
+            caught = subst (CaughtBelow cs (u + 1) S T old) (sym w.queued-is) (caught_more cs u S T old q w.wake.new.queued i.caught (omega (arith, c.loop-u-test.true, c.loop-u.auto.queued)) w.wake.ensures.queued);
+            noted = subst (NotedBelow cs (u + 1) S T c.args.dirty.now) (sym w.dirty-is) (noted_more cs u S T c.args.dirty.now c.loop-u.dirty w.wake.new.dirty i.noted rows w.wake.ensures.marked);
+            square = subst (λ (ms : Rows). IsSquare (length old) ms) (sym w.dirty-is) (subst (λ (n : ℕ). IsSquare n w.wake.new.dirty) long w.wake.ensures.square);
+          }
       | else-not-is_same w ↦
-          let same = c.is_same.ensures.0 w.if-not-is_same.false in (
-            subst (CaughtBelow cs (u + 1) S T old) (sym w.queued-is) (caught_same cs u S T old q i.0 same),
-            subst (λ (vs : Slots g.row.K). RetriedChanged cs (u + 1) S T c.args.kept.now vs) (sym w.kept-is) (changed_same cs u S T c.args.kept.now c.loop-u.kept same i.1),
-          )
+          let same = c.is_same.ensures.0 w.if-not-is_same.false in
+          record {
+            caught = subst (CaughtBelow cs (u + 1) S T old) (sym w.queued-is) (caught_same cs u S T old q i.caught same);
+            noted = subst (NotedBelow cs (u + 1) S T c.args.dirty.now) (sym w.dirty-is) (noted_same cs u S T c.args.dirty.now c.loop-u.dirty i.noted same);
+            square = subst (λ (ms : Rows). IsSquare (length old) ms) (sym w.dirty-is) i.square;
+          }
     ]
 
 pub returns-clause-queued : goal.returns-clause-queued
 returns-clause-queued g c =
     let o = c.requires.objects in
-    caught_end _ c.loop-u.u c.args.from.now c.args.to.now c.args.queued.now c.loop-u.queued (o.0 ∙ sym o.1) (omega (arith, c.loop-u-test.false)) c.loop-u.invariant.0
+    caught_end _ c.loop-u.u c.args.from.now c.args.to.now c.args.queued.now c.loop-u.queued (o.0 ∙ sym o.1) (omega (arith, c.loop-u-test.false)) c.loop-u.invariant.caught
 
-pub returns-clause-stand : goal.returns-clause-stand
-returns-clause-stand g c =
+pub returns-clause-noted : goal.returns-clause-noted
+returns-clause-noted g c =
     let o = c.requires.objects in
-    changed_end _ c.loop-u.u c.args.from.now c.args.to.now c.args.kept.now c.loop-u.kept o.0 (omega (arith, c.loop-u-test.false, o.1)) c.loop-u.invariant.1 c.requires.stand
+    noted_end _ c.loop-u.u c.args.from.now c.args.to.now c.args.dirty.now c.loop-u.dirty (omega (arith, c.loop-u-test.false, c.loop-u.auto.queued, o.0, o.1)) c.loop-u.invariant.noted

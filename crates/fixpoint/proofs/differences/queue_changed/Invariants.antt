@@ -1,7 +1,11 @@
-use Rattle.std.proofs.Common.{map}
-use Rattle.fixpoint.proofs.Linking.{CaughtBelow}
-use Rattle.fixpoint.proofs.Standing.{RetriedChanged}
+use Rattle.std.proofs.Common.{map, length}
+use Rattle.fixpoint.specs.Marks.{IsSquare}
+use Rattle.fixpoint.proofs.Woken.{CaughtBelow, NotedBelow}
 use Rattle.fixpoint.proofs.differences.queue_changed.Given as goal
 
 abbrev pub invariant-loop-u : goal.invariant-loop-u
-invariant-loop-u g l = CaughtBelow (map (λ x. x.cond) l.list) l.u l.from l.to l.fn.queued l.queued × RetriedChanged (map (λ x. x.cond) l.list) l.u l.from l.to l.fn.kept l.kept
+invariant-loop-u g l = record {
+  caught : CaughtBelow (map (λ x. x.cond) l.list) l.u l.from l.to l.fn.queued l.queued;
+  noted : NotedBelow (map (λ x. x.cond) l.list) l.u l.from l.to l.fn.dirty l.dirty;
+  square : IsSquare (length l.fn.queued) l.dirty;
+}

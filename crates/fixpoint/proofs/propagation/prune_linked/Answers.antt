@@ -12,10 +12,11 @@ use Rattle.object_pruning.specs.declared.prune.Pruned.{Pruned}
 use Rattle.object_pruning.specs.Same.{SameBut}
 use Rattle.object_pruning.specs.Pruning.{PrunesTo}
 use Rattle.fixpoint.specs.Links.{row}
+use Rattle.fixpoint.specs.Kept.{Stand}
 use Rattle.fixpoint.specs.Queue.{Prunes}
 use Rattle.fixpoint.proofs.Effect.{prunes_of}
 use Rattle.fixpoint.proofs.Linking.{row_get}
-use Rattle.fixpoint.proofs.Standing.{supports_of, stands_alone}
+use Rattle.fixpoint.proofs.Standing.{supports_of, stand_of, stands_alone}
 use Rattle.fixpoint.proofs.propagation.prune_linked.Goals as goal
 
 pub prune_kept-requires : goal.prune_kept-requires
@@ -32,7 +33,7 @@ prune_kept-requires g c =
     let xs = c.args.kept.now in
     let k : o < length xs = omega (arith, object, c.requires.object.1) in
     let value : c.deref_mut.result.now ≡ row xs o = c.deref_mut.ensures.value ∙ sym (row_get xs o c.index-kept-o.result k) in
-    let supports : AllSupport (picked cs (row picks o)) S o (row xs o) = supports_of cs S o (row picks o) xs object (c.requires.links.picks o object) c.requires.stand in
+    let supports : AllSupport (picked cs (row picks o)) S o (row xs o) = supports_of cs S o (row picks o) (row xs o) (c.requires.links.picks o object) c.requires.stand in
     let kept : AllSupport (picked cs c.deref.result.now) S o c.deref_mut.result.now =
     subst (λ (p : List ℕ). AllSupport (picked cs p) S o c.deref_mut.result.now) (sym e) (subst (λ (v : List (Option (Placed g.row.K))). AllSupport (picked cs (row picks o)) S o v) (sym value) supports) in
     search rules
@@ -70,7 +71,7 @@ returns-clause-stand g c =
     let long : length now ≡ length was.items = c.prune_kept.ensures.slots ∙ ap length c.deref_mut.ensures.value in
     let back : (with_items was now).items ≡ now = with_items_is was now (omega (arith, long, was.ok)) in
     let supports : AllSupport (picked cs (row picks o)) T o now = subst (λ (p : List ℕ). AllSupport (picked cs p) T o now) e c.prune_kept.ensures.kept in
-    stands_alone cs T o (row picks o) xs (with_items was now) k (c.requires.links.picks o object) (subst (λ (v : List (Option (Placed g.row.K))). AllSupport (picked cs (row picks o)) T o v) (sym back) supports)
+    stands_alone cs T o xs (with_items was now) k (subst (λ (v : List (Option (Placed g.row.K))). Stand cs T o v) (sym back) (stand_of cs T o (row picks o) now (c.requires.links.picks o object) supports))
 
 pub returns-clause-record : goal.returns-clause-record
 returns-clause-record g c = c.prune_kept.ensures.record

@@ -13,12 +13,14 @@ use Rattle.sweep.specs.Picks.{picked}
 use Rattle.object_pruning.proofs.Cases.{from_none}
 use Rattle.fixpoint.specs.Links.{AreLinks, BareOf}
 use Rattle.fixpoint.specs.Kept.{AllStand}
+use Rattle.fixpoint.specs.Marks.{IsSquare, NotesChanges}
 use Rattle.fixpoint.specs.Near.{BarePossible}
 use Rattle.fixpoint.specs.Record.{NoneLower}
 use Rattle.fixpoint.proofs.Blaming.{blames_listed, blames_none}
 use Rattle.fixpoint.specs.Queue.{RestFine, CatchesUp}
 use Rattle.fixpoint.proofs.Effect.{hopeless, bare_possible}
 use Rattle.fixpoint.proofs.Turns.{caught_up}
+use Rattle.fixpoint.proofs.Standing.{stand_noted}
 use Rattle.derivation.proofs.Continuing.{growth_added, growth_refused}
 use Rattle.fixpoint.proofs.propagation.settle.Goals as goal
 
@@ -51,8 +53,10 @@ prune_queued-settled-requires g c =
     let fine : RestFine cs S new = caught_up cs L S old new o.1 o.0 c.requires.fine caught in
     let objects : length new ≡ length S = caught.objects ∙ o.0 in
     let links : AreLinks cs (length new) c.args.links.now = subst (λ (n : ℕ). AreLinks cs n c.args.links.now) (sym caught.objects) l in
-    let stand : AllStand cs S c.queue_changed.new.kept = subst (λ (X : State). AllStand cs X c.queue_changed.new.kept) c.state-2.ensures.value c.queue_changed.ensures.stand in
-    let slots : length c.queue_changed.new.kept ≡ length S = c.queue_changed.auto.kept ∙ o.2 in
+    let noted : NotesChanges cs L S c.args.dirty.now c.queue_changed.new.dirty = subst (λ (X : State). NotesChanges cs L X c.args.dirty.now c.queue_changed.new.dirty) c.state-2.ensures.value c.queue_changed.ensures.noted in
+    let stand : AllStand cs S c.queue_changed.new.dirty c.args.kept.now = stand_noted cs L S c.args.dirty.now c.queue_changed.new.dirty c.args.kept.now o.1 c.requires.stand noted in
+    let square : IsSquare (length new) c.queue_changed.new.dirty = subst (λ (n : ℕ). IsSquare n c.queue_changed.new.dirty) (sym caught.objects) c.queue_changed.ensures.square in
+    let slots : length c.args.kept.now ≡ length S = o.2 in
     search rules
 
 pub queue_changed-requires : goal.queue_changed-requires
@@ -64,7 +68,7 @@ queue_changed-requires g c =
     let value : S ≡ X = sym c.state-2.ensures.value in
     let same : length S ≡ length X = ap length value in
     let fits : AllFit cs X = subst (AllFit cs) value c.requires.fits in
-    let objects : (length c.args.last.now ≡ length X) × (length c.args.queued.now ≡ length X) × (length c.args.kept.now ≡ length X) = (o.1 ∙ same, o.0 ∙ same, o.2 ∙ same) in
+    let objects : (length c.args.last.now ≡ length X) × (length c.args.queued.now ≡ length X) = (o.1 ∙ same, o.0 ∙ same) in
     search rules
 
 pub returns-in-Ok-clause-grows : goal.returns-in-Ok-clause-grows
@@ -98,3 +102,6 @@ returns-clause-blame g c = of_each c.prune_queued-settled.result _ (λ a kept.
     let none : NoneRefuted (picked cs without) S = subst (NoneRefuted (picked cs without)) c.state.ensures.value (from_none _ _ c.first_refuted.result c.in_default.is c.first_refuted.ensures.found) in
     let those : BareOf cs (length S) without = subst (BareOf cs (length S)) (sym c.deref.ensures.value) (subst (λ (n : ℕ). BareOf cs n c.args.links.now.bare.items) c.requires.objects.0 c.requires.links.bare) in
     blames_none cs S (g.R.Recorder.list c.args.rec.now) _ (bare_possible cs S without those none))
+
+pub returns-clause-square : goal.returns-clause-square
+returns-clause-square g c = subst (λ (n : ℕ). IsSquare n c.prune_queued-settled.new.dirty) c.queue_changed.ensures.queued.objects c.prune_queued-settled.ensures.square

@@ -4,6 +4,7 @@ use Rattle.std.proofs.lemmas.Bool.{false≢true}
 use Rattle.std.proofs.lemmas.List.{get_or-replicate}
 use Rattle.indexical.specs.declared.any.AnyIndexical.{AnyIndexical}
 use Rattle.fixpoint.specs.Links.{AreLinks}
+use Rattle.fixpoint.specs.Marks.{IsSquare}
 use Rattle.fixpoint.specs.Queue.{RestFine}
 use Rattle.fixpoint.proofs.Standing.{blank_stands}
 use Rattle.fixpoint.proofs.propagation.Fixpoint.start.Goals as goal
@@ -25,5 +26,6 @@ invariant_of-result g c =
       linked = linked;
       objects = (c.in_ok-last.ensures ∙ sym long, c.in_ok-kept.ensures.0 ∙ sym long);
       fine = ∣ fine ∣₁;
-      stand = blank_stands cs last c.in_ok-kept.kept.items c.in_ok-kept.ensures.1;
+      square = subst (λ (m : ℕ). IsSquare m c.in_ok-dirty.dirty.items) (sym long) c.in_ok-dirty.ensures;
+      stand = blank_stands cs last c.in_ok-dirty.dirty.items c.in_ok-kept.kept.items c.in_ok-kept.ensures.1;
     }

@@ -8,6 +8,7 @@ use Rattle.geo_state.specs.Settle.{BlamesFirst, Records}
 use Rattle.indexical.specs.declared.any.AnyIndexical.{AnyIndexical}
 use Rattle.fixpoint.specs.Links.{AreLinks}
 use Rattle.fixpoint.specs.Kept.{Slots, AllStand}
+use Rattle.fixpoint.specs.Marks.{Rows, IsSquare}
 use Rattle.fixpoint.specs.Queue.{RestFine}
 use Rattle.fixpoint.proofs.Stable.{rest_of}
 use Rattle.fixpoint.proofs.propagation.FixpointPropagate.settle.Goals as goal
@@ -29,11 +30,15 @@ settle-requires g c =
     subst (λ (l : List (AnyIndexical g.row.K)). RestFine (map f l) self.last q) (sym same) (subst (RestFine (map f self.list.items) self.last) (sym marks) (rest_of (map f self.list.items) self.last self.queued.items self.fine)) in
     let objects : length q ≡ length S = ap length marks ∙ sym c.requires.objects in
     let before : length self.last ≡ length S = self.objects.0 ∙ sym c.requires.objects in
-    let kept = c.deref_mut-2.result.now in
-    let points : kept ≡ self.kept.items = c.deref_mut-2.ensures.value in
+    let kept = c.deref_mut-3.result.now in
+    let points : kept ≡ self.kept.items = c.deref_mut-3.ensures.value in
     let slots : length kept ≡ length S = ap length points ∙ self.objects.1 ∙ sym c.requires.objects in
-    let stand : AllStand cs self.last kept =
-    subst (λ (l : List (AnyIndexical g.row.K)). AllStand (map f l) self.last kept) (sym same) (subst (λ (vs : Slots g.row.K). AllStand (map f self.list.items) self.last vs) (sym points) self.stand) in
+    let noted = c.deref_mut-2.result.now in
+    let rows : noted ≡ self.dirty.items = c.deref_mut-2.ensures.value in
+    let square : IsSquare (length q) noted = subst (λ (n : ℕ). IsSquare n noted) (sym (ap length marks)) (subst (IsSquare (length self.queued.items)) (sym rows) self.square) in
+    let stand : AllStand cs self.last noted kept =
+    subst (λ (l : List (AnyIndexical g.row.K)). AllStand (map f l) self.last noted kept) (sym same)
+    (subst (λ (ms : Rows). AllStand (map f self.list.items) self.last ms kept) (sym rows) (subst (λ (vs : Slots g.row.K). AllStand (map f self.list.items) self.last self.dirty.items vs) (sym points) self.stand)) in
     let some : 0 < g.row.K = self.dims.0 in
     search rules
 
@@ -65,15 +70,22 @@ invariant_of-self g c =
     let fine : RestFine cs c.settle.new.last (with_items self.queued new).items =
     subst (RestFine cs c.settle.new.last) (sym back) (subst (λ (l : List (AnyIndexical g.row.K)). RestFine (map f l) c.settle.new.last new) same c.settle.ensures.fine) in
     let slots = c.settle.new.kept in
-    let rows : length slots ≡ length self.kept.items = c.settle.auto.kept ∙ ap length c.deref_mut-2.ensures.value in
+    let rows : length slots ≡ length self.kept.items = c.settle.auto.kept ∙ ap length c.deref_mut-3.ensures.value in
     let whole : (with_items self.kept slots).items ≡ slots = with_items_is self.kept slots (omega (arith, rows, self.kept.ok)) in
-    let stand : AllStand cs c.settle.new.last (with_items self.kept slots).items =
-    subst (λ (vs : Slots g.row.K). AllStand cs c.settle.new.last vs) (sym whole) (subst (λ (l : List (AnyIndexical g.row.K)). AllStand (map f l) c.settle.new.last slots) same c.settle.ensures.stand) in
+    let noted = c.settle.new.dirty in
+    let wide : length noted ≡ length self.dirty.items = c.settle.auto.dirty ∙ ap length c.deref_mut-2.ensures.value in
+    let square_back : (with_items self.dirty noted).items ≡ noted = with_items_is self.dirty noted (omega (arith, wide, self.dirty.ok.0)) in
+    let square : IsSquare (length (with_items self.queued new).items) (with_items self.dirty noted).items =
+    subst (IsSquare (length (with_items self.queued new).items)) (sym square_back) (subst (λ (n : ℕ). IsSquare n noted) (sym c.settle.auto.queued ∙ sym (ap length back)) c.settle.ensures.square) in
+    let stand : AllStand cs c.settle.new.last (with_items self.dirty noted).items (with_items self.kept slots).items =
+    subst (λ (ms : Rows). AllStand cs c.settle.new.last ms (with_items self.kept slots).items) (sym square_back)
+    (subst (λ (vs : Slots g.row.K). AllStand cs c.settle.new.last noted vs) (sym whole) (subst (λ (l : List (AnyIndexical g.row.K)). AllStand (map f l) c.settle.new.last noted slots) same c.settle.ensures.stand)) in
     let marks : length self.queued.items ≡ length (with_items self.queued new).items = sym (ap length back ∙ long) in
     record {
       dims = self.dims;
       linked = linked;
       objects = (c.settle.ensures.objects ∙ self.objects.0 ∙ marks, ap length whole ∙ rows ∙ self.objects.1 ∙ marks);
       fine = ∣ fine ∣₁;
+      square = square;
       stand = stand;
     }

@@ -1,0 +1,217 @@
+-- Waking the neighbours of an object: what is queued and what is marked.
+use Rattle.std.proofs.Common.{◌≡◌, ◌≢◌, ◌⊎◌, ℕ, ◌+◌, ◌<◌, ◌≤◌, Bool, true, false, List, [], ◌∷◌, ◌++◌, length, set, get_or, refl, sym, ap, ◌∙◌, subst, inl, inr, arith, Vec, Global}
+use Rattle.std.proofs.lemmas.Bool.{false≢true, cases_eq}
+use Rattle.std.proofs.lemmas.List.{get_or-set_same, get_or-set_other}
+use Rattle.std.proofs.Math.ListN.{length-set}
+use Rattle.geo_conditions.specs.declared.cond.Cond.{Cond}
+use Rattle.geo_conditions.specs.Reach.{State, reach}
+use Rattle.fixpoint.specs.declared.links.Links.{Links}
+use Rattle.geo_conditions.specs.declared.object.ObjId.{ObjId}
+use Rattle.fixpoint.specs.Links.{AreLinks, row, is_among}
+use Rattle.fixpoint.specs.Marks.{Rows, is_marked, IsSquare, MarksAt, NotesChanges}
+use Rattle.fixpoint.specs.Near.{Unhinders, Unhindered}
+use Rattle.fixpoint.specs.Queue.{Queues, CatchesUp}
+use Rattle.fixpoint.proofs.Linking.{row_set_same, row_set_other, row_before, row_last, length_more, nth, each_named, among_not}
+
+-- ---- what is queued
+
+-- nothing is done where all are free
+pub queues_none : (Free : ℕ → Type 0) (u : ℕ) (q : List Bool) → ((o : ℕ) → o ≢ u → o < length q → Free o) → Queues Free u q q
+queues_none Free u q f = record { objects = refl; itself = refl; others = λ o n h e. (e, f o n h) }
+
+pub queues_weaker : (Free More : ℕ → Type 0) (u : ℕ) (old new : List Bool) → ((o : ℕ) → o ≢ u → o < length old → Free o → More o) → Queues Free u old new → Queues More u old new
+queues_weaker Free More u old new f q = record {
+  objects = q.objects;
+  itself = q.itself;
+  others = λ o n h e. let w = q.others o n h e in (w.0, f o n h w.1);
+}
+
+-- one after the other
+pub queues_both : (First Second Both : ℕ → Type 0) (u : ℕ) (old mid new : List Bool) → ((o : ℕ) → First o → Second o → Both o) → Queues First u old mid → Queues Second u mid new → Queues Both u old new
+queues_both First Second Both u old mid new f p q = record {
+  objects = q.objects ∙ p.objects;
+  itself = q.itself ∙ p.itself;
+  others = λ o n h e.
+      let w = q.others o n (omega (arith, h, p.objects)) e in
+      let v = p.others o n h w.0 in
+      (v.0, f o v.1 w.1);
+}
+
+-- one object is queued
+pub queues_one : (u o : ℕ) (q : List Bool) → o < length q → o ≢ u → Queues (λ v. v ≢ o) u q (set q o true)
+queues_one u o q h ne = record {
+  objects = length-set q o true;
+  itself = get_or-set_other q o u true false (λ e. ne (sym e));
+  others = λ v n b f.
+      let other : v ≢ o = λ e. false≢true (sym f ∙ subst (λ (z : ℕ). get_or (set q o true) z false ≡ true) (sym e) (get_or-set_same q o true false h)) in
+      (sym (get_or-set_other q o v true false other) ∙ f, other);
+}
+
+-- ---- what is marked
+
+pub marks_none : (Free : ℕ → Type 0) (u : ℕ) (marks : Rows) → ((o : ℕ) → o ≢ u → o < length marks → Free o) → MarksAt Free u marks marks
+marks_none Free u marks f = record { stay = λ o v e. e; fresh = λ o n h e. f o n h }
+
+pub marks_weaker : (Free More : ℕ → Type 0) (u : ℕ) (old new : Rows) → ((o : ℕ) → o ≢ u → o < length old → Free o → More o) → MarksAt Free u old new → MarksAt More u old new
+marks_weaker Free More u old new f m = record { stay = m.stay; fresh = λ o n h e. f o n h (m.fresh o n h e) }
+
+pub marks_both : (First Second Both : ℕ → Type 0) (u : ℕ) (old mid new : Rows) → length mid ≡ length old → ((o : ℕ) → First o → Second o → Both o) → MarksAt First u old mid → MarksAt Second u mid new → MarksAt Both u old new
+marks_both First Second Both u old mid new long f p q = record {
+  stay = λ o v e. p.stay o v (q.stay o v e);
+  fresh = λ o n h e. f o (p.fresh o n h (q.stay o u e)) (q.fresh o n (omega (arith, h, long)) e);
+}
+
+module _ (u o : ℕ) (marks : Rows) (v : Vec Bool Global) (h : o < length marks) (b : u < length (row marks o)) (items : v.items ≡ set (row marks o) u true) where
+  put_row : (w : ℕ) → is_marked (set marks o v) o w ≡ get_or (set (row marks o) u true) w false
+  put_row w = ap (λ (l : List Bool). get_or l w false) (row_set_same marks o v h ∙ items)
+
+  put_here : is_marked (set marks o v) o u ≡ true
+  put_here = put_row u ∙ get_or-set_same (row marks o) u true false b
+
+  put_stay : (w : ℕ) → is_marked (set marks o v) o w ≡ false → is_marked marks o w ≡ false
+  put_stay w e =
+      let other : w ≢ u = λ s. false≢true (sym e ∙ subst (λ (z : ℕ). is_marked (set marks o v) o z ≡ true) (sym s) put_here) in
+      sym (get_or-set_other (row marks o) u w true false other) ∙ sym (put_row w) ∙ e
+
+  -- u is marked at one object
+  pub marks_one : MarksAt (λ p. p ≢ o) u marks (set marks o v)
+  marks_one = record {
+    stay = λ p w e. elim (cases_eq p o) [
+      | inl s ↦ subst (λ (z : ℕ). is_marked marks z w ≡ false) (sym s) (put_stay w (subst (λ (z : ℕ). is_marked (set marks o v) z w ≡ false) s e))
+      | inr ne ↦ sym (ap (λ (l : List Bool). get_or l w false) (row_set_other marks o p v ne)) ∙ e
+    ];
+    fresh = λ p n k e s. false≢true (sym e ∙ subst (λ (z : ℕ). is_marked (set marks o v) z u ≡ true) (sym s) put_here);
+  }
+
+-- a row is replaced by one as long
+pub square_put : (n o : ℕ) (marks : Rows) (v : Vec Bool Global) → o < length marks → length v.items ≡ n → IsSquare n marks → IsSquare n (set marks o v)
+square_put n o marks v h long s = record {
+  rows = length-set marks o v ∙ s.rows;
+  each = λ p b. elim (cases_eq p o) [
+    | inl e ↦ subst (λ (z : ℕ). length (row (set marks o v) z) ≡ n) (sym e) (ap length (row_set_same marks o v h) ∙ long)
+    | inr ne ↦ ap length (row_set_other marks o p v ne) ∙ s.each p b
+  ];
+}
+
+-- ---- the loop over the objects that a condition names
+
+-- what is so once the objects of the list were marked
+pub record Marked (u : ℕ) (list : List ObjId) (old new : List Bool) (before after : Rows) : Type 0 where
+  pub queued : Queues (λ o. is_among o list ≡ false) u old new
+  pub marked : MarksAt (λ o. is_among o list ≡ false) u before after
+  pub square : IsSquare (length old) after
+
+pub marked_put : (u : ℕ) (list : List ObjId) (o : ObjId) (old q : List Bool) (before marks : Rows) (v : Vec Bool Global) → o.0 < length q → o.0 ≢ u → o.0 < length marks → u < length (row marks o.0) → v.items ≡ set (row marks o.0) u true → length v.items ≡ length old
+    → Queues (λ p. is_among p list ≡ false) u old q → MarksAt (λ p. is_among p list ≡ false) u before marks → IsSquare (length old) marks → length marks ≡ length before → Marked u (list ++ o ∷ []) old (set q o.0 true) before (set marks o.0 v)
+marked_put u list o old q before marks v b ne h inside items long x y z rows = record {
+  queued = queues_both _ _ _ u old q (set q o.0 true) (λ p f n. among_not p list o f n) x (queues_one u o.0 q b ne);
+  marked = marks_both _ _ _ u before marks (set marks o.0 v) rows (λ p f n. among_not p list o f n) y (marks_one u o.0 marks v h inside items);
+  square = square_put (length old) o.0 marks v h long z;
+}
+
+pub marked_skip : (u : ℕ) (list : List ObjId) (o : ObjId) (old q : List Bool) (before marks : Rows) → o.0 ≡ u → Queues (λ p. is_among p list ≡ false) u old q → MarksAt (λ p. is_among p list ≡ false) u before marks → IsSquare (length old) marks → Marked u (list ++ o ∷ []) old q before marks
+marked_skip u list o old q before marks e x y z = record {
+  queued = queues_weaker _ _ u old q (λ p n h f. among_not p list o f (λ s. n (s ∙ e))) x;
+  marked = marks_weaker _ _ u before marks (λ p n h f. among_not p list o f (λ s. n (s ∙ e))) y;
+  square = z;
+}
+
+-- the rows are made one by one
+pub rows_more : (n k : ℕ) (marks : Rows) (v : Vec Bool Global) → length v.items ≡ n → (length marks ≡ k) × ((o : ℕ) → o < k → length (row marks o) ≡ n)
+    → (length (marks ++ v ∷ []) ≡ k + 1) × ((o : ℕ) → o < k + 1 → length (row (marks ++ v ∷ []) o) ≡ n)
+rows_more n k marks v long m = (
+  length_more marks v ∙ ap (λ (z : ℕ). z + 1) m.0,
+  λ o b. elim (cases_eq o k) [
+    | inl e ↦ subst (λ (z : ℕ). length (row (marks ++ v ∷ []) z) ≡ n) (m.0 ∙ sym e) (ap length (row_last marks v) ∙ long)
+    | inr ne ↦ ap length (row_before marks v o (omega (arith, b, ne, m.0))) ∙ m.1 o (omega (arith, b, ne))
+  ],
+)
+
+-- ---- the loop over the conditions that name u
+
+-- the first k conditions that name u leave o possible wherever it is put
+abbrev pub FreeBelow : List Cond → Links → State → ℕ → ℕ → ℕ → Type 0
+FreeBelow cs l S u k o = (j : ℕ) (d : Cond) → j < k → Unhinders (get_or cs (nth l u j) d) S o
+
+pub free_more : (cs : List Cond) (l : Links) (S : State) (u k : ℕ) (c : Cond) → ((d : Cond) → get_or cs (nth l u k) d ≡ c) → (o : ℕ) → FreeBelow cs l S u k o → Unhinders c S o → FreeBelow cs l S u (k + 1) o
+free_more cs l S u k c at o f h j d b = elim (cases_eq j k) [
+  | inl e ↦ subst (λ (z : ℕ). Unhinders (get_or cs (nth l u z) d) S o) (sym e) (subst (λ (x : Cond). Unhinders x S o) (sym (at d)) h)
+  | inr ne ↦ f j d (omega (arith, b, ne))
+]
+
+pub free_end : (cs : List Cond) (n : ℕ) (l : Links) (S : State) (u k : ℕ) → AreLinks cs n l → u < n → length (row l.picks.items u) ≤ k → (o : ℕ) → FreeBelow cs l S u k o → Unhindered cs S u o
+free_end cs n l S u k a h end o f = each_named (λ c. Unhinders c S o) cs n u l a h (λ j d b. f j d (omega (arith, b, end)))
+
+-- ---- the loop over what differs
+
+-- of the objects below k each that differs is queued, with those that it may hinder
+pub record CaughtBelow (cs : List Cond) (k : ℕ) (S T : State) (old new : List Bool) : Type 0 where
+  pub objects : length new ≡ length old
+  pub before : (o : ℕ) → o < length old → get_or new o false ≡ false → get_or old o false ≡ false
+  pub same : (o : ℕ) → o < length old → o < k → get_or new o false ≡ false → reach S o ≡ reach T o
+  pub others : (o u : ℕ) → o < length old → u < k → get_or new o false ≡ false → (reach S u ≡ reach T u) ⊎ Unhindered cs T u o
+
+pub caught_start : (cs : List Cond) (S T : State) (q : List Bool) → CaughtBelow cs 0 S T q q
+caught_start cs S T q = record { objects = refl; before = λ o h e. e; same = λ o h b e. absurd (omega arith); others = λ o u h b e. absurd (omega arith) }
+
+-- an object that is the same
+pub caught_same : (cs : List Cond) (k : ℕ) (S T : State) (old q : List Bool) → CaughtBelow cs k S T old q → reach S k ≡ reach T k → CaughtBelow cs (k + 1) S T old q
+caught_same cs k S T old q c e = record {
+  objects = c.objects;
+  before = c.before;
+  same = λ o h b f. elim (cases_eq o k) [ inl i ↦ subst (λ (z : ℕ). reach S z ≡ reach T z) (sym i) e | inr ne ↦ c.same o h (omega arith) f ];
+  others = λ o u h b f. elim (cases_eq u k) [ inl i ↦ inl (subst (λ (z : ℕ). reach S z ≡ reach T z) (sym i) e) | inr ne ↦ c.others o u h (omega arith) f ];
+}
+
+-- an object that differs
+pub caught_more : (cs : List Cond) (k : ℕ) (S T : State) (old q new : List Bool) → CaughtBelow cs k S T old q → k < length q → Queues (Unhindered cs T k) k (set q k true) new → CaughtBelow cs (k + 1) S T old new
+caught_more cs k S T old q new c h t = record {
+  objects = t.objects ∙ length-set q k true ∙ c.objects;
+  before = λ o b f. c.before o b (was o b f);
+  same = λ o b l f. c.same o b (omega (arith, l, other o f)) (was o b f);
+  others = λ o u b l f. elim (cases_eq u k) [
+    | inl i ↦ inr (subst (λ (z : ℕ). Unhindered cs T z o) (sym i) (t.others o (other o f) (omega (arith, b, length-set q k true, c.objects)) f).1)
+    | inr ne ↦ c.others o u b (omega arith) (was o b f)
+  ];
+}
+  where
+    there : get_or new k false ≡ true
+    there = t.itself ∙ get_or-set_same q k true false h
+
+    other : (o : ℕ) → get_or new o false ≡ false → o ≢ k
+    other o f e = false≢true (sym f ∙ subst (λ (z : ℕ). get_or new z false ≡ true) (sym e) there)
+
+    was : (o : ℕ) → o < length old → get_or new o false ≡ false → get_or q o false ≡ false
+    was o b f = sym (get_or-set_other q k o true false (other o f)) ∙ (t.others o (other o f) (omega (arith, b, length-set q k true, c.objects)) f).0
+
+pub caught_end : (cs : List Cond) (k : ℕ) (S T : State) (old new : List Bool) → length S ≡ length old → length old ≤ k → CaughtBelow cs k S T old new → CatchesUp cs S T old new
+caught_end cs k S T old new e h c = record {
+  objects = c.objects;
+  rest = λ o b f. (c.before o b f, record { itself = c.same o b (omega (arith, b, h)) f; others = λ u l. c.others o u b (omega (arith, l, h, e)) f });
+}
+
+-- of the objects below k each that differs is marked at those that it may hinder
+pub record NotedBelow (cs : List Cond) (k : ℕ) (S T : State) (old new : Rows) : Type 0 where
+  pub stay : (o v : ℕ) → is_marked new o v ≡ false → is_marked old o v ≡ false
+  pub fresh : (o u : ℕ) → o < length S → u < k → o ≢ u → is_marked new o u ≡ false → (reach S u ≡ reach T u) ⊎ Unhindered cs T u o
+
+pub noted_start : (cs : List Cond) (S T : State) (marks : Rows) → NotedBelow cs 0 S T marks marks
+noted_start cs S T marks = record { stay = λ o v e. e; fresh = λ o u h b ne e. absurd (omega arith) }
+
+pub noted_same : (cs : List Cond) (k : ℕ) (S T : State) (old marks : Rows) → NotedBelow cs k S T old marks → reach S k ≡ reach T k → NotedBelow cs (k + 1) S T old marks
+noted_same cs k S T old marks n same = record {
+  stay = n.stay;
+  fresh = λ o u h b ne e. elim (cases_eq u k) [ inl i ↦ inl (subst (λ (z : ℕ). reach S z ≡ reach T z) (sym i) same) | inr m ↦ n.fresh o u h (omega (arith, b, m)) ne e ];
+}
+
+pub noted_more : (cs : List Cond) (k : ℕ) (S T : State) (old marks new : Rows) → NotedBelow cs k S T old marks → length marks ≡ length S → MarksAt (Unhindered cs T k) k marks new → NotedBelow cs (k + 1) S T old new
+noted_more cs k S T old marks new n long m = record {
+  stay = λ o v e. n.stay o v (m.stay o v e);
+  fresh = λ o u h b ne e. elim (cases_eq u k) [
+    | inl i ↦ inr (subst (λ (z : ℕ). Unhindered cs T z o) (sym i) (m.fresh o (λ s. ne (s ∙ sym i)) (omega (arith, h, long)) (subst (λ (z : ℕ). is_marked new o z ≡ false) i e)))
+    | inr other ↦ n.fresh o u h (omega (arith, b, other)) ne (m.stay o u e)
+  ];
+}
+
+pub noted_end : (cs : List Cond) (k : ℕ) (S T : State) (old new : Rows) → length S ≤ k → NotedBelow cs k S T old new → NotesChanges cs S T old new
+noted_end cs k S T old new h n = record { stay = n.stay; fresh = λ o u a b ne e. n.fresh o u a (omega (arith, b, h)) ne e }
