@@ -1,4 +1,4 @@
-use Rattle.std.proofs.Common.{◌≡◌, true, false, ap, sym, ◌∙◌, subst, refl, arith, Option, Some, None, List, ◌+◌, ◌-◌, ◌^◌, ◌≤◌, min, ℕ}
+use Rattle.std.proofs.Common.{◌≡◌, ◌||◌, Bool, true, false, ap, sym, ◌∙◌, subst, refl, arith, Option, Some, None, List, ◌+◌, ◌-◌, ◌^◌, ◌≤◌, min, ℕ}
 use Rattle.geo_conditions.specs.declared.cond.Cond.{Cond}
 use Rattle.trail_search.specs.declared.step.Step.{Step}
 use Rattle.trail_search.specs.declared.step.Step.TheVariants.{Found, Ended, Budget, Memory}
@@ -128,3 +128,10 @@ invariant_of-self-in-Memory g c =
     let n = c.go_on.new in
     sound_over g.row.K g.R.Recorder.keeps (g.P.Propagate.conditions i.prop) (g.P.Propagate.conditions n.prop) (g.P.Propagate.objects i.prop) (g.P.Propagate.objects n.prop) i.budget i.walker n.walker i.found i.over i.some_found i.began_empty
     (g.R.Recorder.list i.rec) (g.R.Recorder.list n.rec) c.go_on.result Memory c.self.invariant c.in_default.is c.go_on.ensures.well c.go_on.ensures.same c.go_on.ensures.conditions c.go_on.ensures.number c.in-Memory.is (λ e. cc) (λ e k. false≢true (sym (ap is_answer c.in-Memory.is) ∙ c.go_on.ensures.grows.no_record k)) c.go_on.ensures.recorded
+
+pub returns-in-Found-clause-some_found : goal.returns-in-Found-clause-some_found
+returns-in-Found-clause-some_found g c = or_true c.args.self.now.some_found
+  where
+    or_true : (b : Bool) → true ≡ b || true
+    or_true true = refl
+    or_true false = refl
