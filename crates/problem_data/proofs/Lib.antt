@@ -9,3 +9,4 @@ pub mod InLists
 pub mod Taken
 pub mod StatementKinds
 pub mod Distinct
+pub mod NamesMet

@@ -75,7 +75,7 @@ module _ (xs ys : List (Bor (List ℕ))) where
 
 -- ---- the names of a list, met one after another
 
-meet_any : (n : List ℕ) (names : List (List ℕ)) (name : List ℕ) → list_any (bytes_eq n) (meet names name) ≡ (list_any (bytes_eq n) names || bytes_eq n name)
+pub meet_any : (n : List ℕ) (names : List (List ℕ)) (name : List ℕ) → list_any (bytes_eq n) (meet names name) ≡ (list_any (bytes_eq n) names || bytes_eq n name)
 meet_any n names name = by (list_any (bytes_eq name) names) refl where
   there : (b t : Bool) → (t ≡ true → b ≡ true) → b ≡ (b || t)
   there true t h = refl

@@ -1,14 +1,10 @@
 -- A call of a macro in sight is its body, where the macros before it are in sight.
-use Rattle.std.proofs.Common.{◌≡◌, ◌≢◌, ℕ, zero, suc, ◌<◌, ◌≤◌, eqb, Bool, true, false, cond, List, [], length, get_or, sym, ap, ◌∙◌, refl, arith}
+use Rattle.std.proofs.Common.{◌≡◌, ◌≢◌, ℕ, zero, suc, ◌<◌, ◌≤◌, eqb, Bool, true, false, cond, List, sym, ap, ◌∙◌, refl, arith}
 use Rattle.std.specs.Prelude.{Some}
 use Rattle.std.specs.Option.{option_map_or}
 use Rattle.std.proofs.lemmas.Bool.Decides.{nat_tests}
-use Rattle.std.specs.Str.{bytes_eq}
-use Rattle.std.proofs.lemmas.List.{get_or_default}
-use Rattle.std.proofs.lemmas.List.Quantifiers.{position-Some}
 use Rattle.problem_data.specs.Problem.{ParamData, MacroData, ProblemData}
-use Rattle.rule_syntax.specs.Tree.{falsehood}
-use Rattle.problem_data.specs.Tree.{BodyTree, means}
+use Rattle.problem_data.specs.Tree.{BodyTree}
 use Rattle.problem_data.specs.Value.{macro_position}
 use Rattle.problem_data.specs.Truth.{macro_of}
 use Rattle.rule_expand.specs.Plain as plain

@@ -17,8 +17,9 @@ ghost use Rattle.rule_names.specs.Table.{found};
 use crate::scope::parameter_index;
 use geo_tokens::name::Name;
 use problem_data::problem::{MacroDef, ParamDef, Problem};
+use problem_data::seen::SeenNames;
 use problem_data::tree::MacroBody;
-use rule_names::table::{NameTable, position_of};
+use rule_names::table::position_of;
 use rule_syntax::tree::{Argument, Expr, PlacedName};
 use std::alloc::{AllocError, Global};
 
@@ -52,7 +53,7 @@ fn parameter_named(params: &[ParamDef], name: &Name) -> Option<usize>
 #[cycle(handed)]
 fn parameter_of(
     problem: &Problem,
-    macros: &NameTable,
+    macros: &SeenNames<'_>,
     handed: &[Option<usize>],
     params: &[ParamDef],
     e: &Expr,
@@ -89,7 +90,7 @@ fn parameter_of(
 #[cycle(handed)]
 fn parameter_of_call(
     problem: &Problem,
-    macros: &NameTable,
+    macros: &SeenNames<'_>,
     handed: &[Option<usize>],
     params: &[ParamDef],
     m: &PlacedName,
@@ -114,7 +115,7 @@ fn parameter_of_call(
 /// The parameter that a macro hands on, where the macros before it are in sight.
 fn handed_by(
     problem: &Problem,
-    macros: &NameTable,
+    macros: &SeenNames<'_>,
     handed: &[Option<usize>],
     it: &MacroDef,
 ) -> Option<usize>
@@ -133,7 +134,7 @@ fn handed_by(
 pub fn handed_parameters(
     alloc: Global,
     problem: &Problem,
-    macros: &NameTable,
+    macros: &SeenNames<'_>,
 ) -> Result<Vec<Option<usize>>, AllocError>
     requires { (n : List ℕ) → found macros.now n ≡ macro_position problem.now n }
     ensures { IfOk result (λ v. AreHanded problem.now v.items) }

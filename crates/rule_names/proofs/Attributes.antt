@@ -1,13 +1,11 @@
 -- The table of attributes: which names it has.
 use Rattle.std.proofs.Common.{◌≡◌, ℕ, ◌+◌, ◌<◌, ◌≤◌, Bool, true, false, ◌||◌, List, [], ◌∷◌, length, take, map, get_or, refl, sym, ap, ◌∙◌}
-use Rattle.std.specs.Prelude.{Option, None, Some, cond, is_some}
 use Rattle.std.specs.List.{list_any}
 use Rattle.std.specs.Str.{bytes_eq}
 use Rattle.std.proofs.lemmas.List.{take_more, take_all}
 use Rattle.std.proofs.lemmas.List.Folds.{list_any-append}
 use Rattle.problem_data.specs.declared.problem.AttributeDef.{AttributeDef}
 use Rattle.problem_data.specs.ProblemView.{attribute_data}
-use Rattle.rule_names.specs.Table.{later}
 
 or-none : (b : Bool) → (b || false) ≡ b
 or-none true = refl
@@ -16,15 +14,6 @@ or-none false = refl
 or-assoc : (a b c : Bool) → ((a || b) || c) ≡ (a || (b || c))
 or-assoc true b c = refl
 or-assoc false b c = refl
-
-later-here : (b : Bool) (i : ℕ) → is_some (cond b (Some i) None) ≡ b
-later-here true i = refl
-later-here false i = refl
-
--- a name is there after another came, where it was there or is that one
-pub is_some-later : (o : Option ℕ) (n name : List ℕ) (i : ℕ) → is_some (later o n name i) ≡ (is_some o || bytes_eq n name)
-is_some-later (Some k) n name i = refl
-is_some-later None n name i = later-here (bytes_eq n name) i
 
 pub any-push : {X : Type 0} (test : X → Bool) (xs : List X) (i : ℕ) (x : X) → i < length xs → x ≡ get_or xs i x → list_any test (take (i + 1) xs) ≡ (list_any test (take i xs) || test x)
 any-push test xs i x h e =

@@ -35,7 +35,7 @@ fn is_attribute(_problem: &Problem, tables: &Tables, field: &Name) -> bool
     requires { AreTables _problem.now tables.now }
     ensures { result ≡ is_attribute _problem.now field.now }
 {
-    position_of(&tables.attributes, field.as_bytes()).is_some()
+    tables.attributes.has(field.as_bytes())
 }
 
 fn is_object_field(problem: &Problem, tables: &Tables, field: &Name) -> bool

@@ -1,136 +1,112 @@
 //! Where the names of a problem stand in its lists.
 
-ghost use Rattle.std.specs.Prelude.{◌≡◌, ◌+◌, ◌||◌, ℕ, List, IfOk, MatchResult, is_some, length, take, map};
+ghost use Rattle.std.specs.Prelude.{◌≡◌, ◌||◌, ℕ, List, IfOk, map};
 ghost use Rattle.std.specs.List.{list_any};
+ghost use Rattle.std.specs.Str.{bytes_eq};
+ghost use Rattle.problem_data.specs.Seen.{met};
 ghost use Rattle.rule_names.specs.Sight.{lists_attribute};
-ghost use Rattle.rule_names.specs.Table.{found, later, IsTableOf, AreTables};
+ghost use Rattle.rule_names.specs.Table.{found, AreTables};
 
 use problem_data::problem::{MacroDef, ObjectDef, Problem, ShapeDef};
-use std::alloc::{AllocError, AllocFailed, Global};
-use std::collections::HashMap;
+use problem_data::seen::SeenNames;
+use std::alloc::{AllocError, Global};
 
-/// Names with their positions, each as it stands first.
-#[derive(Drop)]
-pub struct NameTable<'a> {
-    pub positions: HashMap<&'a [u8], usize>,
-}
-
-/// The tables of a problem's objects, shapes, macros and attributes.
+/// The names of a problem's objects, shapes and macros, each in the order of the problem's list, and of all attributes.
 #[derive(Drop)]
 pub struct Tables<'a> {
-    pub objects: NameTable<'a>,
-    pub shapes: NameTable<'a>,
-    pub macros: NameTable<'a>,
-    pub attributes: NameTable<'a>,
+    pub objects: SeenNames<'a>,
+    pub shapes: SeenNames<'a>,
+    pub macros: SeenNames<'a>,
+    pub attributes: SeenNames<'a>,
 }
 
-/// Adds a name at a position, if it is not there yet.
-fn add<'a>(table: &mut NameTable<'a>, name: &'a [u8], position: usize) -> Result<(), AllocError>
-    ensures { IfOk result (λ _. (n : List ℕ) → found table.new n
-        ≡ later (found table.old n) n name.now position) }
-{
-    if position_of(table, name).is_some() {
-        return Ok(());
+// A part of a problem with a name of its own.
+trait HasName {
+    ghost own_name: { Self → List ℕ };
+
+    fn own_name(&self) -> &[u8]
+        ensures { result.now ≡ own_name self.now };
+}
+
+impl HasName for ObjectDef {
+    ghost own_name = { λ o. o.name };
+
+    fn own_name(&self) -> &[u8] {
+        self.name().as_bytes()
     }
-    match table.positions.insert(name, position) {
-        Ok(_old) => Ok(()),
-        Err(_e) => Err(AllocError),
+}
+
+impl HasName for ShapeDef {
+    ghost own_name = { λ s. s.name };
+
+    fn own_name(&self) -> &[u8] {
+        self.name().as_bytes()
+    }
+}
+
+impl HasName for MacroDef {
+    ghost own_name = { λ m. m.name };
+
+    fn own_name(&self) -> &[u8] {
+        self.name().as_bytes()
     }
 }
 
 /// The position of a name.
-pub fn position_of(table: &NameTable, name: &[u8]) -> Option<usize>
-    ensures { result ≡ found table.now name.now }
+pub fn position_of(names: &SeenNames<'_>, name: &[u8]) -> Option<usize>
+    ensures { result ≡ found names.now name.now }
 {
-    match table.positions.get(name) {
-        Some(position) => Some(*position),
-        None => None,
-    }
+    names.position(name)
 }
 
-/// The table of the objects' names.
-pub fn object_table<'a>(
-    alloc: Global,
-    objects: &'a [ObjectDef],
-) -> Result<NameTable<'a>, AllocError>
-    ensures { IfOk result (λ t. IsTableOf t (map (λ o. o.name) objects.now)) }
+// The names of the items.
+fn names_of<'a, T: HasName>(alloc: Global, items: &'a [T]) -> Result<SeenNames<'a>, AllocError>
+    ensures { IfOk result (λ names. names ≡ met (map T.own_name items.now)) }
 {
-    let mut table = NameTable {
-        positions: HashMap::new(alloc),
-    };
-    for (i, object) in objects.iter().enumerate() {
-        add(&mut table, object.name().as_bytes(), i)?;
+    let mut names = SeenNames::new(alloc);
+    for item in items {
+        let _is_new = names.meet(item.own_name())?;
     }
-    Ok(table)
+    Ok(names)
 }
 
-/// The table of the shapes' names.
-pub fn shape_table<'a>(alloc: Global, shapes: &'a [ShapeDef]) -> Result<NameTable<'a>, AllocError>
-    ensures { IfOk result (λ t. IsTableOf t (map (λ s. s.name) shapes.now)) }
-{
-    let mut table = NameTable {
-        positions: HashMap::new(alloc),
-    };
-    for (i, shape) in shapes.iter().enumerate() {
-        add(&mut table, shape.name().as_bytes(), i)?;
-    }
-    Ok(table)
-}
-
-/// The table of the macros' names.
-pub fn macro_table<'a>(alloc: Global, macros: &'a [MacroDef]) -> Result<NameTable<'a>, AllocError>
-    ensures { IfOk result (λ t. IsTableOf t (map (λ m. m.name) macros.now)) }
-{
-    let mut table = NameTable {
-        positions: HashMap::new(alloc),
-    };
-    for (i, it) in macros.iter().enumerate() {
-        add(&mut table, it.name().as_bytes(), i)?;
-    }
-    Ok(table)
-}
-
-/// Adds the names of an object's attributes.
-fn add_attributes<'a>(table: &mut NameTable<'a>, object: &'a ObjectDef) -> Result<(), AllocError>
-    ensures { IfOk result (λ _. (n : List ℕ) → is_some (found table.new n)
-        ≡ (is_some (found table.old n) || lists_attribute object.now n)) }
+// Meets the names of an object's attributes.
+fn add_attributes<'a>(names: &mut SeenNames<'a>, object: &'a ObjectDef) -> Result<(), AllocError>
+    ensures { IfOk result (λ _. (n : List ℕ) → list_any (bytes_eq n) names.new
+        ≡ (list_any (bytes_eq n) names.old || lists_attribute object.now n)) }
 {
     let attributes = object.attributes();
-    for (i, attribute) in attributes.iter().enumerate() {
-        add(table, attribute.name.as_bytes(), i)?;
+    for attribute in attributes {
+        let _is_new = names.meet(attribute.name.as_bytes())?;
     }
     Ok(())
 }
 
-/// The table of the names of all attributes. The positions in it mean nothing.
-pub fn attribute_table<'a>(
-    alloc: Global,
-    objects: &'a [ObjectDef],
-) -> Result<NameTable<'a>, AllocError>
-    ensures { IfOk result (λ t. (n : List ℕ) → is_some (found t n)
+// The names of all attributes.
+fn attribute_names<'a>(alloc: Global, objects: &'a [ObjectDef]) -> Result<SeenNames<'a>, AllocError>
+    ensures { IfOk result (λ names. (n : List ℕ) → list_any (bytes_eq n) names
         ≡ list_any (λ o. lists_attribute o n) objects.now) }
 {
-    let mut table = NameTable {
-        positions: HashMap::new(alloc),
-    };
+    let mut names = SeenNames::new(alloc);
     for object in objects {
-        add_attributes(&mut table, object)?;
+        add_attributes(&mut names, object)?;
     }
-    Ok(table)
+    Ok(names)
 }
 
 /// The tables of a problem.
 pub fn tables_of(alloc: Global, problem: &Problem) -> Result<Tables<'_>, AllocError>
     ensures { IfOk result (λ t. AreTables problem.now t) }
 {
-    let objects = object_table(alloc, problem.objects())?;
-    let shapes = shape_table(alloc, problem.shapes())?;
-    let macros = macro_table(alloc, problem.macros())?;
-    let attributes = attribute_table(alloc, problem.objects())?;
+    problem.is_said();
+    let object_names = names_of(alloc, problem.objects())?;
+    let shape_names = names_of(alloc, problem.shapes())?;
+    let macro_names = names_of(alloc, problem.macros())?;
+    let attributes = attribute_names(alloc, problem.objects())?;
     Ok(Tables {
-        objects,
-        shapes,
-        macros,
+        objects: object_names,
+        shapes: shape_names,
+        macros: macro_names,
         attributes,
     })
 }

@@ -1,14 +1,19 @@
-use Rattle.std.proofs.Common.{◌∙◌, ap}
+use Rattle.std.proofs.Common.{List, map, ◌∙◌, ap}
 use Rattle.std.specs.List.{list_any, position}
 use Rattle.std.specs.Str.{bytes_eq}
+use Rattle.problem_data.specs.Problem.{ShapeData, ObjectData, MacroData}
+use Rattle.problem_data.specs.Seen.{met}
+use Rattle.problem_data.proofs.NamesMet.{shapes_met, objects_met, macros_met}
 use Rattle.rule_names.specs.Sight.{lists_attribute}
 use Rattle.rule_names.proofs.Tables.{position-map}
 use Rattle.rule_names.proofs.table.tables_of.Goals as goal
 
 pub returns : goal.returns
-returns c = record {
-  objects = λ n. c.in_ok-objects.ensures.at n ∙ position-map (λ m. bytes_eq n m) (λ o. o.name) c.objects.result.now ∙ ap (λ xs. position (λ o. bytes_eq n o.name) xs) c.objects.ensures;
-  shapes = λ n. c.in_ok-shapes.ensures.at n ∙ position-map (λ m. bytes_eq n m) (λ s. s.name) c.shapes.result.now ∙ ap (λ xs. position (λ s. bytes_eq n s.name) xs) c.shapes.ensures;
-  macros = λ n. c.in_ok-macros.ensures.at n ∙ position-map (λ m. bytes_eq n m) (λ m. m.name) c.macros.result.now ∙ ap (λ xs. position (λ m. bytes_eq n m.name) xs) c.macros.ensures;
-  attributes = λ n. c.in_ok-attributes.ensures n ∙ ap (list_any (λ o. lists_attribute o n)) c.objects-2.ensures;
-}
+returns c =
+    let p = c.args.problem.now in
+    record {
+      objects = λ n. ap (position (bytes_eq n)) (c.in_ok-object_names.ensures ∙ ap (λ (xs : List ObjectData). met (map (λ o. o.name) xs)) c.objects.ensures ∙ objects_met p c.is_said.ensures.said) ∙ position-map (bytes_eq n) (λ (o : ObjectData). o.name) p.objects;
+      shapes = λ n. ap (position (bytes_eq n)) (c.in_ok-shape_names.ensures ∙ ap (λ (xs : List ShapeData). met (map (λ s. s.name) xs)) c.shapes.ensures ∙ shapes_met p c.is_said.ensures.said) ∙ position-map (bytes_eq n) (λ (s : ShapeData). s.name) p.shapes;
+      macros = λ n. ap (position (bytes_eq n)) (c.in_ok-macro_names.ensures ∙ ap (λ (xs : List MacroData). met (map (λ m. m.name) xs)) c.macros.ensures ∙ macros_met p c.is_said.ensures.said) ∙ position-map (bytes_eq n) (λ (m : MacroData). m.name) p.macros;
+      attributes = λ n. c.in_ok-attributes.ensures n ∙ ap (list_any (λ o. lists_attribute o n)) c.objects-2.ensures;
+    }

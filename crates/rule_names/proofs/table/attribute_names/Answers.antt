@@ -1,7 +1,12 @@
-use Rattle.std.proofs.Common.{false, refl, arith}
+use Rattle.std.proofs.Common.{false, refl, ap, arith}
+use Rattle.std.specs.List.{list_any}
+use Rattle.std.specs.Str.{bytes_eq}
 use Rattle.rule_names.specs.Sight.{lists_attribute}
 use Rattle.rule_names.proofs.Attributes.{any-step, any-all}
-use Rattle.rule_names.proofs.table.attribute_table.Goals as goal
+use Rattle.rule_names.proofs.table.attribute_names.Goals as goal
+
+pub loop-object-init : goal.loop-object-init
+loop-object-init c = λ n. ap (list_any (bytes_eq n)) c.new-names.ensures
 
 pub loop-object-preserved : goal.loop-object-preserved
 loop-object-preserved c = λ n.
