@@ -22,7 +22,7 @@ use Rattle.fixpoint.specs.declared.links.Links.{Links}
 use Rattle.fixpoint.specs.Links.{PicksOf, NamedBy, is_among, row, AreLinks}
 use Rattle.fixpoint.specs.Near.{NearUnrefuted, Unhindered}
 use Rattle.fixpoint.specs.Kept.{Slots, IsBlank, AllStand, StandBut, Stand, RetriesMarked, StandsAlone}
-use Rattle.fixpoint.specs.Marks.{Rows, NamesUnmarked, IsCleared, MarksAt, NotesChanges}
+use Rattle.fixpoint.specs.Marks.{MarkRows, NamesUnmarked, IsCleared, MarksAt, NotesChanges}
 use Rattle.fixpoint.proofs.Names.{still_possible}
 use Rattle.fixpoint.proofs.Linking.{named_all, row_set_same, row_set_other, nth, each_named, or_first, or_second}
 
@@ -115,20 +115,20 @@ noted_one : {K : ℕ} (cs : List Cond) (S T : State) (o : ℕ) (before after : L
 noted_one cs S T o before after slots same h stay fresh f i q e m d hm nm un =
     still_possible (get_or cs m d) S T o q.place q.point.coordinates same h (λ u b ne nu. elim (fresh u b ne (un u nu)) [ inl y ↦ inl y | inr g ↦ inr (g m d hm nu nm) ]) (f i q e m d hm nm (λ u nu. stay u (un u nu)))
 
-pub stand_noted : {K : ℕ} (cs : List Cond) (S T : State) (before after : Rows) (kept : Slots K) → length S ≡ length T → AllStand cs S before kept → NotesChanges cs S T before after → AllStand cs T after kept
+pub stand_noted : {K : ℕ} (cs : List Cond) (S T : State) (before after : MarkRows) (kept : Slots K) → length S ≡ length T → AllStand cs S before kept → NotesChanges cs S T before after → AllStand cs T after kept
 stand_noted cs S T before after kept same f n o h =
     let hs : o < length S = omega (arith, h, same) in
     noted_one cs S T o (row before o) (row after o) (row kept o) same hs (λ u. n.stay o u) (λ u b ne. n.fresh o u hs b (λ e. ne (sym e))) (f o hs)
 
 -- an object whose row is cleared after what is kept of it was asked again
-pub stand_cleared : {K : ℕ} (cs : List Cond) (S : State) (o : ℕ) (before after : Rows) (old new : Slots K) → AllStand cs S before old → IsCleared o before after → StandsAlone cs S o old new → AllStand cs S after new
+pub stand_cleared : {K : ℕ} (cs : List Cond) (S : State) (o : ℕ) (before after : MarkRows) (old new : Slots K) → AllStand cs S before old → IsCleared o before after → StandsAlone cs S o old new → AllStand cs S after new
 stand_cleared {K} cs S o before after old new f c y u h = elim (cases_eq u o) [
   | inl s ↦ subst (λ (z : ℕ). StandBut cs S z (row after z) (row new z)) (sym s) (λ i q e m d hm nm un. y.itself i q e m d hm nm)
   | inr ne ↦ subst (λ (l : List Bool). StandBut cs S u l (row new u)) (sym (c.others u ne)) (subst (λ (l : List (Option (Placed K))). StandBut cs S u (row before u) l) (sym (y.others u ne)) (f u h))
 ]
 
 -- one object changed, and is marked at those that it may hinder
-pub stand_changed : {K : ℕ} (cs : List Cond) (S T : State) (o : ℕ) (before after : Rows) (old new : Slots K) → SameBut o S T → length before ≡ length S → AllStand cs S before old → StandsAlone cs T o old new → MarksAt (Unhindered cs T o) o before after → AllStand cs T after new
+pub stand_changed : {K : ℕ} (cs : List Cond) (S T : State) (o : ℕ) (before after : MarkRows) (old new : Slots K) → SameBut o S T → length before ≡ length S → AllStand cs S before old → StandsAlone cs T o old new → MarksAt (Unhindered cs T o) o before after → AllStand cs T after new
 stand_changed {K} cs S T o before after old new alone long f y m u h = elim (cases_eq u o) [
   | inl s ↦ subst (λ (z : ℕ). StandBut cs T z (row after z) (row new z)) (sym s) (λ i q e k d hm nm un. y.itself i q e k d hm nm)
   | inr ne ↦
@@ -140,7 +140,7 @@ stand_changed {K} cs S T o before after old new alone long f y m u h = elim (cas
 ]
 
 -- no object changed
-pub stand_same : {K : ℕ} (cs : List Cond) (S T : State) (o : ℕ) (marks : Rows) (old new : Slots K) → T ≡ S → AllStand cs S marks old → StandsAlone cs T o old new → AllStand cs T marks new
+pub stand_same : {K : ℕ} (cs : List Cond) (S T : State) (o : ℕ) (marks : MarkRows) (old new : Slots K) → T ≡ S → AllStand cs S marks old → StandsAlone cs T o old new → AllStand cs T marks new
 stand_same {K} cs S T o marks old new same f y u h = elim (cases_eq u o) [
   | inl s ↦ subst (λ (z : ℕ). StandBut cs T z (row marks z) (row new z)) (sym s) (λ i q e m d hm nm un. y.itself i q e m d hm nm)
   | inr ne ↦ subst (λ (l : List (Option (Placed K))). StandBut cs T u (row marks u) l) (sym (y.others u ne)) ((subst (λ (X : State). AllStand cs X marks old) (sym same) f) u h)
@@ -185,7 +185,7 @@ stands_alone {K} cs S o kept v h f = record {
 -- ---- at the start
 
 -- nothing stands in the way where nothing is kept
-pub blank_stands : {K : ℕ} (cs : List Cond) (S : State) (marks : Rows) (kept : Slots K) → IsBlank kept → AllStand cs S marks kept
+pub blank_stands : {K : ℕ} (cs : List Cond) (S : State) (marks : MarkRows) (kept : Slots K) → IsBlank kept → AllStand cs S marks kept
 blank_stands cs S marks kept f o h i q e = let n = f o i in absurd (cc)
 
 pub blank_more : {K : ℕ} (xs : List (Option (Placed K))) → ((i : ℕ) → get_or xs i None ≡ None) → (i : ℕ) → get_or (xs ++ None ∷ []) i None ≡ None

@@ -8,7 +8,7 @@ use Rattle.geo_conditions.specs.Reach.{State, reach}
 use Rattle.fixpoint.specs.declared.links.Links.{Links}
 use Rattle.geo_conditions.specs.declared.object.ObjId.{ObjId}
 use Rattle.fixpoint.specs.Links.{AreLinks, row, is_among}
-use Rattle.fixpoint.specs.Marks.{Rows, is_marked, IsSquare, MarksAt, NotesChanges}
+use Rattle.fixpoint.specs.Marks.{MarkRows, is_marked, IsSquare, MarksAt, NotesChanges}
 use Rattle.fixpoint.specs.Near.{Unhinders, Unhindered}
 use Rattle.fixpoint.specs.Queue.{Queues, CatchesUp}
 use Rattle.fixpoint.proofs.Linking.{row_set_same, row_set_other, row_before, row_last, length_more, nth, each_named, among_not}
@@ -49,19 +49,19 @@ queues_one u o q h ne = record {
 
 -- ---- what is marked
 
-pub marks_none : (Free : ℕ → Type 0) (u : ℕ) (marks : Rows) → ((o : ℕ) → o ≢ u → o < length marks → Free o) → MarksAt Free u marks marks
+pub marks_none : (Free : ℕ → Type 0) (u : ℕ) (marks : MarkRows) → ((o : ℕ) → o ≢ u → o < length marks → Free o) → MarksAt Free u marks marks
 marks_none Free u marks f = record { stay = λ o v e. e; fresh = λ o n h e. f o n h }
 
-pub marks_weaker : (Free More : ℕ → Type 0) (u : ℕ) (old new : Rows) → ((o : ℕ) → o ≢ u → o < length old → Free o → More o) → MarksAt Free u old new → MarksAt More u old new
+pub marks_weaker : (Free More : ℕ → Type 0) (u : ℕ) (old new : MarkRows) → ((o : ℕ) → o ≢ u → o < length old → Free o → More o) → MarksAt Free u old new → MarksAt More u old new
 marks_weaker Free More u old new f m = record { stay = m.stay; fresh = λ o n h e. f o n h (m.fresh o n h e) }
 
-pub marks_both : (First Second Both : ℕ → Type 0) (u : ℕ) (old mid new : Rows) → length mid ≡ length old → ((o : ℕ) → First o → Second o → Both o) → MarksAt First u old mid → MarksAt Second u mid new → MarksAt Both u old new
+pub marks_both : (First Second Both : ℕ → Type 0) (u : ℕ) (old mid new : MarkRows) → length mid ≡ length old → ((o : ℕ) → First o → Second o → Both o) → MarksAt First u old mid → MarksAt Second u mid new → MarksAt Both u old new
 marks_both First Second Both u old mid new long f p q = record {
   stay = λ o v e. p.stay o v (q.stay o v e);
   fresh = λ o n h e. f o (p.fresh o n h (q.stay o u e)) (q.fresh o n (omega (arith, h, long)) e);
 }
 
-module _ (u o : ℕ) (marks : Rows) (v : Vec Bool Global) (h : o < length marks) (b : u < length (row marks o)) (items : v.items ≡ set (row marks o) u true) where
+module _ (u o : ℕ) (marks : MarkRows) (v : Vec Bool Global) (h : o < length marks) (b : u < length (row marks o)) (items : v.items ≡ set (row marks o) u true) where
   put_row : (w : ℕ) → is_marked (set marks o v) o w ≡ get_or (set (row marks o) u true) w false
   put_row w = ap (λ (l : List Bool). get_or l w false) (row_set_same marks o v h ∙ items)
 
@@ -84,7 +84,7 @@ module _ (u o : ℕ) (marks : Rows) (v : Vec Bool Global) (h : o < length marks)
   }
 
 -- a row is replaced by one as long
-pub square_put : (n o : ℕ) (marks : Rows) (v : Vec Bool Global) → o < length marks → length v.items ≡ n → IsSquare n marks → IsSquare n (set marks o v)
+pub square_put : (n o : ℕ) (marks : MarkRows) (v : Vec Bool Global) → o < length marks → length v.items ≡ n → IsSquare n marks → IsSquare n (set marks o v)
 square_put n o marks v h long s = record {
   rows = length-set marks o v ∙ s.rows;
   each = λ p b. elim (cases_eq p o) [
@@ -96,12 +96,12 @@ square_put n o marks v h long s = record {
 -- ---- the loop over the objects that a condition names
 
 -- what is so once the objects of the list were marked
-pub record Marked (u : ℕ) (list : List ObjId) (old new : List Bool) (before after : Rows) : Type 0 where
+pub record Marked (u : ℕ) (list : List ObjId) (old new : List Bool) (before after : MarkRows) : Type 0 where
   pub queued : Queues (λ o. is_among o list ≡ false) u old new
   pub marked : MarksAt (λ o. is_among o list ≡ false) u before after
   pub square : IsSquare (length old) after
 
-pub marked_put : (u : ℕ) (list : List ObjId) (o : ObjId) (old q : List Bool) (before marks : Rows) (v : Vec Bool Global) → o.0 < length q → o.0 ≢ u → o.0 < length marks → u < length (row marks o.0) → v.items ≡ set (row marks o.0) u true → length v.items ≡ length old
+pub marked_put : (u : ℕ) (list : List ObjId) (o : ObjId) (old q : List Bool) (before marks : MarkRows) (v : Vec Bool Global) → o.0 < length q → o.0 ≢ u → o.0 < length marks → u < length (row marks o.0) → v.items ≡ set (row marks o.0) u true → length v.items ≡ length old
     → Queues (λ p. is_among p list ≡ false) u old q → MarksAt (λ p. is_among p list ≡ false) u before marks → IsSquare (length old) marks → length marks ≡ length before → Marked u (list ++ o ∷ []) old (set q o.0 true) before (set marks o.0 v)
 marked_put u list o old q before marks v b ne h inside items long x y z rows = record {
   queued = queues_both _ _ _ u old q (set q o.0 true) (λ p f n. among_not p list o f n) x (queues_one u o.0 q b ne);
@@ -109,7 +109,7 @@ marked_put u list o old q before marks v b ne h inside items long x y z rows = r
   square = square_put (length old) o.0 marks v h long z;
 }
 
-pub marked_skip : (u : ℕ) (list : List ObjId) (o : ObjId) (old q : List Bool) (before marks : Rows) → o.0 ≡ u → Queues (λ p. is_among p list ≡ false) u old q → MarksAt (λ p. is_among p list ≡ false) u before marks → IsSquare (length old) marks → Marked u (list ++ o ∷ []) old q before marks
+pub marked_skip : (u : ℕ) (list : List ObjId) (o : ObjId) (old q : List Bool) (before marks : MarkRows) → o.0 ≡ u → Queues (λ p. is_among p list ≡ false) u old q → MarksAt (λ p. is_among p list ≡ false) u before marks → IsSquare (length old) marks → Marked u (list ++ o ∷ []) old q before marks
 marked_skip u list o old q before marks e x y z = record {
   queued = queues_weaker _ _ u old q (λ p n h f. among_not p list o f (λ s. n (s ∙ e))) x;
   marked = marks_weaker _ _ u before marks (λ p n h f. among_not p list o f (λ s. n (s ∙ e))) y;
@@ -117,7 +117,7 @@ marked_skip u list o old q before marks e x y z = record {
 }
 
 -- the rows are made one by one
-pub rows_more : (n k : ℕ) (marks : Rows) (v : Vec Bool Global) → length v.items ≡ n → (length marks ≡ k) × ((o : ℕ) → o < k → length (row marks o) ≡ n)
+pub rows_more : (n k : ℕ) (marks : MarkRows) (v : Vec Bool Global) → length v.items ≡ n → (length marks ≡ k) × ((o : ℕ) → o < k → length (row marks o) ≡ n)
     → (length (marks ++ v ∷ []) ≡ k + 1) × ((o : ℕ) → o < k + 1 → length (row (marks ++ v ∷ []) o) ≡ n)
 rows_more n k marks v long m = (
   length_more marks v ∙ ap (λ (z : ℕ). z + 1) m.0,
@@ -191,20 +191,20 @@ caught_end cs k S T old new e h c = record {
 }
 
 -- of the objects below k each that differs is marked at those that it may hinder
-pub record NotedBelow (cs : List Cond) (k : ℕ) (S T : State) (old new : Rows) : Type 0 where
+pub record NotedBelow (cs : List Cond) (k : ℕ) (S T : State) (old new : MarkRows) : Type 0 where
   pub stay : (o v : ℕ) → is_marked new o v ≡ false → is_marked old o v ≡ false
   pub fresh : (o u : ℕ) → o < length S → u < k → o ≢ u → is_marked new o u ≡ false → (reach S u ≡ reach T u) ⊎ Unhindered cs T u o
 
-pub noted_start : (cs : List Cond) (S T : State) (marks : Rows) → NotedBelow cs 0 S T marks marks
+pub noted_start : (cs : List Cond) (S T : State) (marks : MarkRows) → NotedBelow cs 0 S T marks marks
 noted_start cs S T marks = record { stay = λ o v e. e; fresh = λ o u h b ne e. absurd (omega arith) }
 
-pub noted_same : (cs : List Cond) (k : ℕ) (S T : State) (old marks : Rows) → NotedBelow cs k S T old marks → reach S k ≡ reach T k → NotedBelow cs (k + 1) S T old marks
+pub noted_same : (cs : List Cond) (k : ℕ) (S T : State) (old marks : MarkRows) → NotedBelow cs k S T old marks → reach S k ≡ reach T k → NotedBelow cs (k + 1) S T old marks
 noted_same cs k S T old marks n same = record {
   stay = n.stay;
   fresh = λ o u h b ne e. elim (cases_eq u k) [ inl i ↦ inl (subst (λ (z : ℕ). reach S z ≡ reach T z) (sym i) same) | inr m ↦ n.fresh o u h (omega (arith, b, m)) ne e ];
 }
 
-pub noted_more : (cs : List Cond) (k : ℕ) (S T : State) (old marks new : Rows) → NotedBelow cs k S T old marks → length marks ≡ length S → MarksAt (Unhindered cs T k) k marks new → NotedBelow cs (k + 1) S T old new
+pub noted_more : (cs : List Cond) (k : ℕ) (S T : State) (old marks new : MarkRows) → NotedBelow cs k S T old marks → length marks ≡ length S → MarksAt (Unhindered cs T k) k marks new → NotedBelow cs (k + 1) S T old new
 noted_more cs k S T old marks new n long m = record {
   stay = λ o v e. n.stay o v (m.stay o v e);
   fresh = λ o u h b ne e. elim (cases_eq u k) [
@@ -213,5 +213,5 @@ noted_more cs k S T old marks new n long m = record {
   ];
 }
 
-pub noted_end : (cs : List Cond) (k : ℕ) (S T : State) (old new : Rows) → length S ≤ k → NotedBelow cs k S T old new → NotesChanges cs S T old new
+pub noted_end : (cs : List Cond) (k : ℕ) (S T : State) (old new : MarkRows) → length S ≤ k → NotedBelow cs k S T old new → NotesChanges cs S T old new
 noted_end cs k S T old new h n = record { stay = n.stay; fresh = λ o u a b ne e. n.fresh o u a (omega (arith, b, h)) ne e }

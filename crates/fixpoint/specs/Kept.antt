@@ -11,7 +11,7 @@ use Rattle.indexical.specs.Names.{names}
 use Rattle.object_pruning.specs.declared.kept.Placed.{Placed}
 use Rattle.object_pruning.specs.Kept.{placed}
 use Rattle.fixpoint.specs.Links.{row}
-use Rattle.fixpoint.specs.Marks.{Rows, NamesUnmarked}
+use Rattle.fixpoint.specs.Marks.{MarkRows, NamesUnmarked}
 use Rattle.fixpoint.specs.Near.{NearUnrefuted}
 
 -- the slots of each object
@@ -35,7 +35,7 @@ abbrev pub StandBut : {K : ℕ} → List Cond → State → ℕ → List Bool �
 StandBut {K} cs S o marks slots = (i : ℕ) (q : Placed K) → slice_index_or slots i None ≡ Some q → UnmarkedUnrefuted cs (placed S o q) marks o
 
 -- so it is of each object with its row of marks
-abbrev pub AllStand : {K : ℕ} → List Cond → State → Rows → Slots K → Type 0
+abbrev pub AllStand : {K : ℕ} → List Cond → State → MarkRows → Slots K → Type 0
 AllStand cs S marks kept = (o : ℕ) → o < length S → StandBut cs S o (row marks o) (row kept o)
 
 -- with the object at what is kept in its slots, no condition that names it is refuted

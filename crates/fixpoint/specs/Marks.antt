@@ -9,25 +9,25 @@ use Rattle.fixpoint.specs.Links.{row}
 use Rattle.fixpoint.specs.Near.{Unhindered}
 
 -- a row of marks for each object
-abbrev pub Rows : Type 0
-Rows = List (Vec Bool Global)
+abbrev pub MarkRows : Type 0
+MarkRows = List (Vec Bool Global)
 
 -- whether the object u is marked in the row of o
-abbrev pub is_marked : Rows → ℕ → ℕ → Bool
+abbrev pub is_marked : MarkRows → ℕ → ℕ → Bool
 is_marked marks o u = slice_index_or (row marks o) u false
 
 -- n rows of n marks
-pub record IsSquare (n : ℕ) (marks : Rows) : Type 0 where
+pub record IsSquare (n : ℕ) (marks : MarkRows) : Type 0 where
   pub rows : length marks ≡ n
   pub each : (o : ℕ) → o < n → length (row marks o) ≡ n
 
 -- u is marked at each object, but u and those that are free; what was marked is marked still
-pub record MarksAt (Free : ℕ → Type 0) (u : ℕ) (old new : Rows) : Type 0 where
+pub record MarksAt (Free : ℕ → Type 0) (u : ℕ) (old new : MarkRows) : Type 0 where
   pub stay : (o v : ℕ) → is_marked new o v ≡ false → is_marked old o v ≡ false
   pub fresh : (o : ℕ) → o ≢ u → o < length old → is_marked new o u ≡ false → Free o
 
 -- each object that differs in the two states is marked at each other one that it may hinder; what was marked is marked still
-pub record NotesChanges (cs : List Cond) (S T : State) (old new : Rows) : Type 0 where
+pub record NotesChanges (cs : List Cond) (S T : State) (old new : MarkRows) : Type 0 where
   pub stay : (o v : ℕ) → is_marked new o v ≡ false → is_marked old o v ≡ false
   pub fresh : (o u : ℕ) → o < length S → u < length S → o ≢ u → is_marked new o u ≡ false → (reach S u ≡ reach T u) ⊎ Unhindered cs T u o
 
@@ -36,6 +36,6 @@ abbrev pub NamesUnmarked : List Bool → Cond → Type 0
 NamesUnmarked marks c = (u : ℕ) → names u c ≡ true → slice_index_or marks u false ≡ false
 
 -- no object is marked in the row of o, and the other rows are as they were
-pub record IsCleared (o : ℕ) (old new : Rows) : Type 0 where
+pub record IsCleared (o : ℕ) (old new : MarkRows) : Type 0 where
   pub itself : (u : ℕ) → is_marked new o u ≡ false
   pub others : (u : ℕ) → u ≢ o → row new u ≡ row old u

@@ -2,7 +2,7 @@ use Rattle.std.proofs.Common.{◌≡◌, ◌<◌, ◌+◌, true, ℕ, map, set, 
 use Rattle.std.proofs.Math.ListN.{length-set}
 use Rattle.indexical.specs.declared.any.AnyIndexical.{AnyIndexical}
 use Rattle.fixpoint.specs.Links.{AreLinks}
-use Rattle.fixpoint.specs.Marks.{Rows, IsSquare}
+use Rattle.fixpoint.specs.Marks.{MarkRows, IsSquare}
 use Rattle.fixpoint.proofs.Woken.{CaughtBelow, caught_start, caught_same, caught_more, caught_end, NotedBelow, noted_start, noted_same, noted_more, noted_end}
 use Rattle.fixpoint.proofs.differences.queue_changed.Goals as goal
 use Rattle.fixpoint.proofs.differences.queue_changed.Goals.{then-not-is_same, else-not-is_same}
@@ -43,14 +43,14 @@ loop-u-preserved g c =
           record {
             caught = subst (CaughtBelow cs (u + 1) S T old) (sym w.queued-is) (caught_more cs u S T old q w.wake.new.queued i.caught (omega (arith, c.loop-u-test.true, c.loop-u.auto.queued)) w.wake.ensures.queued);
             noted = subst (NotedBelow cs (u + 1) S T c.args.dirty.now) (sym w.dirty-is) (noted_more cs u S T c.args.dirty.now c.loop-u.dirty w.wake.new.dirty i.noted rows w.wake.ensures.marked);
-            square = subst (λ (ms : Rows). IsSquare (length old) ms) (sym w.dirty-is) (subst (λ (n : ℕ). IsSquare n w.wake.new.dirty) long w.wake.ensures.square);
+            square = subst (λ (ms : MarkRows). IsSquare (length old) ms) (sym w.dirty-is) (subst (λ (n : ℕ). IsSquare n w.wake.new.dirty) long w.wake.ensures.square);
           }
       | else-not-is_same w ↦
           let same = c.is_same.ensures.0 w.if-not-is_same.false in
           record {
             caught = subst (CaughtBelow cs (u + 1) S T old) (sym w.queued-is) (caught_same cs u S T old q i.caught same);
             noted = subst (NotedBelow cs (u + 1) S T c.args.dirty.now) (sym w.dirty-is) (noted_same cs u S T c.args.dirty.now c.loop-u.dirty i.noted same);
-            square = subst (λ (ms : Rows). IsSquare (length old) ms) (sym w.dirty-is) i.square;
+            square = subst (λ (ms : MarkRows). IsSquare (length old) ms) (sym w.dirty-is) i.square;
           }
     ]
 

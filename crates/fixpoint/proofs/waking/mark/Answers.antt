@@ -4,7 +4,7 @@ use Rattle.std.proofs.Math.ListN.{length-set}
 use Rattle.std.specs.Vec.{with_items}
 use Rattle.geo_conditions.specs.declared.object.ObjId.{ObjId}
 use Rattle.fixpoint.specs.Links.{is_among, row}
-use Rattle.fixpoint.specs.Marks.{Rows, MarksAt}
+use Rattle.fixpoint.specs.Marks.{MarkRows, MarksAt}
 use Rattle.fixpoint.specs.Queue.{Queues}
 use Rattle.fixpoint.proofs.Linking.{row_get}
 use Rattle.fixpoint.proofs.Woken.{Marked, marked_put, marked_skip, queues_none, marks_none}
@@ -55,11 +55,11 @@ loop-o-preserved c =
           let back : (with_items was now).items ≡ now = with_items_is was now (omega (arith, long, was.ok.0)) in
           let inside : u < length (row marks o.0) = omega (arith, c.requires.object, wide) in
           subst (λ (xs : List Bool). Marked u (take i list ++ o ∷ []) c.args.queued.now xs c.args.dirty.now c.if-o-u.dirty) (sym w.queued-is) (
-          subst (λ (ms : Rows). Marked u (take i list ++ o ∷ []) c.args.queued.now (set q o.0 true) c.args.dirty.now ms) (sym w.dirty-is)
+          subst (λ (ms : MarkRows). Marked u (take i list ++ o ∷ []) c.args.queued.now (set q o.0 true) c.args.dirty.now ms) (sym w.dirty-is)
           (marked_put u (take i list) o c.args.queued.now q c.args.dirty.now marks (with_items was now) b w.if-o-u.true h inside (back ∙ items) (ap length (back ∙ items) ∙ length-set (row marks o.0) u true ∙ wide) m.queued m.marked m.square c.loop-o.auto.dirty))
       | else-o-u w ↦
           subst (λ (xs : List Bool). Marked u (take i list ++ o ∷ []) c.args.queued.now xs c.args.dirty.now c.if-o-u.dirty) (sym w.queued-is) (
-          subst (λ (ms : Rows). Marked u (take i list ++ o ∷ []) c.args.queued.now q c.args.dirty.now ms) (sym w.dirty-is)
+          subst (λ (ms : MarkRows). Marked u (take i list ++ o ∷ []) c.args.queued.now q c.args.dirty.now ms) (sym w.dirty-is)
           (marked_skip u (take i list) o c.args.queued.now q c.args.dirty.now marks w.if-o-u.false m.queued m.marked m.square))
     ])
 

@@ -8,7 +8,7 @@ use Rattle.geo_state.specs.Settle.{BlamesFirst, Records}
 use Rattle.indexical.specs.declared.any.AnyIndexical.{AnyIndexical}
 use Rattle.fixpoint.specs.Links.{AreLinks}
 use Rattle.fixpoint.specs.Kept.{Slots, AllStand}
-use Rattle.fixpoint.specs.Marks.{Rows, IsSquare}
+use Rattle.fixpoint.specs.Marks.{MarkRows, IsSquare}
 use Rattle.fixpoint.specs.Queue.{RestFine}
 use Rattle.fixpoint.proofs.Stable.{rest_of}
 use Rattle.fixpoint.proofs.propagation.FixpointPropagate.settle.Goals as goal
@@ -38,7 +38,7 @@ settle-requires g c =
     let square : IsSquare (length q) noted = subst (λ (n : ℕ). IsSquare n noted) (sym (ap length marks)) (subst (IsSquare (length self.queued.items)) (sym rows) self.square) in
     let stand : AllStand cs self.last noted kept =
     subst (λ (l : List (AnyIndexical g.row.K)). AllStand (map f l) self.last noted kept) (sym same)
-    (subst (λ (ms : Rows). AllStand (map f self.list.items) self.last ms kept) (sym rows) (subst (λ (vs : Slots g.row.K). AllStand (map f self.list.items) self.last self.dirty.items vs) (sym points) self.stand)) in
+    (subst (λ (ms : MarkRows). AllStand (map f self.list.items) self.last ms kept) (sym rows) (subst (λ (vs : Slots g.row.K). AllStand (map f self.list.items) self.last self.dirty.items vs) (sym points) self.stand)) in
     let some : 0 < g.row.K = self.dims.0 in
     search rules
 
@@ -78,7 +78,7 @@ invariant_of-self g c =
     let square : IsSquare (length (with_items self.queued new).items) (with_items self.dirty noted).items =
     subst (IsSquare (length (with_items self.queued new).items)) (sym square_back) (subst (λ (n : ℕ). IsSquare n noted) (sym c.settle.auto.queued ∙ sym (ap length back)) c.settle.ensures.square) in
     let stand : AllStand cs c.settle.new.last (with_items self.dirty noted).items (with_items self.kept slots).items =
-    subst (λ (ms : Rows). AllStand cs c.settle.new.last ms (with_items self.kept slots).items) (sym square_back)
+    subst (λ (ms : MarkRows). AllStand cs c.settle.new.last ms (with_items self.kept slots).items) (sym square_back)
     (subst (λ (vs : Slots g.row.K). AllStand cs c.settle.new.last noted vs) (sym whole) (subst (λ (l : List (AnyIndexical g.row.K)). AllStand (map f l) c.settle.new.last noted slots) same c.settle.ensures.stand)) in
     let marks : length self.queued.items ≡ length (with_items self.queued new).items = sym (ap length back ∙ long) in
     record {
