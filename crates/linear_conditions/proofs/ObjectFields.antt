@@ -10,17 +10,18 @@ use Rattle.rule_values.specs.Fields.{attribute_at, field_at}
 use Rattle.rule_values.specs.declared.fields.ObjectField.{ObjectField}
 use Rattle.rule_values.specs.declared.fields.ObjectField.TheVariants.{Coordinate, Shape, Constant}
 use Rattle.linear_conditions.specs.Fixings.{Fixing, place_of}
-use Rattle.linear_conditions.specs.Forms.{constant_sum, coordinate_sum, number_at, object_sum}
+use Rattle.linear_conditions.specs.Forms.{constant_sum, coordinate_sum, object_sum}
+use Rattle.rule_values.specs.Shapes.{shape_number_at}
 
 -- the form of what a field is
 abbrev pub sum_at : ProblemData → List Fixing → ℕ → ObjectField → Sum
 sum_at p fix o (Coordinate d) = coordinate_sum p o d
-sum_at p fix o Shape = constant_sum (number_at p o (place_of fix o))
+sum_at p fix o Shape = constant_sum (shape_number_at p o (place_of fix o))
 sum_at p fix o (Constant z) = constant_sum z
 
 module _ (p : ProblemData) (fix : List Fixing) (o : ℕ) where
   by-name : (z : ℤ) (id sid : Bool) (d : Option ℕ) → sum_at p fix o (if id then Constant (pos (o + 1)) else if sid then Shape else option_map_or Coordinate d (Constant z))
-      ≡ (if id then constant_sum (pos (o + 1)) else if sid then constant_sum (number_at p o (place_of fix o)) else option_map_or (coordinate_sum p o) d (constant_sum z))
+      ≡ (if id then constant_sum (pos (o + 1)) else if sid then constant_sum (shape_number_at p o (place_of fix o)) else option_map_or (coordinate_sum p o) d (constant_sum z))
   by-name z true sid d = refl
   by-name z false true d = refl
   by-name z false false None = refl

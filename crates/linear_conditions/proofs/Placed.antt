@@ -15,7 +15,8 @@ use Rattle.rule_expand.specs.Plain.{PlainExprTree, number, field, shape_number, 
 use Rattle.rule_expand.specs.PlainTruth.{PlainEnv, subject_in}
 use Rattle.linear_conditions.specs.Fixings.{Fixing, place_of}
 use Rattle.linear_conditions.specs.Sums.{is_zero, term, unless_zero, same_coordinate, is_before, add_at, add_terms, scale_terms, scale, constant_sum, has_terms, times_sum}
-use Rattle.linear_conditions.specs.Forms.{coordinate_sum, number_at, field_sum, sum_of_expr, sum_step, sums_added, product_step, products_taken}
+use Rattle.linear_conditions.specs.Forms.{coordinate_sum, field_sum, sum_of_expr, sum_step, sums_added, product_step, products_taken}
+use Rattle.rule_values.specs.Shapes.{shape_number_at}
 use Rattle.linear_conditions.proofs.Ordered.{IsOrdered, add_terms-ordered, scale-ordered, times-ordered}
 
 -- each term names an object below n and a dimension below k
@@ -86,7 +87,7 @@ module _ (p : ProblemData) where
   pub field-placed : (fix : List Fixing) (n : List ℕ) (x : Thing) → IsPlaced p (field_sum p fix n x)
   field-placed fix n (Number z) = (tt, tt)
   field-placed fix n (Object o) =
-      object-placed o n (pos (o + 1)) (number_at p o (place_of fix o)) (attribute_in n (object_of p o).attributes) (bytes_eq n (codes "id")) (bytes_eq n (codes "sid"))
+      object-placed o n (pos (o + 1)) (shape_number_at p o (place_of fix o)) (attribute_in n (object_of p o).attributes) (bytes_eq n (codes "id")) (bytes_eq n (codes "sid"))
   field-placed fix n (Part b) = (tt, tt)
 
   module _ (env : PlainEnv) (fix : List Fixing) where

@@ -22,7 +22,8 @@ use Rattle.rule_expand.specs.PlainTruth.{PlainEnv, subject_in, plain_value, plai
 use Rattle.rule_expand.specs.Degree.{has_coordinate, sum_has, sums_have, product_has, products_have, expr_breaks, sum_breaks, sums_break, product_breaks, products_break}
 use Rattle.linear_conditions.specs.Fixings.{Fixing, place_of}
 use Rattle.linear_conditions.specs.Sums.{term, add_sums, scale, constant_sum, has_terms, times_sum}
-use Rattle.linear_conditions.specs.Forms.{coordinate_sum, number_at, field_sum, sum_of_expr, sum_step, sums_added, product_step, products_taken}
+use Rattle.linear_conditions.specs.Forms.{coordinate_sum, field_sum, sum_of_expr, sum_step, sums_added, product_step, products_taken}
+use Rattle.rule_values.specs.Shapes.{shape_number_at}
 use Rattle.linear_conditions.specs.Settled.{same_subject, is_sid, expr_needs, sum_needs, sums_need, product_needs, products_need, IsSettled, IsCovered}
 use Rattle.linear_conditions.proofs.SumLaws.{number_on, add_sums-value, constant-value, negated-value, one-value, bare-value, times_sum-value}
 
@@ -65,7 +66,7 @@ bare-object p o n x y z false false h = bare-choice p o z (coordinate_of n) h
 bare-field : (p : ProblemData) (fix : List Fixing) (n : List ℕ) (x : Thing) → is_some (coordinate_of n) ≡ false → has_terms (field_sum p fix n x) ≡ false
 bare-field p fix n (Number z) h = refl
 bare-field p fix n (Object o) h =
-    bare-object p o n (pos (o + 1)) (number_at p o (place_of fix o)) (attribute_in n (object_of p o).attributes) (bytes_eq n (codes "id")) (bytes_eq n (codes "sid")) h
+    bare-object p o n (pos (o + 1)) (shape_number_at p o (place_of fix o)) (attribute_in n (object_of p o).attributes) (bytes_eq n (codes "id")) (bytes_eq n (codes "sid")) h
 bare-field p fix n (Part b) h = refl
 
 mutual
@@ -203,7 +204,7 @@ pub field-value : (p : ProblemData) (t : Tuple) (fix : List Fixing) (n : List �
     value (field_sum p fix n x) t ≡ field_value p t x n
 field-value p t fix n (Number z) h k = constant-value (pos 0) t
 field-value p t fix n (Object o) h k =
-    object-by p t o n (pos (o + 1)) (number_at p o (place_of fix o)) (shape_number_in p t o) (attribute_in n (object_of p o).attributes) (bytes_eq n (codes "id")) (bytes_eq n (codes "sid")) h
+    object-by p t o n (pos (o + 1)) (shape_number_at p o (place_of fix o)) (shape_number_in p t o) (attribute_in n (object_of p o).attributes) (bytes_eq n (codes "id")) (bytes_eq n (codes "sid")) h
     (λ e. ap (λ (s : Option ℕ). option_map_or (λ i. pos (i + 1)) s (pos 0)) (sym (k e)))
 field-value p t fix n (Part b) h k = constant-value (box_field b n) t
 

@@ -1,5 +1,5 @@
 -- The linear form of an expression in the coordinates of the objects.
-use Rattle.std.specs.Prelude.{ℕ, ◌+◌, ◌-◌, ◌==◌, ◌&&◌, nat_lt, Bool, true, if◌then◌else◌, List, [], ◌∷◌, length, ℤ, pos, negsuc, slice_get, codes, Option, None}
+use Rattle.std.specs.Prelude.{ℕ, ◌+◌, ◌&&◌, nat_lt, Bool, true, if◌then◌else◌, List, [], ◌∷◌, length, pos, negsuc, codes}
 use Rattle.std.specs.Option.{option_map_or}
 use Rattle.std.specs.Int.{int_min, int_max, int_div_euclid, int_rem_euclid}
 use Rattle.std.specs.Str.{bytes_eq}
@@ -9,6 +9,7 @@ use Rattle.problem_data.specs.Tuple.{object_of}
 use Rattle.problem_data.specs.Value.{Thing, Number, Object, Part, coordinate_of, attribute_in, box_field}
 use Rattle.rule_expand.specs.Plain.{PlainExprTree, number, field, shape_number, negative, sum, product, least, greatest, PlainSumTree, plus, minus, PlainSums, no_sums, a_sum, PlainProductTree, times, over, modulo, PlainProducts, no_products, a_product}
 use Rattle.rule_expand.specs.PlainTruth.{PlainEnv, subject_in}
+use Rattle.rule_values.specs.Shapes.{shape_number_at}
 use Rattle.linear_conditions.specs.Fixings.{Fixing, place_of}
 pub use Rattle.linear_conditions.specs.Sums.{is_zero, term, add_at, add_terms, add_sums, scale, constant_sum, has_terms, is_bounded, fits_sum, times_sum}
 
@@ -19,18 +20,10 @@ coordinate_sum p o d =
     then record { terms = term o d (pos 1) ∷ []; constant = pos 0 }
     else constant_sum (pos 0)
 
--- the shape at a place of an object's list, by its position among all shapes
-abbrev pub shape_at : ProblemData → ℕ → ℕ → Option ℕ
-shape_at p o place = if place == 0 then None else slice_get (object_of p o).shapes (place - 1)
-
--- the number of that shape, from 1 in file order; 0 where there is none
-abbrev pub number_at : ProblemData → ℕ → ℕ → ℤ
-number_at p o place = option_map_or (λ s. pos (s + 1)) (shape_at p o place) (pos 0)
-
 abbrev pub object_sum : ProblemData → List Fixing → ℕ → List ℕ → Sum
 object_sum p fix o n =
     if bytes_eq n (codes "id") then constant_sum (pos (o + 1)) else
-    if bytes_eq n (codes "sid") then constant_sum (number_at p o (place_of fix o)) else
+    if bytes_eq n (codes "sid") then constant_sum (shape_number_at p o (place_of fix o)) else
     option_map_or (coordinate_sum p o) (coordinate_of n) (constant_sum (attribute_in n (object_of p o).attributes))
 
 -- a field of an object or a box; a number has none

@@ -9,7 +9,7 @@ use Rattle.rule_expand.specs.declared.plain.Subject.TheVariants as subjects
 use Rattle.rule_expand.specs.Plain.{PlainExprTree, number, field, shape_number, negative, sum, product, least, greatest, PlainSumTree, plus, minus, PlainSums, no_sums, a_sum, PlainProductTree, times, over, modulo, PlainProducts, no_products, a_product}
 use Rattle.rule_expand.specs.PlainTruth.{PlainEnv, subject_in}
 use Rattle.linear_conditions.specs.Fixings.{Fixing, fixed_place, place_of}
-use Rattle.linear_conditions.specs.Forms.{shape_at}
+use Rattle.rule_values.specs.Shapes.{shape_at}
 
 abbrev pub same_subject : Subject → Subject → Bool
 same_subject (subjects.Variable m) (subjects.Variable n) = m == n

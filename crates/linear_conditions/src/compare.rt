@@ -74,10 +74,8 @@ fn counted(alloc: Global, leaves: &Leaves, counter: &mut Counter) -> Result<Cond
     if !leaves.fit() {
         return Err(GroundFault::Overflow);
     }
-    match counter.visit_leaves(leaves) {
-        Ok(()) => Ok(fold_leaves(alloc, leaves)?),
-        Err(e) => Err(e),
-    }
+    counter.visit_leaves(leaves)?;
+    Ok(fold_leaves(alloc, leaves)?)
 }
 
 /// The condition that a difference stands in a relation to 0.
@@ -111,8 +109,6 @@ pub fn compare(
         (env_view env.now) (fixings_view fixings.now) counter.old in
         MatchResult result (λ c. o ≡ Done (cond_view c) counter.new) (λ e. IsFault CondTree o e) }
 {
-    match difference(alloc, problem, a, b, &*env, &*fixings) {
-        Ok(f) => related_to_zero(alloc, rel, f, counter),
-        Err(e) => Err(e),
-    }
+    let f = difference(alloc, problem, a, b, &*env, &*fixings)?;
+    related_to_zero(alloc, rel, f, counter)
 }

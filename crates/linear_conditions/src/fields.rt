@@ -2,7 +2,8 @@
 
 ghost use Rattle.std.specs.Prelude.{◌≡◌, IfOk};
 ghost use Rattle.linear_conditions.specs.Fixings.{place_of};
-ghost use Rattle.linear_conditions.specs.Forms.{constant_sum, coordinate_sum, field_sum, number_at, object_sum};
+ghost use Rattle.linear_conditions.specs.Forms.{constant_sum, coordinate_sum, field_sum, object_sum};
+ghost use Rattle.rule_values.specs.Shapes.{shape_number_at};
 ghost use Rattle.linear_conditions.specs.Views.{fixings_view, wide_view};
 ghost use Rattle.rule_values.specs.View.{thing_view};
 
@@ -36,7 +37,7 @@ fn coordinate_sum(
 /// The number of an object's shape.
 fn shape_sum(alloc: Global, problem: &Problem, fixings: &Fixings, o: usize) -> WideSum
     ensures { wide_view result
-        ≡ constant_sum (number_at problem.now o (place_of (fixings_view fixings.now) o)) }
+        ≡ constant_sum (shape_number_at problem.now o (place_of (fixings_view fixings.now) o)) }
 {
     let number = shape_number(problem, o, place_of(fixings, o));
     WideSum::constant_of(alloc, i128::from(number))

@@ -14,7 +14,7 @@ use Rattle.rule_expand.specs.declared.plain.Subject.{Subject}
 use Rattle.rule_expand.specs.declared.plain.Subject.TheVariants as subjects
 use Rattle.rule_expand.specs.PlainTruth.{PlainEnv, set_variable, subject_in}
 use Rattle.linear_conditions.specs.Fixings.{Fixing, fixed_place, place_of}
-use Rattle.linear_conditions.specs.Forms.{shape_at}
+use Rattle.rule_values.specs.Shapes.{shape_at}
 use Rattle.linear_conditions.specs.Settled.{Agrees, IsSettled, IsCovered}
 use Rattle.rule_ground.specs.Shapes.{has_several}
 use Rattle.rule_ground.specs.Grounding.{is_open}

@@ -1,5 +1,5 @@
 use Rattle.std.proofs.Common.{sym, ◌∙◌}
-use Rattle.linear_conditions.specs.CondTree.{cond_view}
+use Rattle.std.proofs.lemmas.Result.{err_from_is_err_and}
 use Rattle.linear_conditions.specs.Counts.{count_sums, one_visit, within_limits}
 use Rattle.linear_conditions.specs.Views.{leaves_view}
 use Rattle.linear_conditions.proofs.CompareSteps.{past-bounds, counted-done, counted-fault}
@@ -12,11 +12,11 @@ returns-then-not-fit c = past-bounds (leaves_view c.args.leaves.now) c.args.coun
 pub fold_leaves-requires : goal.fold_leaves-requires
 fold_leaves-requires c = c.requires (sym c.fit.ensures ∙ c.if-not-fit.false)
 
-pub returns-in_ok-fold_leaves-in-Ok : goal.returns-in_ok-fold_leaves-in-Ok
-returns-in_ok-fold_leaves-in-Ok c =
-    counted-done (leaves_view c.args.leaves.now) c.args.counter.now c.visit_leaves.new.self (cond_view c.in_ok-fold_leaves-in-Ok.field-0) (sym c.fit.ensures ∙ c.if-not-fit.false) c.in-Ok.ensures c.in_ok-fold_leaves-in-Ok.ensures
+pub returns : goal.returns
+returns c = counted-done (leaves_view c.args.leaves.now) c.args.counter.now c.visit_leaves.new.self _ (sym c.fit.ensures ∙ c.if-not-fit.false) c.in_ok-visit_leaves.ensures c.in_ok-fold_leaves.ensures
 
-pub returns-in-Err : goal.returns-in-Err
-returns-in-Err c =
-    counted-fault (leaves_view c.args.leaves.now) c.args.counter.now c.in-Err.e (sym c.fit.ensures ∙ c.if-not-fit.false)
-    (past-fault (within_limits (count_sums (leaves_view c.args.leaves.now).forms (one_visit c.args.counter.now))) c.in-Err.e c.in-Err.ensures)
+pub returns-in_err-visit_leaves : goal.returns-in_err-visit_leaves
+returns-in_err-visit_leaves c =
+    let r = err_from_is_err_and c.from_residual.result c.from_residual.ensures.1 in
+    rw (r.1, r.2) (counted-fault (leaves_view c.args.leaves.now) c.args.counter.now _ (sym c.fit.ensures ∙ c.if-not-fit.false)
+    (past-fault (within_limits (count_sums (leaves_view c.args.leaves.now).forms (one_visit c.args.counter.now))) _ c.in_err-visit_leaves.ensures))
