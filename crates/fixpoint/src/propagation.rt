@@ -81,7 +81,7 @@ fn prune_linked<const K: usize, R: Recorder>(
 {
     let _objects = t.state().objects();
     let picks = &links.picks[o];
-    prune_kept(t, ObjId(o as u16), list, picks, &mut kept[o], hints, rec)
+    prune_kept(t, ObjId(o as u16), list, picks, None, &mut kept[o], hints, rec)
 }
 
 // Prunes an object. Where it changed, the conditions that name it are asked again at what is kept of other objects; so are they
