@@ -83,7 +83,7 @@ fn prune_linked<const K: usize, R: Recorder>(
 {
     let _objects = t.state().objects();
     let picks = &links.picks[o];
-    prune_kept(t, ObjId(o as u16), list, picks, &mut kept[o], hints, rec)
+    prune_kept(t, ObjId(o as u16), list, picks, None, &mut kept[o], hints, rec)
 }
 
 // Prunes an object, after what is kept of it was asked again. Where it changed, the neighbours that it may hinder are woken; so are

@@ -1,19 +1,29 @@
 -- A sweep by the gathered picks finds what a sweep by all of them does.
-use Rattle.std.proofs.Common.{◌≡◌, ℕ, ◌+◌, ◌-◌, ◌<◌, ◌≤◌, true, List, length, set, take, get_or, slice_index, sym, ap, ◌∙◌, subst, inl, inr, arith, ℤ, Option, Some, None, Bool}
-use Rattle.std.specs.Prelude.{slice_get, Contains, MatchOption}
-use Rattle.std.proofs.lemmas.Bool.{cases_eq}
+use Rattle.std.proofs.Common.{◌≡◌, ℕ, ◌+◌, ◌-◌, ◌<◌, ◌≤◌, true, List, length, map, set, take, get_or, slice_index, refl, false, ◌⊎◌, sym, ap, ◌∙◌, subst, inl, inr, arith, ℤ, Option, Some, None, Bool}
+use Rattle.std.specs.Prelude.{◌≢◌, slice_get, Contains, MatchOption, IfSome}
+use Rattle.std.proofs.Math.ListN.{length-set}
+use Rattle.std.proofs.lemmas.Bool.{cases_eq, cases_lt}
 use Rattle.std.proofs.lemmas.List.{get_or-take, length-take-le, get_or-set_same, get_or-set_other, get_or_default}
+use Rattle.std.specs.Option.{option_map}
+use Rattle.std.proofs.lemmas.Option.{slice_get-map, slice_get-get_or, slice_get_within, slice_get_cases, same_Some}
 use Rattle.geo_conditions.specs.declared.cond.Cond.{Cond}
-use Rattle.geo_conditions.specs.Conditions.{possible}
-use Rattle.geo_conditions.specs.Reach.{State, Region, just, with_at}
+use Rattle.object_pruning.specs.declared.rows.Group.{Group}
+use Rattle.object_pruning.specs.InRows.{IsInGroup, HaveNumber, IsSomeGroup, AreRows, row}
+use Rattle.object_pruning.specs.declared.rows.Rows.{Rows}
+use Rattle.geo_conditions.specs.declared.object.ObjId.{ObjId}
+use Rattle.indexical.specs.Faces.{IsBeside}
+use Rattle.indexical.specs.Free.{SparesAnywhere}
+use Rattle.derivation.proofs.Leaves.{all_at}
+use Rattle.geo_conditions.specs.Conditions.{possible, FitsIn, AllFit}
+use Rattle.geo_conditions.specs.Reach.{State, Region, reach, is_only, just, with_at}
 use Rattle.geo_conditions.specs.Supported.{NoneRefuted, CanBeAt, HasNoPoint, IsFirstPoint}
 use Rattle.derivation.specs.declared.event.Event.{Event}
 use Rattle.derivation.specs.Covers.{CoverTree, NamesOnly, Leaf, Fork}
 use Rattle.derivation.specs.Cuts.{near, far}
 use Rattle.sweep.specs.Picks.{ArePicks, picked}
 use Rattle.sweep.specs.Sweep.{IsCovered}
-use Rattle.sweep.proofs.PickedConditions.{picked_all, picked_at, pick_in}
-use Rattle.object_pruning.specs.Gathered.{AreGathered, IsSpared}
+use Rattle.sweep.proofs.PickedConditions.{picked_all, picked_at, pick_in, some_with}
+use Rattle.object_pruning.specs.Gathered.{AreGathered, GoesOn, IsNumberSpared, IsSpared}
 
 -- a number that stands in a list at a place
 contained : (xs : List ℕ) (x i : ℕ) → i < length xs → slice_index xs i ≡ x → Contains xs x
@@ -57,6 +67,149 @@ module _ (cs : List Cond) (S : State) (o s : ℕ) (picks : List ℕ) where
 
       before : (j : ℕ) → j < n → slice_index (set live n (slice_index picks m)) j ≡ slice_index live j
       before j h = get_or-set_other live n j (slice_index picks m) 0 (λ e. absurd (omega arith))
+
+-- ---- the same by rows
+
+-- what is at a place of a list, in the list of what f makes of each
+pub at_number : {X Y : Type 0} (f : X → Y) (list : List X) (i : ℕ) (y : X) → i < length list → y ≡ get_or list i y → slice_get (map f list) i ≡ Some (f y)
+at_number f list i y h e = slice_get-map f list i ∙ ap (option_map f) (slice_get-get_or list i y h ∙ ap (λ z. Some z) (sym e))
+
+-- of the first n groups some one has the number
+abbrev pub HaveBelow : List Group → ℕ → ℕ → Type 0
+HaveBelow gs n i = (k : ℕ) × (g : Group) × (k < n) × (slice_get gs k ≡ Some g) × IsInGroup g i
+
+module _ (cs : List Cond) (S : State) (o s : ℕ) where
+  -- of no number
+  pub goes_nowhere : (P : ℕ → Type 0) (n : ℕ) (live : List ℕ) → n ≤ length live → ((i : ℕ) → P i → ⊥) → GoesOn cs S o s P n live n live
+  goes_nowhere P n live few none = record {
+    room = few;
+    more = omega arith;
+    kept = λ j h. refl;
+    further = λ j h l. absurd (omega arith);
+    each = λ i p. absurd (none i p);
+  }
+
+  -- of numbers that are all spared
+  pub goes_past : (P : ℕ → Type 0) (n : ℕ) (live : List ℕ) → n ≤ length live → ((i : ℕ) → P i → IsNumberSpared cs S o s i) → GoesOn cs S o s P n live n live
+  goes_past P n live few spared = record {
+    room = few;
+    more = omega arith;
+    kept = λ j h. refl;
+    further = λ j h l. absurd (omega arith);
+    each = λ i p. inl (spared i p);
+  }
+
+  -- of one number
+  pub goes_one : (number n : ℕ) (live : List ℕ) → n < length live → GoesOn cs S o s (λ i. i ≡ number) n live (n + 1) (set live n number)
+  goes_one number n live room = record {
+    room = omega (arith, length-set live n number);
+    more = omega arith;
+    kept = λ j h. get_or-set_other live n j number 0 (λ e. absurd (omega arith));
+    further = λ j h l. let e : j ≡ n = omega arith in ap (slice_index (set live n number)) e ∙ get_or-set_same live n number 0 room;
+    each = λ i p. inr (n, omega arith, get_or-set_same live n number 0 room ∙ sym p);
+  }
+
+  -- of the same numbers, said otherwise
+  pub goes_as : (P Q : ℕ → Type 0) (n m : ℕ) (live new : List ℕ) → ((i : ℕ) → P i → Q i) → ((i : ℕ) → Q i → P i) → GoesOn cs S o s P n live m new → GoesOn cs S o s Q n live m new
+  goes_as P Q n m live new to back a = record {
+    room = a.room;
+    more = a.more;
+    kept = a.kept;
+    further = λ j h l. to (slice_index new j) (a.further j h l);
+    each = λ i q. a.each i (back i q);
+  }
+
+  -- of both kinds, which are all of a third kind
+  pub goes_both : (P Q R : ℕ → Type 0) (n m l : ℕ) (live mid new : List ℕ) → ((i : ℕ) → P i → R i) → ((i : ℕ) → Q i → R i) → ((i : ℕ) → R i → P i ⊎ Q i)
+      → GoesOn cs S o s P n live m mid → GoesOn cs S o s Q m mid l new → GoesOn cs S o s R n live l new
+  goes_both P Q R n m l live mid new left right either a b = record {
+    room = b.room;
+    more = omega (arith, a.more, b.more);
+    kept = λ j h. b.kept j (omega (arith, a.more)) ∙ a.kept j h;
+    further = λ j h k. elim (cases_lt j m) [
+      | inl x ↦ left (slice_index new j) (subst P (sym (b.kept j x)) (a.further j h x))
+      | inr x ↦ right (slice_index new j) (b.further j x k)
+    ];
+    each = λ i r. elim (either i r) [
+      | inl p ↦ elim (a.each i p) [ inl sp ↦ inl sp | inr w ↦ inr (w.0, omega (arith, w.1, b.more), b.kept w.0 w.1 ∙ w.2) ]
+      | inr q ↦ b.each i q
+    ];
+  }
+
+  -- of the groups of a row, one after another
+  pub goes_group : (gs : List Group) (k : ℕ) (d : Group) (n m l : ℕ) (live mid new : List ℕ) → k < length gs → GoesOn cs S o s (HaveBelow gs k) n live m mid → GoesOn cs S o s (IsInGroup (get_or gs k d)) m mid l new → GoesOn cs S o s (HaveBelow gs (k + 1)) n live l new
+  goes_group gs k d n m l live mid new h a b =
+      let at : slice_get gs k ≡ Some (get_or gs k d) = slice_get-get_or gs k d h in
+      goes_both (HaveBelow gs k) (IsInGroup (get_or gs k d)) (HaveBelow gs (k + 1)) n m l live mid new
+      (λ i p. (p.0, p.1, omega (arith, p.2), p.3, p.4))
+      (λ i q. (k, get_or gs k d, omega arith, at, q))
+      (λ i r. elim (cases_eq r.0 k) [
+        | inl e ↦ inr (subst (λ (x : Group). IsInGroup x i) (same_Some _ _ (sym r.3 ∙ ap (slice_get gs) e ∙ at)) r.4)
+        | inr ne ↦ inl (r.0, r.1, omega (arith, r.2), r.3, r.4)
+      ])
+      a
+      b
+
+-- ---- groups and rows
+
+module _ (cs : List Cond) (S : State) (o : ℕ) (fits : AllFit cs S) (here : o < length S) where
+  fit : (i : ℕ) (x : Cond) → slice_get cs (i - 1) ≡ Some x → FitsIn x S
+  fit i x e = all_at (λ y. FitsIn y S) cs (i - 1) x fits e
+
+  pub group_number : (g : Group) → IsSomeGroup cs o g → (i : ℕ) → IsInGroup g i → (0 < i) × (i - 1 < length cs)
+  group_number g q i b =
+      let c = q.3.listed i b in
+      subst (λ (v : ℕ). (0 < v) × (v - 1 < length cs)) (there q.0 i c) (pick_in (length cs) q.0 c.0 q.2 c.1)
+
+  -- the other object is there
+  pub group_fits : (g : Group) → IsSomeGroup cs o g → IfSome g.other (λ u. u.0 < length S)
+  group_fits g q =
+      let in_it : IsInGroup g g.first = (omega arith, q.3.some) in
+      let number = group_number g q g.first in_it in
+      elim (slice_get_cases cs (g.first - 1)).1 [
+        | inl w ↦ some_with g.other (λ u. IsBeside w.0 o u.0 g.other_place) (λ u. u.0 < length S) (λ u y. y.exists S (fit g.first w.0 w.2)) (q.3.faces g.first w.0 in_it w.2).other
+        | inr w ↦ absurd (omega (arith, number.1, w.0))
+      ]
+
+  spared_by : (x : Cond) (u : Option ObjId) (p : ℕ) → FitsIn x S → IfSome u (λ v. IsBeside x o v.0 p) → MatchOption u ⊥ (λ v. (p ≢ 0) × (is_only (reach S v.0).places p ≡ false)) → SparesAnywhere x S o
+  spared_by x None p f h m = absurd m
+  spared_by x (Some v) p f h m = h.place m.0 S f here m.1
+
+  -- where the other object has not the place that is asked for alone, the conditions are possible
+  pub group_spared : (s : ℕ) (g : Group) → IsSomeGroup cs o g → MatchOption g.other ⊥ (λ u. (g.other_place ≢ 0) × (is_only (reach S u.0).places g.other_place ≡ false)) → (i : ℕ) → IsInGroup g i → IsNumberSpared cs S o s i
+  group_spared s g q m i b x e = spared_by x g.other g.other_place (fit i x e) (q.3.faces i x b e).other m s
+
+  module _ (picks : List ℕ) (rows : Rows) (are : AreRows cs o picks rows) where
+    pub rows_some : ArePicks (length cs) picks → (r : ℕ) (gs : List Group) → gs ≡ row rows.rows.items r → (k : ℕ) (g : Group) → slice_get gs k ≡ Some g → IsSomeGroup cs o g
+    rows_some p r gs same k g e = (picks, r, p, are.groups r k g (subst (λ (hs : List Group). slice_get hs k ≡ Some g) same e))
+
+    row_listed : (r i : ℕ) → HaveNumber (row rows.rows.items r) i → Contains picks i
+    row_listed r i w = (are.groups r w.0 w.1 w.2).listed i w.3
+
+    -- the row of no place and that of the place have all picks that are not spared
+    pub gathered_rows : (s n m : ℕ) (live mid new : List ℕ) → GoesOn cs S o s (HaveNumber (row rows.rows.items 0)) 0 live n mid → GoesOn cs S o s (HaveNumber (row rows.rows.items s)) n mid m new → AreGathered cs S o s picks (length picks) m new
+    gathered_rows s n m live mid new a b = record {
+      listed = λ j h. elim (cases_lt j n) [
+        | inl x ↦ subst (Contains picks) (sym (b.kept j x)) (row_listed 0 (slice_index mid j) (a.further j (omega arith) x))
+        | inr x ↦ row_listed s (slice_index new j) (b.further j x h)
+      ];
+      others = λ k h.
+          let i = slice_index picks k in
+          let e = are.each k h in
+          elim (cases_eq e.0 0) [
+            | inl z ↦ elim (a.each i (subst (λ (r : ℕ). HaveNumber (row rows.rows.items r) i) z e.1)) [
+              | inl sp ↦ inl (λ x p. sp x p.1)
+              | inr w ↦ inr (w.0, omega (arith, w.1, b.more), b.kept w.0 w.1 ∙ w.2)
+            ]
+            | inr nz ↦ elim (cases_eq e.0 s) [
+              | inl z ↦ elim (b.each i (subst (λ (r : ℕ). HaveNumber (row rows.rows.items r) i) z e.1)) [
+                | inl sp ↦ inl (λ x p. sp x p.1)
+                | inr w ↦ inr w
+              ]
+              | inr ne ↦ inl (λ x p. ((are.groups e.0 e.1.0 e.1.1 e.1.2).faces i x e.1.3 p.1).place nz S s (fit i x p.1) here (λ q. ne (sym q)))
+            ]
+          ];
+    }
 
 -- ---- the sweep
 

@@ -6,6 +6,7 @@ use Rattle.geo_conditions.specs.declared.object.TheConstants.{MAX_SHAPES}
 use Rattle.geo_conditions.specs.declared.cond.Cond.{Cond}
 use Rattle.indexical.specs.declared.facing.Facing.{Facing}
 use Rattle.indexical.specs.Faces.{Faces}
+use Rattle.sweep.specs.Picks.{ArePicks}
 use Rattle.object_pruning.specs.declared.rows.Group.{Group}
 use Rattle.object_pruning.specs.declared.rows.Rows.{Rows}
 
@@ -32,6 +33,10 @@ pub record IsGroup (cs : List Cond) (o : ℕ) (picks : List ℕ) (r : ℕ) (g : 
   pub some : g.first ≤ g.last
   pub listed : (i : ℕ) → IsInGroup g i → Contains picks i
   pub faces : (i : ℕ) (x : Cond) → IsInGroup g i → slice_get cs (i - 1) ≡ Some x → Faces x o (facing_of r g)
+
+-- it is a group of some row, of numbers of conditions
+abbrev pub IsSomeGroup : List Cond → ℕ → Group → Type 0
+IsSomeGroup cs o g = (picks : List ℕ) × (r : ℕ) × ArePicks (length cs) picks × IsGroup cs o picks r g
 
 -- so are the groups of row r
 abbrev pub AreGroups : List Cond → ℕ → List ℕ → ℕ → List Group → Type 0

@@ -1,6 +1,6 @@
 //! The first point of an object.
 
-ghost use Rattle.std.specs.Prelude.{◌≡◌, ◌+◌, ◌-◌, ◌^◌, ◌<◌, ◌≤◌, false, true, length, map, min, IfOk, IsOk, MatchOption, OnErr};
+ghost use Rattle.std.specs.Prelude.{◌≡◌, ◌+◌, ◌-◌, ◌^◌, ◌<◌, ◌≤◌, false, true, length, map, min, IfOk, IsOk, MatchOption, OnErr, IfSome};
 ghost use Rattle.geo_conditions.specs.Conditions.{AllFit};
 ghost use Rattle.geo_conditions.specs.Reach.{reach};
 ghost use Rattle.geo_conditions.specs.Supported.{HasNoPoint, IsFirstPoint};
@@ -8,8 +8,10 @@ ghost use Rattle.geo_state.specs.Trail.{IsSmall};
 ghost use Rattle.derivation.specs.Events.{Grows};
 ghost use Rattle.sweep.specs.Picks.{ArePicks, picked};
 ghost use Rattle.sweep.specs.Sweep.{IsCovered, part_before};
+ghost use Rattle.object_pruning.specs.InRows.{AreRows};
 
 use super::region_sweep::first_point_in;
+use super::rows::Rows;
 use derivation::Recorder;
 use geo_base::{MAX_DIMS, Point, Way};
 use geo_conditions::{ObjId, State};
@@ -25,6 +27,7 @@ pub fn first_point<const K: usize, I: Indexical<K>, R: Recorder>(
     place: u8,
     list: &[I],
     picks: &[u32],
+    rows: Option<&Rows>,
     way: &Way<K>,
     rec: &mut R,
 ) -> Result<Option<Point<K>>, AllocError>
@@ -32,6 +35,7 @@ pub fn first_point<const K: usize, I: Indexical<K>, R: Recorder>(
     requires fits { AllFit (map I.cond list.now) s.now }
     requires object { o.0 < length s.now }
     requires picks { ArePicks (length list.now) picks.now }
+    requires rows { IfSome rows (λ r. AreRows (map I.cond list.now) o.0 picks.now r.now) }
     requires small { IsSmall s.now }
     ensures point { let cs = picked (map I.cond list.now) picks.now in
         let b = (reach s.now o.0).region in
@@ -46,5 +50,5 @@ pub fn first_point<const K: usize, I: Indexical<K>, R: Recorder>(
     ensures grows { Grows R.keeps R.list R.refusals rec.old rec.new result }
 {
     let region = s.region(o);
-    first_point_in(s, o, place, &region, list, picks, way, rec)
+    first_point_in(s, o, place, &region, list, picks, rows, way, rec)
 }

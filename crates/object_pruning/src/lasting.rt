@@ -1,6 +1,6 @@
 //! Points at the low end of an interval that last.
 
-ghost use Rattle.std.specs.Prelude.{◌≡◌, ◌<◌, ◌≤◌, length, map, slice_set};
+ghost use Rattle.std.specs.Prelude.{◌≡◌, ◌<◌, ◌≤◌, length, map, slice_set, IfSome};
 ghost use Rattle.geo_base.specs.Boxes.{coordinate};
 ghost use Rattle.geo_conditions.specs.Conditions.{AllFit};
 ghost use Rattle.geo_conditions.specs.Reach.{reach};
@@ -10,9 +10,11 @@ ghost use Rattle.sweep.specs.Picks.{ArePicks, picked};
 ghost use Rattle.object_pruning.specs.Ends.{IsOutermostPoint};
 ghost use Rattle.object_pruning.specs.Kept.{placed};
 ghost use Rattle.object_pruning.specs.Pruning.{IsSmallBox};
+ghost use Rattle.object_pruning.specs.InRows.{AreRows};
 
 use super::kept::Placed;
 use super::region_sweep::first_point_in;
+use super::rows::Rows;
 use derivation::NoRecord;
 use geo_base::{KBox, MAX_DIMS, Way};
 use geo_conditions::{ObjId, State};
@@ -43,12 +45,14 @@ pub fn lasting_point<const K: usize, I: Indexical<K>>(
     q: &Placed<K>,
     list: &[I],
     picks: &[u32],
+    rows: Option<&Rows>,
 ) -> Placed<K>
     requires k { K ≤ MAX_DIMS }
     requires fits { AllFit (map I.cond list.now) s.now }
     requires object { o.0 < length s.now }
     requires dimension { d < K }
     requires picks { ArePicks (length list.now) picks.now }
+    requires rows { IfSome rows (λ r. AreRows (map I.cond list.now) o.0 picks.now r.now) }
     requires small { IsSmall s.now }
     requires point { IsOutermostPoint (picked (map I.cond list.now) picks.now) s.now o.0 d up
         q.now }
@@ -61,7 +65,17 @@ pub fn lasting_point<const K: usize, I: Indexical<K>>(
     let low = slice(s, o, d, q.point.get(d));
     let way = Way::new(0, false);
     let mut unrecorded = NoRecord::new();
-    match first_point_in(s, o, q.place, &low, list, picks, &way, &mut unrecorded) {
+    match first_point_in(
+        s,
+        o,
+        q.place,
+        &low,
+        list,
+        picks,
+        rows,
+        &way,
+        &mut unrecorded,
+    ) {
         Ok(Some(point)) => Placed {
             place: q.place,
             point,

@@ -1,6 +1,6 @@
 //! The ends of an object's intervals: each moves to the outermost coordinate of the object's points.
 
-ghost use Rattle.std.specs.Prelude.{◌≡◌, ◌+◌, ◌-◌, ◌^◌, ◌<◌, ◌≤◌, ◌≤ℤ◌, false, true, length, map, min, IfOk, IsOk, OnErr};
+ghost use Rattle.std.specs.Prelude.{◌≡◌, ◌+◌, ◌-◌, ◌^◌, ◌<◌, ◌≤◌, ◌≤ℤ◌, false, true, length, map, min, IfOk, IsOk, OnErr, IfSome};
 ghost use Rattle.geo_conditions.specs.Conditions.{AllFit};
 ghost use Rattle.geo_conditions.specs.Reach.{Inside, low, high};
 ghost use Rattle.geo_state.specs.Trail.{IsSmallNumber};
@@ -11,11 +11,13 @@ ghost use Rattle.object_pruning.specs.Kept.{AllSupport};
 ghost use Rattle.derivation.specs.Chains.{IsLed};
 ghost use Rattle.object_pruning.specs.Record.{with_end};
 ghost use Rattle.object_pruning.specs.Same.{SameBut};
+ghost use Rattle.object_pruning.specs.InRows.{AreRows};
 
 use super::hints::knows_end;
 use super::kept::{Placed, end_of, end_slot, keep_found};
 use super::lasting::lasting_point;
 use super::outer_points::sought_end;
+use super::rows::Rows;
 use derivation::Recorder;
 use geo_base::MAX_DIMS;
 use geo_conditions::ObjId;
@@ -49,6 +51,7 @@ fn move_end<const K: usize, I: Indexical<K>, R: Recorder>(
     up: bool,
     list: &[I],
     picks: &[u32],
+    rows: Option<&Rows>,
     kept: &mut [Option<Placed<K>>],
     hints: &mut [Option<Placed<K>>],
     rec: &mut R,
@@ -58,6 +61,7 @@ fn move_end<const K: usize, I: Indexical<K>, R: Recorder>(
     requires object { o.0 < length t.old.state }
     requires dimension { d < K }
     requires picks { ArePicks (length list.now) picks.now }
+    requires rows { IfSome rows (λ r. AreRows (map I.cond list.now) o.0 picks.now r.now) }
     requires some { HasSome (picked (map I.cond list.now) picks.now) t.old.state o.0 }
     requires kept { AllSupport (picked (map I.cond list.now) picks.now) t.old.state o.0 kept.old }
     ensures moves { IfOk result (λ m. MovesEnd (picked (map I.cond list.now) picks.now) o.0 d up
@@ -74,9 +78,9 @@ fn move_end<const K: usize, I: Indexical<K>, R: Recorder>(
     if knows_end(state, o, d, up, list, picks, kept, hints) {
         return Ok(false);
     }
-    let q = sought_end(state, o, d, up, list, picks, rec)?;
+    let q = sought_end(state, o, d, up, list, picks, rows, rec)?;
     let v = q.point.get(d);
-    let lasting = lasting_point(state, o, d, up, &q, list, picks);
+    let lasting = lasting_point(state, o, d, up, &q, list, picks, rows);
     keep_found(kept, hints, end_slot(d, up), &lasting);
     if v == end_of(state, o, d, up) {
         return Ok(false);
@@ -91,6 +95,7 @@ pub fn move_ends<const K: usize, I: Indexical<K>, R: Recorder>(
     o: ObjId,
     list: &[I],
     picks: &[u32],
+    rows: Option<&Rows>,
     kept: &mut [Option<Placed<K>>],
     hints: &mut [Option<Placed<K>>],
     rec: &mut R,
@@ -99,6 +104,7 @@ pub fn move_ends<const K: usize, I: Indexical<K>, R: Recorder>(
     requires fits { AllFit (map I.cond list.now) t.old.state }
     requires object { o.0 < length t.old.state }
     requires picks { ArePicks (length list.now) picks.now }
+    requires rows { IfSome rows (λ r. AreRows (map I.cond list.now) o.0 picks.now r.now) }
     requires some { HasSome (picked (map I.cond list.now) picks.now) t.old.state o.0 }
     requires kept { AllSupport (picked (map I.cond list.now) picks.now) t.old.state o.0 kept.old }
     ensures moves { IfOk result (λ m. MovesEnds (picked (map I.cond list.now) picks.now) o.0
@@ -113,8 +119,8 @@ pub fn move_ends<const K: usize, I: Indexical<K>, R: Recorder>(
     let _objects = t.state().objects();
     let mut moved = false;
     for d in 0..K {
-        moved |= move_end(t, o, d, true, list, picks, kept, hints, rec)?;
-        moved |= move_end(t, o, d, false, list, picks, kept, hints, rec)?;
+        moved |= move_end(t, o, d, true, list, picks, rows, kept, hints, rec)?;
+        moved |= move_end(t, o, d, false, list, picks, rows, kept, hints, rec)?;
     }
     Ok(moved)
 }

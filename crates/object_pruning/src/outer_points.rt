@@ -1,6 +1,6 @@
 //! The outermost points of an object, and the record of what lies beyond them.
 
-ghost use Rattle.std.specs.Prelude.{◌≡◌, ◌≢◌, ◌+◌, ◌-◌, ◌^◌, ◌<◌, ◌≤◌, ◌≤ℤ◌, ◌↔◌, false, true, ℤ, List, length, map, min, IfOk, IsOk, IsTrue, MatchOption, OnErr};
+ghost use Rattle.std.specs.Prelude.{◌≡◌, ◌≢◌, ◌+◌, ◌-◌, ◌^◌, ◌<◌, ◌≤◌, ◌≤ℤ◌, ◌↔◌, false, true, ℤ, List, length, map, min, IfOk, IsOk, IsTrue, MatchOption, OnErr, IfSome};
 ghost use Rattle.geo_base.specs.Boxes.{coordinate};
 ghost use Rattle.geo_base.specs.Ways.{toward};
 ghost use Rattle.geo_conditions.specs.Conditions.{AllFit};
@@ -12,9 +12,11 @@ ghost use Rattle.object_pruning.specs.Ends.{HasSome, IsFirstAt, IsOutermostPoint
 ghost use Rattle.object_pruning.specs.Pruning.{CanBe};
 ghost use Rattle.derivation.specs.Chains.{IsLed};
 ghost use Rattle.object_pruning.specs.Record.{AreListed, IsNotBeyond, ListsPlace, end_side, with_end};
+ghost use Rattle.object_pruning.specs.InRows.{AreRows};
 
 use super::first_point::first_point;
 use super::kept::{Placed, end_of};
+use super::rows::Rows;
 use derivation::{Event, Recorder};
 use geo_base::{MAX_DIMS, Way};
 use geo_conditions::{ObjId, State};
@@ -53,6 +55,7 @@ fn point_at<const K: usize, I: Indexical<K>, R: Recorder>(
     place: u8,
     list: &[I],
     picks: &[u32],
+    rows: Option<&Rows>,
     way: &Way<K>,
     rec: &mut R,
 ) -> Result<Option<Placed<K>>, AllocError>
@@ -61,6 +64,7 @@ fn point_at<const K: usize, I: Indexical<K>, R: Recorder>(
     requires object { o.0 < length s.now }
     requires place { 0 < place }
     requires picks { ArePicks (length list.now) picks.now }
+    requires rows { IfSome rows (λ r. AreRows (map I.cond list.now) o.0 picks.now r.now) }
     requires small { IsSmall s.now }
     ensures point { let cs = picked (map I.cond list.now) picks.now in
         IfOk result (λ r. MatchOption r ((p : List ℤ) → CanBe cs s.now o.0 place p → ⊥)
@@ -76,7 +80,7 @@ fn point_at<const K: usize, I: Indexical<K>, R: Recorder>(
     }
     let _objects = s.objects();
     rec.add(Event::Cover(place))?;
-    match first_point(s, o, place, list, picks, way, rec)? {
+    match first_point(s, o, place, list, picks, rows, way, rec)? {
         Some(point) => Ok(Some(Placed { place, point })),
         None => Ok(None),
     }
@@ -91,6 +95,7 @@ fn outermost<const K: usize, I: Indexical<K>, R: Recorder>(
     up: bool,
     list: &[I],
     picks: &[u32],
+    rows: Option<&Rows>,
     rec: &mut R,
 ) -> Result<Placed<K>, AllocError>
     requires k { K ≤ MAX_DIMS }
@@ -98,6 +103,7 @@ fn outermost<const K: usize, I: Indexical<K>, R: Recorder>(
     requires object { o.0 < length s.now }
     requires dimension { d < K }
     requires picks { ArePicks (length list.now) picks.now }
+    requires rows { IfSome rows (λ r. AreRows (map I.cond list.now) o.0 picks.now r.now) }
     requires small { IsSmall s.now }
     requires some { HasSome (picked (map I.cond list.now) picks.now) s.now o.0 }
     ensures point { IfOk result (λ q.
@@ -113,7 +119,7 @@ fn outermost<const K: usize, I: Indexical<K>, R: Recorder>(
     let there = end_of(s, o, d, up);
     let mut best = None;
     for before in 0..16u8 {
-        if let Some(q) = point_at(s, o, before + 1, list, picks, &way, rec)? {
+        if let Some(q) = point_at(s, o, before + 1, list, picks, rows, &way, rec)? {
             if q.point.get(d) == there {
                 return Ok(q);
             }
@@ -146,6 +152,7 @@ pub fn sought_end<const K: usize, I: Indexical<K>, R: Recorder>(
     up: bool,
     list: &[I],
     picks: &[u32],
+    rows: Option<&Rows>,
     rec: &mut R,
 ) -> Result<Placed<K>, AllocError>
     requires k { K ≤ MAX_DIMS }
@@ -153,6 +160,7 @@ pub fn sought_end<const K: usize, I: Indexical<K>, R: Recorder>(
     requires object { o.0 < length s.now }
     requires dimension { d < K }
     requires picks { ArePicks (length list.now) picks.now }
+    requires rows { IfSome rows (λ r. AreRows (map I.cond list.now) o.0 picks.now r.now) }
     requires small { IsSmall s.now }
     requires some { HasSome (picked (map I.cond list.now) picks.now) s.now o.0 }
     ensures point { IfOk result (λ q.
@@ -171,7 +179,7 @@ pub fn sought_end<const K: usize, I: Indexical<K>, R: Recorder>(
     let there = end_of(s, o, d, up);
     let mark = rec.mark();
     rec.add(end_event(o, d, up, there))?;
-    let q = outermost(s, o, d, up, list, picks, rec)?;
+    let q = outermost(s, o, d, up, list, picks, rows, rec)?;
     let v = q.point.get(d);
     if v == there {
         rec.cut_back(mark);

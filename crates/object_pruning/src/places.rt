@@ -1,6 +1,6 @@
 //! The places of an object: each without a point goes.
 
-ghost use Rattle.std.specs.Prelude.{◌≡◌, ◌+◌, ◌-◌, ◌^◌, ◌<◌, ◌≤◌, false, true, ℤ, List, length, map, min, slice_set, IfOk, IsOk, MatchBool, MatchOption, OnErr};
+ghost use Rattle.std.specs.Prelude.{◌≡◌, ◌+◌, ◌-◌, ◌^◌, ◌<◌, ◌≤◌, false, true, ℤ, List, length, map, min, slice_set, IfOk, IsOk, MatchBool, MatchOption, OnErr, IfSome};
 ghost use Rattle.geo_conditions.specs.Conditions.{AllFit};
 ghost use Rattle.geo_conditions.specs.Reach.{Inside, has, reach, without};
 ghost use Rattle.geo_conditions.specs.Supported.{HasNoPoint};
@@ -12,10 +12,12 @@ ghost use Rattle.object_pruning.specs.Kept.{AllSupport};
 ghost use Rattle.object_pruning.specs.Pruning.{CanBe};
 ghost use Rattle.derivation.specs.Chains.{IsLed};
 ghost use Rattle.object_pruning.specs.Same.{SameBut};
+ghost use Rattle.object_pruning.specs.InRows.{AreRows};
 
 use super::first_point::first_point;
 use super::hints::knows_place;
 use super::kept::{Placed, keep_found, place_slot};
+use super::rows::Rows;
 use derivation::{Event, Recorder};
 use geo_base::{MAX_DIMS, Point, Way};
 use geo_conditions::{ObjId, State};
@@ -31,6 +33,7 @@ fn sought_point<const K: usize, I: Indexical<K>, R: Recorder>(
     place: u8,
     list: &[I],
     picks: &[u32],
+    rows: Option<&Rows>,
     rec: &mut R,
 ) -> Result<Option<Point<K>>, AllocError>
     requires k { (0 < K) × (K ≤ MAX_DIMS) }
@@ -38,6 +41,7 @@ fn sought_point<const K: usize, I: Indexical<K>, R: Recorder>(
     requires object { o.0 < length s.now }
     requires there { has s.now o.0 place ≡ true }
     requires picks { ArePicks (length list.now) picks.now }
+    requires rows { IfSome rows (λ r. AreRows (map I.cond list.now) o.0 picks.now r.now) }
     requires small { IsSmall s.now }
     ensures point { let cs = picked (map I.cond list.now) picks.now in
         IfOk result (λ r. MatchOption r (HasNoPoint cs s.now o.0 place (reach s.now o.0).region)
@@ -53,7 +57,7 @@ fn sought_point<const K: usize, I: Indexical<K>, R: Recorder>(
     let way = Way::new(0, false);
     let mark = rec.mark();
     rec.add(Event::Drop(o, place))?;
-    match first_point(s, o, place, list, picks, &way, rec)? {
+    match first_point(s, o, place, list, picks, rows, &way, rec)? {
         Some(point) => {
             rec.cut_back(mark);
             Ok(Some(point))
@@ -70,6 +74,7 @@ fn has_point<const K: usize, I: Indexical<K>, R: Recorder>(
     place: u8,
     list: &[I],
     picks: &[u32],
+    rows: Option<&Rows>,
     kept: &mut [Option<Placed<K>>],
     hints: &mut [Option<Placed<K>>],
     rec: &mut R,
@@ -79,6 +84,7 @@ fn has_point<const K: usize, I: Indexical<K>, R: Recorder>(
     requires object { o.0 < length s.now }
     requires there { has s.now o.0 place ≡ true }
     requires picks { ArePicks (length list.now) picks.now }
+    requires rows { IfSome rows (λ r. AreRows (map I.cond list.now) o.0 picks.now r.now) }
     requires small { IsSmall s.now }
     requires kept { AllSupport (picked (map I.cond list.now) picks.now) s.now o.0 kept.old }
     ensures point { let cs = picked (map I.cond list.now) picks.now in
@@ -94,7 +100,7 @@ fn has_point<const K: usize, I: Indexical<K>, R: Recorder>(
     if knows_place(s, o, place, list, picks, kept, hints) {
         return Ok(true);
     }
-    match sought_point(s, o, place, list, picks, rec)? {
+    match sought_point(s, o, place, list, picks, rows, rec)? {
         Some(point) => {
             keep_found(kept, hints, place_slot(place), &Placed { place, point });
             Ok(true)
@@ -116,6 +122,7 @@ pub fn drop_places<const K: usize, I: Indexical<K>, R: Recorder>(
     o: ObjId,
     list: &[I],
     picks: &[u32],
+    rows: Option<&Rows>,
     kept: &mut [Option<Placed<K>>],
     hints: &mut [Option<Placed<K>>],
     rec: &mut R,
@@ -124,6 +131,7 @@ pub fn drop_places<const K: usize, I: Indexical<K>, R: Recorder>(
     requires fits { AllFit (map I.cond list.now) t.old.state }
     requires object { o.0 < length t.old.state }
     requires picks { ArePicks (length list.now) picks.now }
+    requires rows { IfSome rows (λ r. AreRows (map I.cond list.now) o.0 picks.now r.now) }
     requires kept { AllSupport (picked (map I.cond list.now) picks.now) t.old.state o.0 kept.old }
     ensures drops { IfOk result (λ a. DropsPlaces (picked (map I.cond list.now) picks.now) o.0
         t.old.state a.some a.dropped t.new.state) }
@@ -141,7 +149,7 @@ pub fn drop_places<const K: usize, I: Indexical<K>, R: Recorder>(
         let place = before + 1;
         let state = t.state();
         if state.has_shape(o, place) {
-            if has_point(state, o, place, list, picks, kept, hints, rec)? {
+            if has_point(state, o, place, list, picks, rows, kept, hints, rec)? {
                 some = true;
             } else {
                 t.drop_shape(o, place);

@@ -1,6 +1,6 @@
 //! The pruning of one object by sweeps.
 
-ghost use Rattle.std.specs.Prelude.{◌≡◌, ◌+◌, ◌-◌, ◌^◌, ◌<◌, ◌≤◌, ◌++◌, ℕ, false, true, List, length, map, min, IfOk, IsOk, OnErr, OnOk};
+ghost use Rattle.std.specs.Prelude.{◌≡◌, ◌+◌, ◌-◌, ◌^◌, ◌<◌, ◌≤◌, ◌++◌, ℕ, false, true, List, length, map, min, IfOk, IsOk, OnErr, OnOk, IfSome};
 ghost use Rattle.geo_conditions.specs.Conditions.{AllFit};
 ghost use Rattle.geo_conditions.specs.declared.cond.Cond.{Cond};
 ghost use Rattle.geo_conditions.specs.Reach.{State, Inside, has};
@@ -12,10 +12,12 @@ ghost use Rattle.object_pruning.specs.Pruning.{PrunesTo};
 ghost use Rattle.derivation.specs.Chains.{IsClosed};
 ghost use Rattle.object_pruning.specs.Record.{AreEventsOfPruning};
 ghost use Rattle.object_pruning.specs.Same.{SameBut};
+ghost use Rattle.object_pruning.specs.InRows.{AreRows};
 
 use super::kept::Placed;
 use super::move_ends::move_ends;
 use super::places::drop_places;
+use super::rows::Rows;
 use derivation::{Event, Recorder};
 use geo_base::MAX_DIMS;
 use geo_conditions::ObjId;
@@ -48,7 +50,8 @@ fn record_gone<R: Recorder>(o: ObjId, rec: &mut R) -> Result<(), AllocError>
 }
 
 /// Leaves the object the places at which it has a point, and in each dimension the loosest bounds over its points: those of its
-/// region, at its places, at which no picked condition is refuted on the state. The picks are numbers of the list, from 1.
+/// region, at its places, at which no picked condition is refuted on the state. The picks are numbers of the list, from 1;
+/// where they are given in rows too, only those are looked at that ask for places which the objects have.
 /// Every other object stays as it is, and so does what the open levels restore. Kept supports that the object still has are not
 /// sought again, and what is found is kept, as far as there are slots. Of hints nothing need be known: each is tried before a
 /// point is sought, and what is found is the next hint of its slot. The events that are added are a chain from the old state to
@@ -59,6 +62,7 @@ pub fn prune_kept<const K: usize, I: Indexical<K>, R: Recorder>(
     o: ObjId,
     list: &[I],
     picks: &[u32],
+    rows: Option<&Rows>,
     kept: &mut [Option<Placed<K>>],
     hints: &mut [Option<Placed<K>>],
     rec: &mut R,
@@ -67,6 +71,7 @@ pub fn prune_kept<const K: usize, I: Indexical<K>, R: Recorder>(
     requires fits { AllFit (map I.cond list.now) t.old.state }
     requires object { o.0 < length t.old.state }
     requires picks { ArePicks (length list.now) picks.now }
+    requires rows { IfSome rows (λ r. AreRows (map I.cond list.now) o.0 picks.now r.now) }
     requires kept { AllSupport (picked (map I.cond list.now) picks.now) t.old.state o.0 kept.old }
     ensures pruned { IfOk result (λ a. PrunesTo (picked (map I.cond list.now) picks.now) o.0
         t.old.state a t.new.state) }
@@ -80,12 +85,12 @@ pub fn prune_kept<const K: usize, I: Indexical<K>, R: Recorder>(
         × AreEventsOfPruning (map I.cond list.now) t.old.state a t.new.state es) }
     ensures grows { Grows R.keeps R.list R.refusals rec.old rec.new result }
 {
-    let places = drop_places(t, o, list, picks, kept, hints, rec)?;
+    let places = drop_places(t, o, list, picks, rows, kept, hints, rec)?;
     if !places.some {
         record_gone(o, rec)?;
         return Ok(Pruned::Empty);
     }
-    let moved = move_ends(t, o, list, picks, kept, hints, rec)?;
+    let moved = move_ends(t, o, list, picks, rows, kept, hints, rec)?;
     if places.dropped || moved {
         Ok(Pruned::Changed)
     } else {
@@ -116,5 +121,5 @@ pub fn prune_object<const K: usize, I: Indexical<K>, R: Recorder>(
 {
     let mut kept: [Option<Placed<K>>; 0] = [];
     let mut hints: [Option<Placed<K>>; 0] = [];
-    prune_kept(t, o, list, picks, &mut kept, &mut hints, rec)
+    prune_kept(t, o, list, picks, None, &mut kept, &mut hints, rec)
 }

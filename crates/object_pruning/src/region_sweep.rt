@@ -1,6 +1,6 @@
 //! The first point of a region of an object.
 
-ghost use Rattle.std.specs.Prelude.{◌≡◌, ◌+◌, ◌-◌, ◌^◌, ◌<◌, ◌≤◌, false, true, length, map, min, IfOk, IsOk, MatchOption, OnErr};
+ghost use Rattle.std.specs.Prelude.{◌≡◌, ◌+◌, ◌-◌, ◌^◌, ◌<◌, ◌≤◌, false, true, length, map, min, IfOk, IsOk, MatchOption, OnErr, IfSome};
 ghost use Rattle.geo_conditions.specs.Conditions.{AllFit};
 ghost use Rattle.geo_conditions.specs.Regions.{region_of};
 ghost use Rattle.geo_conditions.specs.Supported.{HasNoPoint, IsFirstPoint};
@@ -8,9 +8,11 @@ ghost use Rattle.derivation.specs.Events.{Grows};
 ghost use Rattle.sweep.specs.Picks.{ArePicks, picked};
 ghost use Rattle.sweep.specs.Sweep.{IsCovered, part_before};
 ghost use Rattle.object_pruning.specs.Pruning.{IsSmallBox};
+ghost use Rattle.object_pruning.specs.InRows.{AreRows};
 
 use super::counted::{Counted, answer};
 use super::gathering::{GATHERED, gather};
+use super::rows::Rows;
 use derivation::Recorder;
 use geo_base::{KBox, MAX_DIMS, Point, Steps, Way};
 use geo_conditions::{ObjId, State};
@@ -129,6 +131,7 @@ pub fn first_point_in<const K: usize, I: Indexical<K>, R: Recorder>(
     region: &KBox<K>,
     list: &[I],
     picks: &[u32],
+    rows: Option<&Rows>,
     way: &Way<K>,
     rec: &mut R,
 ) -> Result<Option<Point<K>>, AllocError>
@@ -136,6 +139,7 @@ pub fn first_point_in<const K: usize, I: Indexical<K>, R: Recorder>(
     requires fits { AllFit (map I.cond list.now) s.now }
     requires object { o.0 < length s.now }
     requires picks { ArePicks (length list.now) picks.now }
+    requires rows { IfSome rows (λ r. AreRows (map I.cond list.now) o.0 picks.now r.now) }
     requires small { IsSmallBox region.now }
     ensures point { let cs = picked (map I.cond list.now) picks.now in
         let b = region_of region.now in
@@ -150,7 +154,7 @@ pub fn first_point_in<const K: usize, I: Indexical<K>, R: Recorder>(
     ensures grows { Grows R.keeps R.list R.refusals rec.old rec.new result }
 {
     let mut live = [0u32; GATHERED];
-    match gather(s, o, place, list, picks, &mut live) {
+    match gather(s, o, place, list, picks, rows, &mut live) {
         Some(count) => sweep_region(s, o, place, region, list, &live[0..count], way, rec),
         None => sweep_region(s, o, place, region, list, picks, way, rec),
     }

@@ -209,7 +209,7 @@ fn is_right(
     }
     let mut t = Trailed::start(alloc, s, 0)?;
     let mut rec = Log::new(alloc);
-    prune_kept(&mut t, A, &list, &[1, 2, 3, 4], kept, hints, &mut rec)?;
+    prune_kept(&mut t, A, &list, &[1, 2, 3, 4], None, kept, hints, &mut rec)?;
     Ok(is_open(t.state(), left, shapes) && are_same(rec.events(), events))
 }
 

@@ -1,6 +1,6 @@
 use Rattle.std.proofs.Common.{◌≤◌, length, map}
 use Rattle.object_pruning.specs.Gathered.{AreGathered}
-use Rattle.object_pruning.proofs.gathering.gather.Given as goal
+use Rattle.object_pruning.proofs.gathering.gather_all.Given as goal
 
 abbrev pub invariant-loop-k : goal.invariant-loop-k
 invariant-loop-k g l = record {

@@ -2,8 +2,8 @@ use Rattle.std.proofs.Common.{◌≡◌, ◌+◌, ◌<◌, ℕ, List, length, ma
 use Rattle.std.proofs.Math.ListN.{length-set}
 use Rattle.object_pruning.specs.Gathered.{AreGathered}
 use Rattle.object_pruning.proofs.LivePicks.{gathered_start, gathered_skip, gathered_more}
-use Rattle.object_pruning.proofs.gathering.gather.Goals as goal
-use Rattle.object_pruning.proofs.gathering.gather.Goals.{then-not-is_pick_spared+else-count-live, else-not-is_pick_spared}
+use Rattle.object_pruning.proofs.gathering.gather_all.Goals as goal
+use Rattle.object_pruning.proofs.gathering.gather_all.Goals.{then-not-is_pick_spared+else-count-live, else-not-is_pick_spared}
 
 pub loop-k-init : goal.loop-k-init
 loop-k-init g c = record {

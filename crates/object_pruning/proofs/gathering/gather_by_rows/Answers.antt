@@ -1,0 +1,34 @@
+use Rattle.std.proofs.Common.{◌≡◌, ℕ, List, length, map, subst, ◌∙◌, ap, rules, Some}
+use Rattle.std.specs.Prelude.{slice_get}
+use Rattle.sweep.proofs.PickedConditions.{mapped_picks, some_with}
+use Rattle.object_pruning.specs.declared.rows.Group.{Group}
+use Rattle.object_pruning.specs.Gathered.{GoesOn}
+use Rattle.object_pruning.specs.InRows.{HaveNumber, IsSomeGroup, row}
+use Rattle.object_pruning.proofs.LivePicks.{rows_some, gathered_rows}
+use Rattle.object_pruning.proofs.gathering.gather_by_rows.Goals as goal
+
+pub gather_row-requires : goal.gather_row-requires
+gather_row-requires g c =
+    let cs = map g.I.Indexical.cond c.args.list.now in
+    let some : (k : ℕ) (h : Group) → slice_get c.row.result.now k ≡ Some h → IsSomeGroup cs c.args.o.0 h = rows_some cs c.args.s.now c.args.o.0 c.requires.fits c.requires.object c.args.picks.now c.args.rows.now c.requires.rows (mapped_picks g.I.Indexical.cond c.args.list.now c.args.picks.now c.requires.picks) 0 c.row.result.now c.row.ensures in
+    search rules
+
+pub gather_row-requires-2 : goal.gather_row-requires-2
+gather_row-requires-2 g c =
+    let cs = map g.I.Indexical.cond c.args.list.now in
+    let some : (k : ℕ) (h : Group) → slice_get c.row-2.result.now k ≡ Some h → IsSomeGroup cs c.args.o.0 h = rows_some cs c.args.s.now c.args.o.0 c.requires.fits c.requires.object c.args.picks.now c.args.rows.now c.requires.rows (mapped_picks g.I.Indexical.cond c.args.list.now c.args.picks.now c.requires.picks) c.from.result c.row-2.result.now c.row-2.ensures in
+    search rules
+
+pub returns-clause-gathered : goal.returns-clause-gathered
+returns-clause-gathered g c =
+    let cs = map g.I.Indexical.cond c.args.list.now in
+    let S = c.args.s.now in
+    let o = c.args.o.0 in
+    let s = c.args.place in
+    let rows = c.args.rows.now in
+    let n = c.in_ok-count.count in
+    let mid = c.gather_row.new.live in
+    let new = c.gather_row-2.new.live in
+    let a : GoesOn cs S o s (HaveNumber (row rows.rows.items 0)) 0 c.args.live.now n mid = subst (λ (gs : List Group). GoesOn cs S o s (HaveNumber gs) 0 c.args.live.now n mid) c.row.ensures c.in_ok-count.ensures in
+    let same : c.row-2.result.now ≡ row rows.rows.items s = c.row-2.ensures ∙ ap (row rows.rows.items) c.from.ensures in
+    some_with c.gather_row-2.result (λ m. GoesOn cs S o s (HaveNumber c.row-2.result.now) n mid m new) _ (λ m b. gathered_rows cs S o c.requires.fits c.requires.object c.args.picks.now rows c.requires.rows s n m c.args.live.now mid new a (subst (λ (gs : List Group). GoesOn cs S o s (HaveNumber gs) n mid m new) same b)) c.gather_row-2.ensures
