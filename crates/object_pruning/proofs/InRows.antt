@@ -1,5 +1,5 @@
 -- Rows of groups, as they are made.
-use Rattle.std.proofs.Common.{◌≡◌, ◌≢◌, ℕ, zero, suc, ◌+◌, ◌-◌, ◌<◌, ◌≤◌, ◌⊎◌, List, [], ◌∷◌, ◌++◌, length, set, refl, sym, ap, ◌∙◌, subst, inl, inr, arith, Option, Some, None, slice_index, get_or, Result, Ok, Err}
+use Rattle.std.proofs.Common.{◌≡◌, ◌≢◌, ℕ, zero, suc, ◌+◌, ◌-◌, ◌<◌, ◌≤◌, ◌⊎◌, List, [], ◌∷◌, ◌++◌, length, set, refl, sym, ap, ◌∙◌, subst, inl, inr, arith, Option, Some, slice_index, get_or, Result, Ok, Err}
 use Rattle.std.specs.Prelude.{slice_get, Contains, OnOk}
 use Rattle.std.proofs.Math.ListN.{length-set}
 use Rattle.std.proofs.lemmas.Bool.{cases_eq}
@@ -13,7 +13,7 @@ use Rattle.geo_conditions.specs.declared.cond.Cond.{Cond}
 use Rattle.indexical.specs.declared.facing.Facing.{Facing}
 use Rattle.indexical.specs.Faces.{Faces, SparesElsewhere}
 use Rattle.object_pruning.specs.declared.rows.Group.{Group}
-use Rattle.object_pruning.specs.InRows.{row, IsInGroup, HaveNumber, facing_of, IsGroup, AreGroups, AreRowsBelow, group_of, longer, PutsNumber}
+use Rattle.object_pruning.specs.InRows.{row, IsInGroup, HaveNumber, IsGroup, AreGroups, AreRowsBelow, group_of, longer, PutsNumber}
 
 -- what a call that went well says
 pub on_ok : {A E : Type 0} (r : Result A E) (P Q : Type 0) → (P → Q) → OnOk r P → OnOk r Q
@@ -51,17 +51,17 @@ get_either (x ∷ xs) (suc j) y z e = get_either xs j y z e
 
 -- ---- rows
 
-pub row_get : (vs : List (Vec Group Global)) (i : ℕ) (d : Vec Group Global) → i < length vs → row vs i ≡ (get_or vs i d).items
+pub row_get : {X : Type 0} (vs : List (Vec X Global)) (i : ℕ) (d : Vec X Global) → i < length vs → row vs i ≡ (get_or vs i d).items
 row_get [] i d h = absurd (omega arith)
 row_get (v ∷ vs) zero d h = refl
 row_get (v ∷ vs) (suc i) d h = row_get vs i d (omega arith)
 
-pub row_past : (vs : List (Vec Group Global)) (i : ℕ) → length vs ≤ i → row vs i ≡ []
+pub row_past : {X : Type 0} (vs : List (Vec X Global)) (i : ℕ) → length vs ≤ i → row vs i ≡ []
 row_past [] i h = refl
 row_past (v ∷ vs) zero h = absurd (omega arith)
 row_past (v ∷ vs) (suc i) h = row_past vs i (omega arith)
 
-pub row_empty : (vs : List (Vec Group Global)) (v : Vec Group Global) → v.items ≡ [] → ((i : ℕ) → row vs i ≡ []) → (i : ℕ) → row (vs ++ v ∷ []) i ≡ []
+pub row_empty : {X : Type 0} (vs : List (Vec X Global)) (v : Vec X Global) → v.items ≡ [] → ((i : ℕ) → row vs i ≡ []) → (i : ℕ) → row (vs ++ v ∷ []) i ≡ []
 row_empty [] v e f zero = e
 row_empty [] v e f (suc i) = refl
 row_empty (w ∷ vs) v e f zero = f 0
@@ -71,12 +71,12 @@ pub length_more : {X : Type 0} (xs : List X) (x : X) → length (xs ++ x ∷ [])
 length_more [] x = refl
 length_more (y ∷ xs) x = let e = length_more xs x in omega (arith, e)
 
-row_set_same : (vs : List (Vec Group Global)) (i : ℕ) (v : Vec Group Global) → i < length vs → row (set vs i v) i ≡ v.items
+pub row_set_same : {X : Type 0} (vs : List (Vec X Global)) (i : ℕ) (v : Vec X Global) → i < length vs → row (set vs i v) i ≡ v.items
 row_set_same [] i v h = absurd (omega arith)
 row_set_same (w ∷ vs) zero v h = refl
 row_set_same (w ∷ vs) (suc i) v h = row_set_same vs i v (omega arith)
 
-row_set_other : (vs : List (Vec Group Global)) (i j : ℕ) (v : Vec Group Global) → (j ≡ i → ⊥) → row (set vs i v) j ≡ row vs j
+pub row_set_other : {X : Type 0} (vs : List (Vec X Global)) (i j : ℕ) (v : Vec X Global) → (j ≡ i → ⊥) → row (set vs i v) j ≡ row vs j
 row_set_other [] i j v n = refl
 row_set_other (w ∷ vs) zero zero v n = absurd (n refl)
 row_set_other (w ∷ vs) zero (suc j) v n = refl

@@ -5,3 +5,4 @@ pub mod Supports
 pub mod Record
 pub mod LivePicks
 pub mod InRows
+pub mod Possible

@@ -5,7 +5,7 @@ use Rattle.std.proofs.Math.ListN.{length-set}
 use Rattle.std.proofs.lemmas.Bool.{cases_eq, cases_lt}
 use Rattle.std.proofs.lemmas.List.{get_or-take, length-take-le, get_or-set_same, get_or-set_other, get_or_default}
 use Rattle.std.specs.Option.{option_map}
-use Rattle.std.proofs.lemmas.Option.{slice_get-map, slice_get-get_or, slice_get_within, slice_get_cases, same_Some}
+use Rattle.std.proofs.lemmas.Option.{slice_get-map, slice_get-get_or, slice_get_cases, same_Some}
 use Rattle.geo_conditions.specs.declared.cond.Cond.{Cond}
 use Rattle.object_pruning.specs.declared.rows.Group.{Group}
 use Rattle.object_pruning.specs.InRows.{IsInGroup, HaveNumber, IsSomeGroup, AreRows, row}
@@ -29,7 +29,7 @@ use Rattle.object_pruning.specs.Gathered.{AreGathered, GoesOn, IsNumberSpared, I
 contained : (xs : List ℕ) (x i : ℕ) → i < length xs → slice_index xs i ≡ x → Contains xs x
 contained xs x i h e = (i, h, get_or_default xs i x 0 h ∙ e)
 
-there : (xs : List ℕ) (x : ℕ) (c : Contains xs x) → slice_index xs c.0 ≡ x
+pub there : (xs : List ℕ) (x : ℕ) (c : Contains xs x) → slice_index xs c.0 ≡ x
 there xs x c = get_or_default xs c.0 0 x c.1 ∙ c.2
 
 -- ---- the loop that gathers
@@ -153,7 +153,7 @@ module _ (cs : List Cond) (S : State) (o s : ℕ) where
 -- ---- groups and rows
 
 module _ (cs : List Cond) (S : State) (o : ℕ) (fits : AllFit cs S) (here : o < length S) where
-  fit : (i : ℕ) (x : Cond) → slice_get cs (i - 1) ≡ Some x → FitsIn x S
+  pub fit : (i : ℕ) (x : Cond) → slice_get cs (i - 1) ≡ Some x → FitsIn x S
   fit i x e = all_at (λ y. FitsIn y S) cs (i - 1) x fits e
 
   pub group_number : (g : Group) → IsSomeGroup cs o g → (i : ℕ) → IsInGroup g i → (0 < i) × (i - 1 < length cs)
@@ -183,7 +183,7 @@ module _ (cs : List Cond) (S : State) (o : ℕ) (fits : AllFit cs S) (here : o <
     pub rows_some : ArePicks (length cs) picks → (r : ℕ) (gs : List Group) → gs ≡ row rows.rows.items r → (k : ℕ) (g : Group) → slice_get gs k ≡ Some g → IsSomeGroup cs o g
     rows_some p r gs same k g e = (picks, r, p, are.groups r k g (subst (λ (hs : List Group). slice_get hs k ≡ Some g) same e))
 
-    row_listed : (r i : ℕ) → HaveNumber (row rows.rows.items r) i → Contains picks i
+    pub row_listed : (r i : ℕ) → HaveNumber (row rows.rows.items r) i → Contains picks i
     row_listed r i w = (are.groups r w.0 w.1 w.2).listed i w.3
 
     -- the row of no place and that of the place have all picks that are not spared

@@ -1,17 +1,14 @@
 -- Kept supports: what they say while their object alone changes.
-use Rattle.std.proofs.Common.{◌≡◌, ℕ, ◌<◌, ◌-◌, true, List, length, set, map, get_or, slice_index, sym, ◌∙◌, subst, inl, inr, Option, Some, None, arith}
+use Rattle.std.proofs.Common.{◌≡◌, ℕ, ◌<◌, true, List, length, set, get_or, sym, ◌∙◌, subst, inl, inr, Option, Some, None}
 use Rattle.std.specs.Prelude.{IfSome}
 use Rattle.std.proofs.lemmas.Bool.{cases_eq, cases_lt}
 use Rattle.std.proofs.Math.ListN.{length-set}
 use Rattle.std.proofs.lemmas.List.{ext_get_or, get_or_past, get_or-set_other}
 use Rattle.std.proofs.lemmas.List.Elements.{All-set}
-use Rattle.std.proofs.lemmas.Option.{slice_get_cases}
 use Rattle.geo_conditions.specs.declared.cond.Cond.{Cond}
 use Rattle.geo_conditions.specs.Reach.{State, Reach, Region, reach, nowhere, has, just, with_at, InBox}
 use Rattle.geo_conditions.specs.Supported.{NoneRefuted}
 use Rattle.geo_conditions.proofs.Points.{reach_same, reach_other, with_length}
-use Rattle.sweep.specs.Picks.{ArePicks, PicksAt}
-use Rattle.sweep.proofs.PickedConditions.{picks-map, pick_in}
 use Rattle.object_pruning.specs.declared.kept.Placed.{Placed}
 use Rattle.object_pruning.specs.Same.{SameBut}
 use Rattle.object_pruning.specs.Pruning.{CanBe}
@@ -63,12 +60,3 @@ supports_found cs R S o kept now i q e n a f =
 -- said of the same values
 pub supports_as : {K : ℕ} (cs : List Cond) (S T : State) (o : ℕ) (xs ys : List (Option (Placed K))) → T ≡ S → ys ≡ xs → AllSupport cs S o xs → AllSupport cs T o ys
 supports_as cs S T o xs ys p q a = subst (AllSupport cs T o) (sym q) (subst (λ (X : State). AllSupport cs X o xs) (sym p) a)
-
--- each pick names something
-pub some_pick : {X Y : Type 0} (f : X → Y) (list : List X) (picks : List ℕ) (k : ℕ) → ArePicks (length list) picks → k < length picks → (y : Y) × PicksAt (map f list) picks k y
-some_pick f list picks k a h =
-    let b : slice_index picks k - 1 < length list = (pick_in (length list) picks k a h).1 in
-    elim (slice_get_cases list (slice_index picks k - 1)).1 [
-      | inl w ↦ (f (get_or list (slice_index picks k - 1) w.0), picks-map f list picks k w.0 a h)
-      | inr w ↦ absurd (omega (arith, b, w.0))
-    ]

@@ -1,6 +1,7 @@
 -- Picks that are gathered for an object at a place: those whose conditions may be refuted there.
-use Rattle.std.specs.Prelude.{◌≡◌, ◌⊎◌, ℕ, ◌-◌, ◌<◌, ◌≤◌, List, length, slice_get, slice_index, Some, Contains}
+use Rattle.std.specs.Prelude.{◌≡◌, ◌⊎◌, ℕ, true, ◌-◌, ◌<◌, ◌≤◌, List, length, slice_get, slice_index, Some, Contains}
 use Rattle.geo_conditions.specs.declared.cond.Cond.{Cond}
+use Rattle.geo_conditions.specs.Conditions.{possible}
 use Rattle.geo_conditions.specs.Reach.{State}
 use Rattle.indexical.specs.Free.{Spares}
 use Rattle.sweep.specs.Picks.{PicksAt}
@@ -25,3 +26,11 @@ pub record GoesOn (cs : List Cond) (S : State) (o s : ℕ) (Those : ℕ → Type
   pub kept : (j : ℕ) → j < n → slice_index new j ≡ slice_index live j
   pub further : (j : ℕ) → n ≤ j → j < m → Those (slice_index new j)
   pub each : (i : ℕ) → Those i → IsNumberSpared cs S o s i ⊎ ((j : ℕ) × (j < m) × (slice_index new j ≡ i))
+
+-- what the number i names is possible on T
+abbrev pub IsNumberPossible : List Cond → State → ℕ → Type 0
+IsNumberPossible cs T i = (x : Cond) → slice_get cs (i - 1) ≡ Some x → possible x T ≡ true
+
+-- so is what each of those numbers names
+abbrev pub AllPossible : List Cond → State → (ℕ → Type 0) → Type 0
+AllPossible cs T Those = (i : ℕ) → Those i → IsNumberPossible cs T i

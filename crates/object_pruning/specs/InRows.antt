@@ -10,8 +10,8 @@ use Rattle.sweep.specs.Picks.{ArePicks}
 use Rattle.object_pruning.specs.declared.rows.Group.{Group}
 use Rattle.object_pruning.specs.declared.rows.Rows.{Rows}
 
--- the groups of the r-th row; none past the last one
-abbrev pub row : List (Vec Group Global) → ℕ → List Group
+-- what the r-th row has; nothing past the last one
+abbrev pub row : {X : Type 0} → List (Vec X Global) → ℕ → List X
 row [] r = []
 row (v ∷ vs) zero = v.items
 row (v ∷ vs) (suc r) = row vs r

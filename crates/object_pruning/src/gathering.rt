@@ -91,8 +91,8 @@ fn gather_numbers<const K: usize, I: Indexical<K>>(
     Some(gathered)
 }
 
-// Whether the conditions of a group can be in the way: the other object has the place that is asked for alone.
-fn can_be_in_the_way<const K: usize>(s: &State<K>, group: &Group) -> bool
+/// Whether the conditions of a group can be in the way: the other object has the place that is asked for alone.
+pub fn can_be_in_the_way<const K: usize>(s: &State<K>, group: &Group) -> bool
     requires k { K ≤ MAX_DIMS }
     requires other { IfSome group.now.other (λ u. u.0 < length s.now) }
     ensures { result ≡ false → MatchOption group.now.other ⊥ (λ u.

@@ -1,63 +1,21 @@
 //! Hints: points of which nothing is known, and that are tried before a sweep.
 
-ghost use Rattle.std.specs.Prelude.{◌≡◌, true, ◌<◌, ◌≤◌, ◌↔◌, ℤ, List, length, map, IfSome, IsTrue};
-ghost use Rattle.geo_conditions.specs.declared.cond.Cond.{Cond};
-ghost use Rattle.geo_conditions.specs.Conditions.{AllFit, possible};
-ghost use Rattle.geo_conditions.specs.Supported.{NoneRefuted};
-ghost use Rattle.sweep.specs.Picks.{ArePicks, PicksAt, picked};
+ghost use Rattle.std.specs.Prelude.{◌≡◌, ◌<◌, ◌≤◌, ℤ, List, length, map, IfSome, IsTrue};
+ghost use Rattle.geo_conditions.specs.Conditions.{AllFit};
+ghost use Rattle.sweep.specs.Picks.{ArePicks, picked};
 ghost use Rattle.object_pruning.specs.Ends.{IsEndPoint, IsTightEnd};
-ghost use Rattle.object_pruning.specs.Kept.{AllSupport, placed};
+ghost use Rattle.object_pruning.specs.InRows.{AreRows};
+ghost use Rattle.object_pruning.specs.Kept.{AllSupport};
 ghost use Rattle.object_pruning.specs.Pruning.{CanBe};
 
 use super::kept::{
     Placed, end_of, end_slot, end_stands, is_there, keep, kept_in, place_slot, place_stands,
 };
+use super::rows::Rows;
+use super::unrefuted::is_unrefuted;
 use geo_base::MAX_DIMS;
 use geo_conditions::{ObjId, State};
 use indexical::Indexical;
-
-// Whether the condition that the k-th pick names is possible with the object there.
-fn is_pick_possible<const K: usize, I: Indexical<K>>(
-    s: &State<K>,
-    o: ObjId,
-    q: &Placed<K>,
-    list: &[I],
-    picks: &[u32],
-    k: usize,
-) -> bool
-    requires k { (0 < K) × (K ≤ MAX_DIMS) }
-    requires fits { AllFit (map I.cond list.now) s.now }
-    requires object { o.0 < length s.now }
-    requires picks { ArePicks (length list.now) picks.now }
-    requires pick { k < length picks.now }
-    ensures { (x : Cond) → PicksAt (map I.cond list.now) picks.now k x
-        → result ≡ possible x (placed s.now o.0 q.now) }
-{
-    list[picks[k] as usize - 1].is_possible_at(s, o, q.place, &q.point)
-}
-
-// Whether no picked condition is refuted with the object there.
-fn is_unrefuted<const K: usize, I: Indexical<K>>(
-    s: &State<K>,
-    o: ObjId,
-    q: &Placed<K>,
-    list: &[I],
-    picks: &[u32],
-) -> bool
-    requires k { (0 < K) × (K ≤ MAX_DIMS) }
-    requires fits { AllFit (map I.cond list.now) s.now }
-    requires object { o.0 < length s.now }
-    requires picks { ArePicks (length list.now) picks.now }
-    ensures { IsTrue result
-        ↔ NoneRefuted (picked (map I.cond list.now) picks.now) (placed s.now o.0 q.now) }
-{
-    for k in 0..picks.len() {
-        if !is_pick_possible(s, o, q, list, picks, k) {
-            return false;
-        }
-    }
-    true
-}
 
 // Whether the object can be there: it has the place and the point, and no picked condition is refuted.
 fn can_be<const K: usize, I: Indexical<K>>(
@@ -66,15 +24,17 @@ fn can_be<const K: usize, I: Indexical<K>>(
     q: &Placed<K>,
     list: &[I],
     picks: &[u32],
+    rows: Option<&Rows>,
 ) -> bool
     requires k { (0 < K) × (K ≤ MAX_DIMS) }
     requires fits { AllFit (map I.cond list.now) s.now }
     requires object { o.0 < length s.now }
     requires picks { ArePicks (length list.now) picks.now }
+    requires rows { IfSome rows (λ r. AreRows (map I.cond list.now) o.0 picks.now r.now) }
     ensures { IsTrue result → CanBe (picked (map I.cond list.now) picks.now) s.now o.0
         q.now.place q.now.point.coordinates }
 {
-    is_there(s, o, q) && is_unrefuted(s, o, q, list, picks)
+    is_there(s, o, q) && is_unrefuted(s, o, q, list, picks, rows)
 }
 
 // The hint of a place, if the object can be there.
@@ -84,17 +44,19 @@ fn hint_of_place<const K: usize, I: Indexical<K>>(
     place: u8,
     list: &[I],
     picks: &[u32],
+    rows: Option<&Rows>,
     hints: &[Option<Placed<K>>],
 ) -> Option<Placed<K>>
     requires k { (0 < K) × (K ≤ MAX_DIMS) }
     requires fits { AllFit (map I.cond list.now) s.now }
     requires object { o.0 < length s.now }
     requires picks { ArePicks (length list.now) picks.now }
+    requires rows { IfSome rows (λ r. AreRows (map I.cond list.now) o.0 picks.now r.now) }
     ensures { IfSome result (λ q. (q.place ≡ place)
         × CanBe (picked (map I.cond list.now) picks.now) s.now o.0 q.place q.point.coordinates) }
 {
     let q = kept_in(hints, place_slot(place))?;
-    if q.place == place && can_be(s, o, &q, list, picks) {
+    if q.place == place && can_be(s, o, &q, list, picks, rows) {
         Some(q)
     } else {
         None
@@ -109,6 +71,7 @@ fn hint_of_end<const K: usize, I: Indexical<K>>(
     up: bool,
     list: &[I],
     picks: &[u32],
+    rows: Option<&Rows>,
     hints: &[Option<Placed<K>>],
 ) -> Option<Placed<K>>
     requires k { K ≤ MAX_DIMS }
@@ -116,12 +79,13 @@ fn hint_of_end<const K: usize, I: Indexical<K>>(
     requires object { o.0 < length s.now }
     requires dimension { d < K }
     requires picks { ArePicks (length list.now) picks.now }
+    requires rows { IfSome rows (λ r. AreRows (map I.cond list.now) o.0 picks.now r.now) }
     ensures { IfSome result (λ q.
         IsEndPoint (picked (map I.cond list.now) picks.now) s.now o.0 d up q) }
 {
     let q = kept_in(hints, end_slot(d, up))?;
     let there = end_of(s, o, d, up);
-    if q.point.get(d) == there && can_be(s, o, &q, list, picks) {
+    if q.point.get(d) == there && can_be(s, o, &q, list, picks, rows) {
         Some(q)
     } else {
         None
@@ -136,6 +100,7 @@ pub fn knows_place<const K: usize, I: Indexical<K>>(
     place: u8,
     list: &[I],
     picks: &[u32],
+    rows: Option<&Rows>,
     kept: &mut [Option<Placed<K>>],
     hints: &[Option<Placed<K>>],
 ) -> bool
@@ -143,6 +108,7 @@ pub fn knows_place<const K: usize, I: Indexical<K>>(
     requires fits { AllFit (map I.cond list.now) s.now }
     requires object { o.0 < length s.now }
     requires picks { ArePicks (length list.now) picks.now }
+    requires rows { IfSome rows (λ r. AreRows (map I.cond list.now) o.0 picks.now r.now) }
     requires kept { AllSupport (picked (map I.cond list.now) picks.now) s.now o.0 kept.old }
     ensures point { IsTrue result → (p : List ℤ)
         × CanBe (picked (map I.cond list.now) picks.now) s.now o.0 place p }
@@ -151,7 +117,7 @@ pub fn knows_place<const K: usize, I: Indexical<K>>(
     if place_stands(s, o, place, kept) {
         return true;
     }
-    match hint_of_place(s, o, place, list, picks, hints) {
+    match hint_of_place(s, o, place, list, picks, rows, hints) {
         Some(q) => {
             keep(kept, place_slot(place), &q);
             true
@@ -168,6 +134,7 @@ pub fn knows_end<const K: usize, I: Indexical<K>>(
     up: bool,
     list: &[I],
     picks: &[u32],
+    rows: Option<&Rows>,
     kept: &mut [Option<Placed<K>>],
     hints: &[Option<Placed<K>>],
 ) -> bool
@@ -176,6 +143,7 @@ pub fn knows_end<const K: usize, I: Indexical<K>>(
     requires object { o.0 < length s.now }
     requires dimension { d < K }
     requires picks { ArePicks (length list.now) picks.now }
+    requires rows { IfSome rows (λ r. AreRows (map I.cond list.now) o.0 picks.now r.now) }
     requires kept { AllSupport (picked (map I.cond list.now) picks.now) s.now o.0 kept.old }
     ensures tight { IsTrue result
         → IsTightEnd (picked (map I.cond list.now) picks.now) s.now o.0 d up }
@@ -184,7 +152,7 @@ pub fn knows_end<const K: usize, I: Indexical<K>>(
     if end_stands(s, o, d, up, kept) {
         return true;
     }
-    match hint_of_end(s, o, d, up, list, picks, hints) {
+    match hint_of_end(s, o, d, up, list, picks, rows, hints) {
         Some(q) => {
             keep(kept, end_slot(d, up), &q);
             true

@@ -13,6 +13,7 @@ mod places;
 mod prune;
 mod region_sweep;
 mod rows;
+mod unrefuted;
 
 pub use kept::{Placed, retry, slots};
 pub use prune::{Pruned, prune_kept, prune_object};

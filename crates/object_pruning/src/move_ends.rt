@@ -75,7 +75,7 @@ fn move_end<const K: usize, I: Indexical<K>, R: Recorder>(
 {
     let state = t.state();
     let _objects = state.objects();
-    if knows_end(state, o, d, up, list, picks, kept, hints) {
+    if knows_end(state, o, d, up, list, picks, rows, kept, hints) {
         return Ok(false);
     }
     let q = sought_end(state, o, d, up, list, picks, rows, rec)?;

@@ -97,7 +97,7 @@ fn has_point<const K: usize, I: Indexical<K>, R: Recorder>(
     ensures kept { AllSupport (picked (map I.cond list.now) picks.now) s.now o.0 kept.new }
     ensures grows { Grows R.keeps R.list R.refusals rec.old rec.new result }
 {
-    if knows_place(s, o, place, list, picks, kept, hints) {
+    if knows_place(s, o, place, list, picks, rows, kept, hints) {
         return Ok(true);
     }
     match sought_point(s, o, place, list, picks, rows, rec)? {

@@ -1,4 +1,4 @@
-use Rattle.std.proofs.Common.{◌≡◌, ℕ, List, length, map, subst, ◌∙◌, ap, rules, Some}
+use Rattle.std.proofs.Common.{◌≡◌, ℕ, List, map, subst, ◌∙◌, ap, rules, Some}
 use Rattle.std.specs.Prelude.{slice_get}
 use Rattle.sweep.proofs.PickedConditions.{mapped_picks, some_with}
 use Rattle.object_pruning.specs.declared.rows.Group.{Group}

@@ -1,4 +1,4 @@
-use Rattle.std.proofs.Common.{◌<◌, length, map, get_or, arith, rules}
+use Rattle.std.proofs.Common.{map, get_or, arith, rules}
 use Rattle.std.proofs.lemmas.Option.{slice_get-get_or, slice_get_within}
 use Rattle.object_pruning.specs.declared.rows.Group.{Group}
 use Rattle.object_pruning.specs.InRows.{HaveNumber, IsSomeGroup}
