@@ -3,6 +3,7 @@ pub mod Turns
 pub mod Linking
 pub mod Effect
 pub mod Stable
+pub mod StableRows
 pub mod Woken
 pub mod Standing
 pub mod Record

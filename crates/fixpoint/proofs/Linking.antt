@@ -4,6 +4,7 @@ use Rattle.std.specs.Prelude.{slice_get, nat_eq}
 use Rattle.std.specs.List.{All, list_any}
 use Rattle.std.proofs.lemmas.Bool.{false≢true, or_cases, cases_eq}
 use Rattle.std.proofs.Math.ListN.{length-set}
+use Rattle.std.proofs.lemmas.List.{get_or_push, get_or_append_left}
 use Rattle.std.proofs.lemmas.List.Folds.{list_any-append}
 use Rattle.std.proofs.lemmas.List.Elements.{All-append}
 use Rattle.std.proofs.lemmas.List.Quantifiers.{all_pairs_push}
@@ -17,7 +18,9 @@ use Rattle.std.specs.declared.alloc.Global.{Global}
 use Rattle.std.proofs.Math.Bool.{or-false}
 use Rattle.geo_conditions.specs.declared.object.ObjId.{ObjId}
 use Rattle.fixpoint.specs.declared.links.Links.{Links}
-use Rattle.fixpoint.specs.Links.{NumbersOf, PicksOf, names_none, is_among, NamedBy, row, AreLinks, put_where, Numbers}
+use Rattle.object_pruning.specs.declared.rows.Rows.{Rows}
+use Rattle.object_pruning.specs.InRows.{AreRows}
+use Rattle.fixpoint.specs.Links.{NumbersOf, PicksOf, names_none, is_among, NamedBy, row, HaveRows, AreLinks, put_where, Numbers}
 
 -- the place of a number that is there
 pub index_of : (i : ℕ) (xs : List ℕ) → list_any (nat_eq i) xs ≡ true → (k : ℕ) × (k < length xs) × (slice_index xs k ≡ i)
@@ -267,13 +270,24 @@ links_more cs n i named picks new bare c v l at k m e = record {
   bare = numbers_put (names_none n) cs i bare (names_none n c) l.bare (λ d. ap (names_none n) (at d));
 }
 
-pub links_end : (cs : List Cond) (n i : ℕ) (l : Links) → i ≡ length cs → LinksBelow cs n i l.named.items l.picks.items l.bare.items → AreLinks cs n l
-links_end cs n i l e b = record {
+pub links_end : (cs : List Cond) (n i : ℕ) (l : Links) → i ≡ length cs → LinksBelow cs n i l.named.items l.picks.items l.bare.items → HaveRows cs l.picks.items n l.rows.items → AreLinks cs n l
+links_end cs n i l e b rows = record {
   conditions = b.conditions ∙ e;
   named = λ j d h. b.named j d (omega (arith, h, e));
   objects = b.objects;
   picks = λ o h. subst (λ (m : ℕ). NumbersOf (names o) cs m (row l.picks.items o)) e (b.picks o h);
   bare = subst (λ (m : ℕ). NumbersOf (names_none n) cs m l.bare.items) e b.bare;
+  rows = rows;
+}
+
+-- the rows of one object more
+pub have_more : (cs : List Cond) (picks : List (Vec ℕ Global)) (n : ℕ) (rows : List Rows) (r : Rows) → HaveRows cs picks n rows → AreRows cs n (row picks n) r → HaveRows cs picks (n + 1) (rows ++ r ∷ [])
+have_more cs picks n rows r h one = record {
+  objects = length_more rows r ∙ ap (λ (m : ℕ). m + 1) h.objects;
+  each = λ o d b. elim (cases_eq o n) [
+    | inl e ↦ subst (λ (v : ℕ). AreRows cs v (row picks v) (get_or (rows ++ r ∷ []) v d)) (sym e) (subst (AreRows cs n (row picks n)) (sym (get_or_push rows r d n h.objects)) one)
+    | inr ne ↦ let low : o < n = omega arith in subst (AreRows cs o (row picks o)) (sym (get_or_append_left rows (r ∷ []) d o (omega (arith, low, h.objects)))) (h.each o d low)
+  ];
 }
 
 -- ---- what the links say

@@ -13,11 +13,11 @@ use Rattle.fixpoint.specs.Near.{NearSupports, NearUnrefuted, IsFine}
 use Rattle.fixpoint.specs.Queue.{RestFine}
 
 -- what is decided and merely holds
-stable : (P : Type 0) → Decided P → ∥ P ∥₁ → P
+pub stable : (P : Type 0) → Decided P → ∥ P ∥₁ → P
 stable P (inl p) h = p
 stable P (inr n) h = absurd (∥∥₁_elim h (hlevel) n)
 
-both : (P Q : Type 0) → Decided P → Decided Q → Decided (P × Q)
+pub both : (P Q : Type 0) → Decided P → Decided Q → Decided (P × Q)
 both P Q (inl p) (inl q) = inl (p, q)
 both P Q (inl p) (inr n) = inr (λ y. n y.1)
 both P Q (inr n) q = inr (λ y. n y.0)

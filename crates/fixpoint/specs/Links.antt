@@ -7,6 +7,8 @@ use Rattle.geo_conditions.specs.declared.cond.Cond.{Cond}
 use Rattle.geo_conditions.specs.declared.object.ObjId.{ObjId}
 use Rattle.indexical.specs.Names.{names}
 use Rattle.sweep.specs.Picks.{ArePicks}
+use Rattle.object_pruning.specs.declared.rows.Rows.{Rows}
+use Rattle.object_pruning.specs.InRows.{AreRows}
 use Rattle.fixpoint.specs.declared.links.Links.{Links}
 
 -- the numbers, from 1 and rising, are those of the first n conditions that meet the test
@@ -43,6 +45,11 @@ row [] i = []
 row (v ∷ vs) zero = v.items
 row (v ∷ vs) (suc i) = row vs i
 
+-- there are rows for each of n objects, and they have its picks
+pub record HaveRows (cs : List Cond) (picks : List (Vec ℕ Global)) (n : ℕ) (rows : List Rows) : Type 0 where
+  pub objects : length rows ≡ n
+  pub each : (o : ℕ) (d : Rows) → o < n → AreRows cs o (row picks o) (slice_index_or rows o d)
+
 -- the links between the conditions and n objects
 pub record AreLinks (cs : List Cond) (n : ℕ) (l : Links) : Type 0 where
   pub conditions : length l.named.items ≡ length cs
@@ -50,6 +57,7 @@ pub record AreLinks (cs : List Cond) (n : ℕ) (l : Links) : Type 0 where
   pub objects : length l.picks.items ≡ n
   pub picks : (o : ℕ) → o < n → PicksOf cs o (row l.picks.items o)
   pub bare : BareOf cs n l.bare.items
+  pub rows : HaveRows cs l.picks.items n l.rows.items
 
 -- the list, with the number at its end where the test is met
 abbrev pub put_where : Bool → ℕ → List ℕ → List ℕ

@@ -1,10 +1,12 @@
 //! Which objects the conditions name, and which conditions name an object.
 
 ghost use Rattle.std.specs.Prelude.{◌≡◌, ℕ, ◌<◌, ◌≤◌, [], length, map, IfOk};
-ghost use Rattle.fixpoint.specs.Links.{AreLinks, NamedBy, Numbers, row};
+ghost use Rattle.sweep.specs.Picks.{ArePicks};
+ghost use Rattle.fixpoint.specs.Links.{AreLinks, HaveRows, NamedBy, Numbers, row};
 
 use geo_conditions::{MAX_OBJECTS, ObjId};
 use indexical::AnyIndexical;
+use object_pruning::{Rows, rows_of};
 use std::alloc::{AllocError, Global};
 
 /// The links between conditions and objects. The numbers of the conditions count from 1.
@@ -16,6 +18,8 @@ pub struct Links {
     pub picks: Vec<Vec<u32>>,
     /// The numbers of the conditions that name no object.
     pub bare: Vec<u32>,
+    /// For each object its numbers in rows, by the places that the conditions ask for.
+    pub rows: Vec<Rows>,
 }
 
 // The objects that the condition names. Each gets the number of the condition.
@@ -52,6 +56,26 @@ fn no_picks(alloc: Global, objects: usize) -> Result<Vec<Vec<u32>>, AllocError>
     Ok(picks)
 }
 
+// The rows of each object, by its numbers.
+fn all_rows<const K: usize>(
+    alloc: Global,
+    list: &[AnyIndexical<K>],
+    picks: &[Vec<u32>],
+) -> Result<Vec<Rows>, AllocError>
+    requires objects { length picks.now ≤ MAX_OBJECTS }
+    requires picks { (o : ℕ) → o < length picks.now
+        → ArePicks (length list.now) (row picks.now o) }
+    ensures { IfOk result (λ v.
+        HaveRows (map (λ x. x.cond) list.now) picks.now (length picks.now) v.items) }
+{
+    let mut rows = Vec::new(alloc);
+    for o in 0..picks.len() {
+        let own = rows_of(alloc, list, &picks[o], ObjId(o as u16))?;
+        rows.push(own)?;
+    }
+    Ok(rows)
+}
+
 /// The links between the conditions and that number of objects. The answer is an error where memory
 /// runs out.
 pub fn links_of<const K: usize>(
@@ -74,5 +98,11 @@ pub fn links_of<const K: usize>(
         }
         named.push(those)?;
     }
-    Ok(Links { named, picks, bare })
+    let rows = all_rows(alloc, list, &picks)?;
+    Ok(Links {
+        named,
+        picks,
+        bare,
+        rows,
+    })
 }

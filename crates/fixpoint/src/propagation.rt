@@ -83,7 +83,17 @@ fn prune_linked<const K: usize, R: Recorder>(
 {
     let _objects = t.state().objects();
     let picks = &links.picks[o];
-    prune_kept(t, ObjId(o as u16), list, picks, None, &mut kept[o], hints, rec)
+    let rows = Some(&links.rows[o]);
+    prune_kept(
+        t,
+        ObjId(o as u16),
+        list,
+        picks,
+        rows,
+        &mut kept[o],
+        hints,
+        rec,
+    )
 }
 
 // Prunes an object, after what is kept of it was asked again. Where it changed, the neighbours that it may hinder are woken; so are
@@ -250,7 +260,7 @@ pub struct Fixpoint<const K: usize> {
     kept: Vec<Vec<Option<Placed<K>>>>,
     hints: Vec<Option<Placed<K>>>,
     ghost dims: { (0 < K) × (K ≤ MAX_DIMS) },
-    ghost linked: { AreLinks (map (λ x. x.cond) list.items) (length queued.items) links },
+    ghost linked: { ∥ AreLinks (map (λ x. x.cond) list.items) (length queued.items) links ∥₁ },
     ghost objects: { (length last ≡ length queued.items)
         × (length kept.items ≡ length queued.items) },
     ghost fine: { ∥ RestFine (map (λ x. x.cond) list.items) last queued.items ∥₁ },

@@ -1,4 +1,4 @@
-use Rattle.std.proofs.Common.{◌≡◌, ◌+◌, [], ℕ, List, Bool, map, length, get_or, ap, sym, ◌∙◌, subst, arith, nat_eq}
+use Rattle.std.proofs.Common.{◌≡◌, ◌<◌, ◌≤◌, ◌+◌, [], ℕ, List, Bool, map, length, get_or, ap, sym, ◌∙◌, subst, arith, rules, nat_eq}
 use Rattle.std.specs.declared.vec.Vec.{Vec}
 use Rattle.std.specs.declared.alloc.Global.{Global}
 use Rattle.std.proofs.lemmas.List.{length-map, get_or-map, with_items_is}
@@ -6,7 +6,9 @@ use Rattle.std.specs.Vec.{with_items}
 use Rattle.geo_conditions.specs.declared.object.ObjId.{ObjId}
 use Rattle.geo_conditions.specs.declared.cond.Cond.{Cond}
 use Rattle.indexical.specs.declared.any.AnyIndexical.{AnyIndexical}
-use Rattle.fixpoint.specs.Links.{NamedBy, Numbers, names_none, put_where}
+use Rattle.geo_conditions.specs.declared.object.TheConstants.{MAX_OBJECTS}
+use Rattle.sweep.specs.Picks.{ArePicks}
+use Rattle.fixpoint.specs.Links.{HaveRows, NamedBy, Numbers, names_none, put_where, row}
 use Rattle.fixpoint.proofs.Linking.{LinksBelow, links_start, links_more, links_end, named_empty}
 use Rattle.fixpoint.proofs.links.links_of.Goals as goal
 use Rattle.fixpoint.proofs.links.links_of.Goals.{then-is_empty+in_ok-push, else-is_empty}
@@ -46,5 +48,23 @@ loop-i-preserved g c =
     (subst (λ (vs : List (Vec ℕ Global)). LinksBelow cs n (i + 1) c.push-in-loop-i.new.self.items vs (put_where (names_none n x.cond) (i + 1) c.loop-i.bare.items)) (sym back)
     (subst (λ (vs : List (Vec ObjId Global)). LinksBelow cs n (i + 1) vs new (put_where (names_none n x.cond) (i + 1) c.loop-i.bare.items)) (sym c.in_ok-push-2.ensures.items) k))
 
+pub all_rows-requires : goal.all_rows-requires
+all_rows-requires g c =
+    let those = c.deref.result.now in
+    let n = length c.args.list.now in
+    let l = c.loop-i.invariant in
+    let e : those ≡ c.loop-i.picks.items = c.deref.ensures.value in
+    let end : c.loop-i.i ≡ n = omega (arith, c.loop-i-test.false, c.loop-i.auto.i-end) in
+    let objects : length those ≤ MAX_OBJECTS = omega (arith, ap length e, l.objects, c.requires.objects) in
+    let within : (o : ℕ) → o < length those → ArePicks n (row those o) = λ o h.
+    subst (λ (vs : List (Vec ℕ Global)). ArePicks n (row vs o)) (sym e) (subst (λ (m : ℕ). ArePicks m (row c.loop-i.picks.items o)) end (l.picks o (omega (arith, h, ap length e, l.objects))).within) in
+    search rules
+
 pub returns : goal.returns
-returns g c = links_end _ c.args.objects c.loop-i.i _ (omega (arith, c.loop-i-test.false, c.loop-i.auto.i-end, length-map c.args.list.now (λ x. x.cond))) c.loop-i.invariant
+returns g c =
+    let cs = map (λ (x : AnyIndexical g.row.K). x.cond) c.args.list.now in
+    let picks = c.loop-i.picks.items in
+    let own = c.in_ok-rows.rows.items in
+    let l = c.loop-i.invariant in
+    let rows : HaveRows cs picks c.args.objects own = subst (λ (m : ℕ). HaveRows cs picks m own) l.objects (subst (λ (vs : List (Vec ℕ Global)). HaveRows cs vs (length vs) own) c.deref.ensures.value c.in_ok-rows.ensures) in
+    links_end _ c.args.objects c.loop-i.i _ (omega (arith, c.loop-i-test.false, c.loop-i.auto.i-end, length-map c.args.list.now (λ x. x.cond))) l rows

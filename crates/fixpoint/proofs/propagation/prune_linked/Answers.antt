@@ -8,6 +8,7 @@ use Rattle.indexical.specs.declared.any.AnyIndexical.{AnyIndexical}
 use Rattle.sweep.specs.Picks.{ArePicks, picked}
 use Rattle.object_pruning.specs.declared.kept.Placed.{Placed}
 use Rattle.object_pruning.specs.Kept.{AllSupport}
+use Rattle.object_pruning.specs.InRows.{AreRows}
 use Rattle.object_pruning.specs.declared.prune.Pruned.{Pruned}
 use Rattle.object_pruning.specs.Same.{SameBut}
 use Rattle.object_pruning.specs.Pruning.{PrunesTo}
@@ -36,6 +37,8 @@ prune_kept-requires g c =
     let supports : AllSupport (picked cs (row picks o)) S o (row xs o) = supports_of cs S o (row picks o) (row xs o) (c.requires.links.picks o object) c.requires.stand in
     let kept : AllSupport (picked cs c.deref.result.now) S o c.deref_mut.result.now =
     subst (λ (p : List ℕ). AllSupport (picked cs p) S o c.deref_mut.result.now) (sym e) (subst (λ (v : List (Option (Placed g.row.K))). AllSupport (picked cs (row picks o)) S o v) (sym value) supports) in
+    let own = c.index.result.now in
+    let rows : AreRows cs o c.deref.result.now own = subst (λ (p : List ℕ). AreRows cs o p own) (sym e) (subst (AreRows cs o (row picks o)) (sym c.index.ensures) (c.requires.links.rows.each o own object)) in
     search rules
 
 pub returns-clause-pruned : goal.returns-clause-pruned

@@ -23,7 +23,7 @@ invariant_of-result g c =
     let fine : RestFine cs last q.items = λ o h e. absurd (false≢true (sym e ∙ ap (λ (b : List Bool). get_or b o false) all ∙ get_or-replicate n o true false (omega (arith, h, c.in_ok-last.ensures)))) in
     record {
       dims = c.requires.k;
-      linked = linked;
+      linked = ∣ linked ∣₁;
       objects = (c.in_ok-last.ensures ∙ sym long, c.in_ok-kept.ensures.0 ∙ sym long);
       fine = ∣ fine ∣₁;
       square = subst (λ (m : ℕ). IsSquare m c.in_ok-dirty.dirty.items) (sym long) c.in_ok-dirty.ensures;

@@ -11,6 +11,7 @@ use Rattle.fixpoint.specs.Kept.{Slots, AllStand}
 use Rattle.fixpoint.specs.Marks.{MarkRows, IsSquare}
 use Rattle.fixpoint.specs.Queue.{RestFine}
 use Rattle.fixpoint.proofs.Stable.{rest_of}
+use Rattle.fixpoint.proofs.StableRows.{links_taken}
 use Rattle.fixpoint.proofs.propagation.FixpointPropagate.settle.Goals as goal
 
 pub settle-requires : goal.settle-requires
@@ -25,7 +26,7 @@ settle-requires g c =
     let marks : q ≡ self.queued.items = c.deref_mut.ensures.value in
     let fits : AllFit cs S = subst (λ (l : List (AnyIndexical g.row.K)). AllFit (map f l) S) (sym same) c.requires.fits in
     let linked : AreLinks cs (length q) self.links =
-    subst (λ (l : List (AnyIndexical g.row.K)). AreLinks (map f l) (length q) self.links) (sym same) (subst (λ (b : List Bool). AreLinks (map f self.list.items) (length b) self.links) (sym marks) self.linked) in
+    subst (λ (l : List (AnyIndexical g.row.K)). AreLinks (map f l) (length q) self.links) (sym same) (subst (λ (b : List Bool). AreLinks (map f self.list.items) (length b) self.links) (sym marks) (links_taken (map f self.list.items) (length self.queued.items) self.links self.linked)) in
     let fine : RestFine cs self.last q =
     subst (λ (l : List (AnyIndexical g.row.K)). RestFine (map f l) self.last q) (sym same) (subst (RestFine (map f self.list.items) self.last) (sym marks) (rest_of (map f self.list.items) self.last self.queued.items self.fine)) in
     let objects : length q ≡ length S = ap length marks ∙ sym c.requires.objects in
@@ -66,7 +67,7 @@ invariant_of-self g c =
     let same : c.deref.result.now ≡ self.list.items = c.deref.ensures.value in
     let long : length new ≡ length self.queued.items = c.settle.auto.queued ∙ ap length c.deref_mut.ensures.value in
     let back : (with_items self.queued new).items ≡ new = with_items_is self.queued new (omega (arith, long, self.queued.ok.0)) in
-    let linked : AreLinks cs (length (with_items self.queued new).items) self.links = subst (λ (n : ℕ). AreLinks cs n self.links) (sym (ap length back ∙ long)) self.linked in
+    let linked : ∥ AreLinks cs (length (with_items self.queued new).items) self.links ∥₁ = subst (λ (n : ℕ). ∥ AreLinks cs n self.links ∥₁) (sym (ap length back ∙ long)) self.linked in
     let fine : RestFine cs c.settle.new.last (with_items self.queued new).items =
     subst (RestFine cs c.settle.new.last) (sym back) (subst (λ (l : List (AnyIndexical g.row.K)). RestFine (map f l) c.settle.new.last new) same c.settle.ensures.fine) in
     let slots = c.settle.new.kept in
