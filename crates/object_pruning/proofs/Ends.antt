@@ -15,7 +15,7 @@ use Rattle.geo_conditions.proofs.Decide.{cases_ℤ}
 use Rattle.std.proofs.lemmas.List.{get_or-set_same, get_or-set_other}
 use Rattle.geo_state.specs.Trail.{IsSmall, IsSmallNumber}
 use Rattle.geo_state.proofs.Narrower.{low_within, high_within, without_within}
-use Rattle.geo_state.proofs.Shapes.{place_few, places_long, lo_long, hi_long}
+use Rattle.geo_state.proofs.Shapes.{lo_long, hi_long}
 use Rattle.object_pruning.specs.Pruning.{CanBe, HasSamePoints, IsTight, PrunesTo}
 use Rattle.object_pruning.specs.declared.prune.Pruned.TheVariants.{Empty, Changed, Same}
 use Rattle.object_pruning.specs.declared.kept.Placed.{Placed}
@@ -91,21 +91,17 @@ at_end cs S o d up q y e = (
     by_side true v l h = l
     by_side false v l h = omega (arith, ints)
 
--- a place that is there is one of the sixteen
-pub place_in_16 : (K : ℕ) (S : State) (o s : ℕ) → IsState K S → o < length S → has S o s ≡ true → s < 17
-place_in_16 K S o s i h t = omega (arith, place_few (reach S o).places s t, places_long K S o i h)
-
-pub best_end : {K : ℕ} (cs : List Cond) (S : State) (o d : ℕ) (up : Bool) (n : ℕ) (q : Placed K) → IsState K S → o < length S → 17 ≤ n → IsBest cs S o d up n (Some q) → IsOutermostPoint cs S o d up q
-best_end {K} cs S o d up n q i h l b = (
+pub best_end : {K : ℕ} (cs : List Cond) (S : State) (o d : ℕ) (up : Bool) (n : ℕ) (q : Placed K) → ((s : ℕ) → has S o s ≡ true → s < n) → IsBest cs S o d up n (Some q) → IsOutermostPoint cs S o d up q
+best_end {K} cs S o d up n q few b = (
   b.0,
   record {
     there = (q.place, q.point.coordinates, b.0, refl);
-    first = λ s p y. b.1 s p (omega (arith, l, place_in_16 K S o s i h y.place)) y;
+    first = λ s p y. b.1 s p (few s y.place) y;
   },
 )
 
-pub best_none : (K : ℕ) (cs : List Cond) (S : State) (o d : ℕ) (up : Bool) (n : ℕ) → IsState K S → o < length S → 17 ≤ n → IsBest {K = K} cs S o d up n None → HasSome cs S o → ⊥
-best_none K cs S o d up n i h l b y = b y.0 y.1 (omega (arith, l, place_in_16 K S o y.0 i h y.2.place)) y.2
+pub best_none : (K : ℕ) (cs : List Cond) (S : State) (o d : ℕ) (up : Bool) (n : ℕ) → ((s : ℕ) → has S o s ≡ true → s < n) → IsBest {K = K} cs S o d up n None → HasSome cs S o → ⊥
+best_none K cs S o d up n few b y = b y.0 y.1 (few y.0 y.2.place) y.2
 
 -- ---- the places
 
@@ -195,9 +191,9 @@ drops_gone cs o n S some dropped T U h l k t none q = subst (DropsBelow cs o (n 
 pub drops_as : (cs : List Cond) (o n : ℕ) (S : State) (a a' b b' : Bool) (T T' : State) → a' ≡ a → b' ≡ b → T' ≡ T → DropsBelow cs o n S a b T → DropsBelow cs o n S a' b' T'
 drops_as cs o n S a a' b b' T T' p q r k = subst (λ (x : Bool). DropsBelow cs o n S x b' T') (sym p) (subst (λ (x : Bool). DropsBelow cs o n S a x T') (sym q) (subst (DropsBelow cs o n S a b) (sym r) k))
 
-pub drops_end : (K : ℕ) (cs : List Cond) (o n : ℕ) (S : State) (some dropped : Bool) (T : State) → IsState K S → o < length S → 17 ≤ n → DropsBelow cs o n S some dropped T → DropsPlaces cs o S some dropped T
-drops_end K cs o n S some dropped T i h l k =
-    let few : (s : ℕ) → has T o s ≡ true → s < n = λ s t. omega (arith, l, place_in_16 K S o s i h ((k.inside.each o).places s t)) in
+pub drops_end : (cs : List Cond) (o n : ℕ) (S : State) (some dropped : Bool) (T : State) → ((s : ℕ) → has S o s ≡ true → s < n) → DropsBelow cs o n S some dropped T → DropsPlaces cs o S some dropped T
+drops_end cs o n S some dropped T all k =
+    let few : (s : ℕ) → has T o s ≡ true → s < n = λ s t. all s ((k.inside.each o).places s t) in
     record {
       points = k.points;
       have = λ s t. k.have s (few s t) t;

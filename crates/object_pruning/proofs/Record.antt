@@ -29,7 +29,7 @@ use Rattle.sweep.specs.Sweep.{IsCovered, part_before}
 use Rattle.object_pruning.specs.declared.kept.Placed.{Placed}
 use Rattle.object_pruning.specs.Ends.{IsSooner}
 use Rattle.derivation.specs.Chains.{IsLed, IsClosed}
-use Rattle.object_pruning.specs.Record.{end_side, with_end, IsNotBeyond, ListsPlace, AreListed}
+use Rattle.object_pruning.specs.Record.{end_side, with_end, IsNotBeyond, ListsPlace, AreListed, AreListedBelow}
 
 -- ---- lists of events
 
@@ -154,3 +154,11 @@ end_recorded cs S o d up v old first mid last new x m there k small l h e f a g 
     record { list = r.list; events = q ∙ held old (covers_events r.list) x (bound_event o side) last m e (r.events ∙ ap (λ (xs : List Event). xs ++ covers_events r.list) f); all = r.all; numbers = r.numbers } in
     bound_led cs S (with_end S o d up v) o side old begun new there
     (is_cut S o d up v k (omega (arith, ints, l, (small o d).0.0), omega (arith, ints, h, (small o d).1.1))) (narrows S o d up v l h) refl c refl
+
+-- no place from n on is there
+pub listed_on : (cs : List Cond) (S : State) (o d : ℕ) (up : Bool) (v : ℤ) (n m : ℕ) (old new : List Event) → 0 < n → ((s : ℕ) → has S o s ≡ true → s < n) → AreListedBelow cs S o d up v n old new → AreListedBelow cs S o d up v (n + m) old new
+listed_on cs S o d up v n zero old new some few k = let e : n ≡ n + 0 = omega arith in subst (λ (j : ℕ). AreListedBelow cs S o d up v j old new) e k
+listed_on cs S o d up v n (suc m) old new some few k =
+    let absent : has S o (n + m) ≡ false = false_of (has S o (n + m)) (λ t. absurd (omega (arith, few (n + m) t))) in
+    let e : n + m + 1 ≡ n + suc m = omega arith in
+    subst (λ (j : ℕ). AreListedBelow cs S o d up v j old new) e (lists_absent cs S o d up v (n + m) new (omega (arith, some)) absent old (listed_on cs S o d up v n m old new some few k))

@@ -16,6 +16,7 @@ ghost use Rattle.object_pruning.specs.InRows.{AreRows};
 
 use super::first_point::first_point;
 use super::kept::{Placed, end_of};
+use super::places::last_place;
 use super::rows::Rows;
 use derivation::{Event, Recorder};
 use geo_base::{MAX_DIMS, Way};
@@ -117,8 +118,9 @@ fn outermost<const K: usize, I: Indexical<K>, R: Recorder>(
     let way = Way::new(d, up);
     let _objects = s.objects();
     let there = end_of(s, o, d, up);
+    let last = last_place(s, o);
     let mut best = None;
-    for before in 0..16u8 {
+    for before in 0..last {
         if let Some(q) = point_at(s, o, before + 1, list, picks, rows, &way, rec)? {
             if q.point.get(d) == there {
                 return Ok(q);

@@ -1,6 +1,6 @@
 //! The places of an object: each without a point goes.
 
-ghost use Rattle.std.specs.Prelude.{◌≡◌, ◌+◌, ◌-◌, ◌^◌, ◌<◌, ◌≤◌, false, true, ℤ, List, length, map, min, slice_set, IfOk, IsOk, MatchBool, MatchOption, OnErr, IfSome};
+ghost use Rattle.std.specs.Prelude.{◌≡◌, ℕ, ◌+◌, ◌-◌, ◌^◌, ◌<◌, ◌≤◌, false, true, ℤ, List, length, map, min, slice_set, IfOk, IsOk, MatchBool, MatchOption, OnErr, IfSome};
 ghost use Rattle.geo_conditions.specs.Conditions.{AllFit};
 ghost use Rattle.geo_conditions.specs.Reach.{Inside, has, reach, without};
 ghost use Rattle.geo_conditions.specs.Supported.{HasNoPoint};
@@ -20,10 +20,27 @@ use super::kept::{Placed, keep_found, place_slot};
 use super::rows::Rows;
 use derivation::{Event, Recorder};
 use geo_base::{MAX_DIMS, Point, Way};
-use geo_conditions::{ObjId, State};
+use geo_conditions::{MAX_SHAPES, ObjId, State};
 use geo_state::Trailed;
 use indexical::Indexical;
 use std::alloc::AllocError;
+
+/// The last place that the object has; 0 where it has none.
+pub fn last_place<const K: usize>(s: &State<K>, o: ObjId) -> u8
+    requires k { K ≤ MAX_DIMS }
+    requires object { o.0 < length s.now }
+    ensures few { result ≤ MAX_SHAPES }
+    ensures last { (place : ℕ) → has s.now o.0 place ≡ true → place ≤ result }
+{
+    let places = s.places(o);
+    let mut last = 0u8;
+    for before in 0..16u8 {
+        if places.has(before + 1) {
+            last = before + 1;
+        }
+    }
+    last
+}
 
 // A point of the object at that place, which is there: one that a sweep finds from the far corner on. Where there is none,
 // the record has the place dropped, with its cover, and else it is as before.
@@ -142,10 +159,12 @@ pub fn drop_places<const K: usize, I: Indexical<K>, R: Recorder>(
     ensures levels { (t.new.levels ≡ t.old.levels) × (t.new.restores ≡ t.old.restores) }
     ensures grows { Grows R.keeps R.list R.refusals rec.old rec.new result }
 {
-    let _objects = t.state().objects();
+    let start = t.state();
+    let _objects = start.objects();
+    let last = last_place(start, o);
     let mut some = false;
     let mut dropped = false;
-    for before in 0..16u8 {
+    for before in 0..last {
         let place = before + 1;
         let state = t.state();
         if state.has_shape(o, place) {

@@ -13,7 +13,7 @@ use Rattle.object_pruning.specs.Ends.{IsFirstAt, end}
 use Rattle.object_pruning.specs.Record.{IsNotBeyond, ListsPlace}
 use Rattle.object_pruning.proofs.Cases.{from_none, from_some}
 use Rattle.object_pruning.proofs.Ends.{IsBest, at_end, best_skip, best_found, best_end, best_none}
-use Rattle.object_pruning.proofs.Record.{not_beyond}
+use Rattle.object_pruning.proofs.Record.{not_beyond, listed_on}
 use Rattle.object_pruning.proofs.outer_points.outermost.Goals as goal
 use Rattle.object_pruning.proofs.outer_points.outermost.Goals.{Then-get-there, in-Some+else-get-there, in_default}
 
@@ -73,7 +73,7 @@ unreachable-requires g c =
     let cs = picked (map g.I.Indexical.cond c.args.list.now) c.args.picks.now in
     let n = c.loop-before.before + 1 in
     let b : IsBest {K = g.row.K} cs c.args.s.now c.args.o.0 c.args.d c.args.up n None = subst (IsBest cs c.args.s.now c.args.o.0 c.args.d c.args.up n) c.in-None.is c.loop-before.invariant.best in
-    best_none g.row.K cs c.args.s.now c.args.o.0 c.args.d c.args.up n c.objects-objects.ensures.shape c.requires.object (omega (arith, c.loop-before-test.false)) b c.requires.some
+    best_none g.row.K cs c.args.s.now c.args.o.0 c.args.d c.args.up n (λ s t. omega (arith, c.last_place-last.ensures.last s t, c.loop-before-test.false)) b c.requires.some
 
 pub returns-clause-point : goal.returns-clause-point
 returns-clause-point g c =
@@ -81,7 +81,7 @@ returns-clause-point g c =
     let q = c.in-Some-best.q in
     let n = c.loop-before.before + 1 in
     let b : IsBest cs c.args.s.now c.args.o.0 c.args.d c.args.up n (Some q) = subst (IsBest cs c.args.s.now c.args.o.0 c.args.d c.args.up n) c.in-Some-best.is c.loop-before.invariant.best in
-    best_end cs c.args.s.now c.args.o.0 c.args.d c.args.up n q c.objects-objects.ensures.shape c.requires.object (omega (arith, c.loop-before-test.false)) b
+    best_end cs c.args.s.now c.args.o.0 c.args.d c.args.up n q (λ s t. omega (arith, c.last_place-last.ensures.last s t, c.loop-before-test.false)) b
 
 pub returns-clause-listed : goal.returns-clause-listed
 returns-clause-listed g c = λ kept ne.
@@ -92,8 +92,10 @@ returns-clause-listed g c = λ kept ne.
     let q = c.in-Some-best.q in
     let v = coordinate q.point.coordinates d in
     let here : toward up v ≤ℤ toward up v = omega (arith, ints) in
-    let few : length (reach S o).places < c.loop-before.before + 1 = omega (arith, c.loop-before-test.false, places_long g.row.K S o c.objects-objects.ensures.shape c.requires.object) in
-    (c.loop-before.before + 1, few, c.loop-before.invariant.listed kept v (subst (IsNotBeyond d up v) (sym c.in-Some-best.is) here))
+    let n = c.loop-before.before + 1 in
+    let few : length (reach S o).places < n + 16 = omega (arith, places_long g.row.K S o c.objects-objects.ensures.shape c.requires.object) in
+    let listed = c.loop-before.invariant.listed kept v (subst (IsNotBeyond d up v) (sym c.in-Some-best.is) here) in
+    (n + 16, few, listed_on (map g.I.Indexical.cond c.args.list.now) S o d up v n 16 _ _ (omega arith) (λ s t. omega (arith, c.last_place-last.ensures.last s t, c.loop-before-test.false)) listed)
 
 pub returns-in_err-q-clause-grows : goal.returns-in_err-q-clause-grows
 returns-in_err-q-clause-grows g c = growth_failed (growth_on c.loop-before.invariant.grows c.in_err-q.ensures.grows) _ c.from_residual.ensures.0

@@ -1,6 +1,6 @@
 use Rattle.std.proofs.Common.{◌≡◌, ◌+◌, ◌<◌, true, false, map, length, set, ap, sym, ◌∙◌, subst, arith, rules, List, ℤ}
 use Rattle.geo_conditions.specs.Conditions.{AllFit}
-use Rattle.geo_conditions.specs.Reach.{State, IsState, reach, has, without}
+use Rattle.geo_conditions.specs.Reach.{State, reach, has, without}
 use Rattle.geo_conditions.specs.Supported.{HasNoPoint}
 use Rattle.geo_state.specs.Trail.{Trail, IsSmall}
 use Rattle.geo_state.proofs.Fits.{all_fit}
@@ -105,8 +105,10 @@ pub returns-clause-drops : goal.returns-clause-drops
 returns-clause-drops g c =
     let cs = picked (map g.I.Indexical.cond c.args.list.now) c.args.picks.now in
     let S = c.args.t.now.state in
-    drops_end g.row.K cs c.args.o.0 (c.loop-before.before + 1) S c.loop-before.some c.loop-before.dropped c.loop-before.t.state (subst (IsState g.row.K) c.state.ensures.value c.objects-objects.ensures.shape)
-    c.requires.object (omega (arith, c.loop-before-test.false)) c.loop-before.invariant.drops
+    let o = c.args.o.0 in
+    drops_end cs o (c.loop-before.before + 1) S c.loop-before.some c.loop-before.dropped c.loop-before.t.state
+    (λ s h. omega (arith, c.last_place-last.ensures.last s (subst (λ (X : State). has X o s ≡ true) (sym c.state-start.ensures.value) h), c.loop-before-test.false))
+    c.loop-before.invariant.drops
 
 pub returns-in_err-has_point-clause-grows : goal.returns-in_err-has_point-clause-grows
 returns-in_err-has_point-clause-grows g c = growth_failed (growth_on c.loop-before.invariant.grows c.in_err-has_point.ensures.grows) _ c.from_residual.ensures.0
