@@ -4,6 +4,7 @@ pub mod Linking
 pub mod Effect
 pub mod Stable
 pub mod StableRows
+pub mod AskedRows
 pub mod Woken
 pub mod Standing
 pub mod Record

@@ -35,7 +35,7 @@ decide_contains xs i = elim (search_below (λ k. get_or xs k i ≡ i) (λ k. dec
 
 -- ---- the number of a group
 
-have_none : (i : ℕ) → HaveNumber [] i → ⊥
+pub have_none : (i : ℕ) → HaveNumber [] i → ⊥
 have_none i h = at h.0 h.1 h.2
   where
     at : (k : ℕ) (g : Group) → slice_get [] k ≡ Some g → ⊥

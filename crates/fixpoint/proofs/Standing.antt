@@ -1,5 +1,5 @@
 -- Points that are kept of the objects stand as long as each condition that sees a change is asked anew.
-use Rattle.std.proofs.Common.{◌≡◌, ◌≢◌, ◌⊎◌, ℕ, zero, suc, ◌+◌, ◌-◌, ◌<◌, ◌≤◌, Bool, true, false, List, [], ◌∷◌, ◌++◌, length, map, set, get_or, refl, sym, ap, ◌∙◌, subst, inl, inr, arith, Some, None, Option, slice_index, eqb-true, eq-eqb, Vec, Global}
+use Rattle.std.proofs.Common.{◌≡◌, ◌≢◌, ◌⊎◌, ℕ, zero, suc, ◌-◌, ◌<◌, Bool, true, false, List, [], ◌∷◌, ◌++◌, length, map, set, get_or, refl, sym, ap, ◌∙◌, subst, inl, inr, arith, Some, None, Option, slice_index, eqb-true, eq-eqb, Vec, Global}
 use Rattle.std.specs.Prelude.{nat_eq, if◌then◌else◌, IfSome}
 use Rattle.std.specs.List.{All, list_any}
 use Rattle.std.proofs.lemmas.Bool.{false≢true, or_cases, or_left, or_right, cases_eq, cases_lt}
@@ -18,13 +18,12 @@ use Rattle.object_pruning.specs.declared.kept.Placed.{Placed}
 use Rattle.object_pruning.specs.Kept.{AllSupport, placed, retried}
 use Rattle.object_pruning.specs.Same.{SameBut}
 use Rattle.object_pruning.proofs.Supports.{supports_at}
-use Rattle.fixpoint.specs.declared.links.Links.{Links}
-use Rattle.fixpoint.specs.Links.{PicksOf, NamedBy, is_among, row, AreLinks}
+use Rattle.fixpoint.specs.Links.{PicksOf, NamedBy, is_among, row}
 use Rattle.fixpoint.specs.Near.{NearUnrefuted, Unhindered}
 use Rattle.fixpoint.specs.Kept.{Slots, IsBlank, AllStand, StandBut, Stand, RetriesMarked, StandsAlone}
-use Rattle.fixpoint.specs.Marks.{MarkRows, NamesUnmarked, IsCleared, MarksAt, NotesChanges}
+use Rattle.fixpoint.specs.Marks.{MarkRows, IsCleared, MarksAt, NotesChanges}
 use Rattle.fixpoint.proofs.Names.{still_possible}
-use Rattle.fixpoint.proofs.Linking.{named_all, row_set_same, row_set_other, nth, each_named, or_first, or_second}
+use Rattle.fixpoint.proofs.Linking.{named_all, row_set_same, row_set_other, or_first, or_second}
 
 -- ---- one condition asks again
 
@@ -73,39 +72,6 @@ retries_skipped c S o marks list slots k long none = record {
     | inr l ↦ get_or_past marks u false (omega (arith, l, long))
   ]);
 }
-
--- ---- the conditions that name an object ask again
-
--- the first k conditions that name o asked again
-pub record AskedBelow {K : ℕ} (cs : List Cond) (l : Links) (S : State) (o k : ℕ) (marks : List Bool) (old new : List (Option (Placed K))) : Type 0 where
-  pub stay : (i : ℕ) (q : Placed K) → get_or new i None ≡ Some q → get_or old i None ≡ Some q
-  pub tried : (i : ℕ) (q : Placed K) → get_or new i None ≡ Some q → (j : ℕ) (d : Cond) → j < k → NamesUnmarked marks (get_or cs (nth l o j) d) ⊎ (possible (get_or cs (nth l o j) d) (placed S o q) ≡ true)
-
-pub asked_start : {K : ℕ} (cs : List Cond) (l : Links) (S : State) (o : ℕ) (marks : List Bool) (slots : List (Option (Placed K))) → AskedBelow cs l S o 0 marks slots slots
-asked_start cs l S o marks slots = record { stay = λ i q e. e; tried = λ i q e j d b. absurd (omega arith) }
-
--- the condition is possible with the object there, if it names a marked object
-abbrev Tried : {K : ℕ} → State → ℕ → List Bool → Placed K → Cond → Type 0
-Tried S o marks q x = NamesUnmarked marks x ⊎ (possible x (placed S o q) ≡ true)
-
-pub asked_more : {K : ℕ} (cs : List Cond) (l : Links) (S : State) (o k : ℕ) (marks : List Bool) (old slots new : List (Option (Placed K))) (c : Cond) → ((d : Cond) → get_or cs (nth l o k) d ≡ c) → AskedBelow cs l S o k marks old slots → RetriesMarked c S o marks slots new → AskedBelow cs l S o (k + 1) marks old new
-asked_more {K} cs l S o k marks old slots new c at a r = record {
-  stay = λ i q e. a.stay i q (r.stay i q e);
-  tried = λ i q e j d b. elim (cases_eq j k) [
-    | inl s ↦ subst (λ (z : ℕ). Tried S o marks q (get_or cs (nth l o z) d)) (sym s) (subst (Tried S o marks q) (sym (at d)) (last i q e))
-    | inr n ↦ a.tried i q (r.stay i q e) j d (omega (arith, b, n))
-  ];
-}
-  where
-    last : (i : ℕ) (q : Placed K) → get_or new i None ≡ Some q → Tried S o marks q c
-    last i q e = elim r.tried [ inl u ↦ inl u | inr f ↦ inr (f i q e) ]
-
-pub asked_end : {K : ℕ} (cs : List Cond) (l : Links) (S : State) (o k : ℕ) (marks : List Bool) (old new : List (Option (Placed K))) → AreLinks cs (length S) l → o < length S → length (row l.picks.items o) ≤ k → AskedBelow cs l S o k marks old new → StandBut cs S o marks old → Stand cs S o new
-asked_end cs l S o k marks old new a h end r f i q e m d hm nm =
-    elim (each_named (λ c. NamesUnmarked marks c ⊎ (possible c (placed S o q) ≡ true)) cs (length S) o l a h (λ j x b. r.tried i q e j x (omega (arith, b, end))) m d hm nm) [
-      | inl u ↦ f i q (r.stay i q e) m d hm nm u
-      | inr y ↦ y
-    ]
 
 -- ---- after a change
 

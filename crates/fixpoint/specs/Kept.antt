@@ -1,6 +1,6 @@
 -- Points that are kept of each object: with the object there, no condition that names it is refuted, but perhaps one that names
 -- a neighbour that is marked.
-use Rattle.std.specs.Prelude.{◌≡◌, ◌≢◌, ◌⊎◌, ℕ, ◌<◌, Bool, true, List, length, slice_index_or, Option, None, Some}
+use Rattle.std.specs.Prelude.{◌≡◌, ◌≢◌, ◌⊎◌, ℕ, ◌-◌, ◌<◌, Bool, true, List, length, slice_get, slice_index_or, Option, None, Some}
 use Rattle.std.specs.List.{All}
 use Rattle.std.specs.declared.vec.Vec.{Vec}
 use Rattle.std.specs.declared.alloc.Global.{Global}
@@ -46,6 +46,11 @@ Stand {K} cs S o slots = (i : ℕ) (q : Placed K) → slice_index_or slots i Non
 pub record StandsAlone {K : ℕ} (cs : List Cond) (S : State) (o : ℕ) (old new : Slots K) : Type 0 where
   pub others : (u : ℕ) → u ≢ o → row new u ≡ row old u
   pub itself : Stand cs S o (row new o)
+
+-- what is kept was kept, and each condition of those numbers is possible there, or it names no marked object
+pub record RetriesThose {K : ℕ} (cs : List Cond) (S : State) (o : ℕ) (marks : List Bool) (Those : ℕ → Type 0) (old new : List (Option (Placed K))) : Type 0 where
+  pub stay : (i : ℕ) (q : Placed K) → slice_index_or new i None ≡ Some q → slice_index_or old i None ≡ Some q
+  pub tried : (k : ℕ) (x : Cond) → Those k → slice_get cs (k - 1) ≡ Some x → (i : ℕ) (q : Placed K) → slice_index_or new i None ≡ Some q → NamesUnmarked marks x ⊎ (possible x (placed S o q) ≡ true)
 
 -- what is kept was kept, and the condition is possible there if it names a marked object
 pub record RetriesMarked {K : ℕ} (c : Cond) (S : State) (o : ℕ) (marks : List Bool) (old new : List (Option (Placed K))) : Type 0 where
