@@ -20,6 +20,7 @@ use Rattle.geo_conditions.specs.declared.object.ObjId.{ObjId}
 use Rattle.fixpoint.specs.declared.links.Links.{Links}
 use Rattle.object_pruning.specs.declared.rows.Rows.{Rows}
 use Rattle.object_pruning.specs.InRows.{AreRows}
+pub use Rattle.object_pruning.proofs.InRows.{row_get, row_empty, row_set_same, row_set_other, length_more}
 use Rattle.fixpoint.specs.Links.{NumbersOf, PicksOf, names_none, is_among, NamedBy, row, HaveRows, AreLinks, put_where, Numbers}
 
 -- the place of a number that is there
@@ -42,11 +43,6 @@ named_all P cs o picks p a = numbers_all P (names o) cs picks p a
 
 -- ---- lists of lists
 
-pub row_get : {X : Type 0} (vs : List (Vec X Global)) (i : ℕ) (d : Vec X Global) → i < length vs → row vs i ≡ (get_or vs i d).items
-row_get [] i d h = absurd (omega arith)
-row_get (v ∷ vs) zero d h = refl
-row_get (v ∷ vs) (suc i) d h = row_get vs i d (omega arith)
-
 pub row_before : {X : Type 0} (vs : List (Vec X Global)) (v : Vec X Global) (i : ℕ) → i < length vs → row (vs ++ v ∷ []) i ≡ row vs i
 row_before [] v i h = absurd (omega arith)
 row_before (w ∷ vs) v zero h = refl
@@ -55,29 +51,6 @@ row_before (w ∷ vs) v (suc i) h = row_before vs v i (omega arith)
 pub row_last : {X : Type 0} (vs : List (Vec X Global)) (v : Vec X Global) → row (vs ++ v ∷ []) (length vs) ≡ v.items
 row_last [] v = refl
 row_last (w ∷ vs) v = row_last vs v
-
--- one empty list more
-pub row_empty : {X : Type 0} (vs : List (Vec X Global)) (v : Vec X Global) → v.items ≡ [] → ((i : ℕ) → row vs i ≡ []) → (i : ℕ) → row (vs ++ v ∷ []) i ≡ []
-row_empty [] v e f zero = e
-row_empty [] v e f (suc i) = refl
-row_empty (w ∷ vs) v e f zero = f 0
-row_empty (w ∷ vs) v e f (suc i) = row_empty vs v e (λ j. f (suc j)) i
-
-pub row_set_same : {X : Type 0} (vs : List (Vec X Global)) (i : ℕ) (v : Vec X Global) → i < length vs → row (set vs i v) i ≡ v.items
-row_set_same [] i v h = absurd (omega arith)
-row_set_same (w ∷ vs) zero v h = refl
-row_set_same (w ∷ vs) (suc i) v h = row_set_same vs i v (omega arith)
-
-pub row_set_other : {X : Type 0} (vs : List (Vec X Global)) (i j : ℕ) (v : Vec X Global) → (j ≡ i → ⊥) → row (set vs i v) j ≡ row vs j
-row_set_other [] i j v n = refl
-row_set_other (w ∷ vs) zero zero v n = absurd (n refl)
-row_set_other (w ∷ vs) zero (suc j) v n = refl
-row_set_other (w ∷ vs) (suc i) zero v n = refl
-row_set_other (w ∷ vs) (suc i) (suc j) v n = row_set_other vs i j v (λ e. n (ap suc e))
-
-pub length_more : {X : Type 0} (xs : List X) (x : X) → length (xs ++ x ∷ []) ≡ length xs + 1
-length_more [] x = refl
-length_more (y ∷ xs) x = let e = length_more xs x in omega (arith, e)
 
 -- ---- numbers of conditions
 

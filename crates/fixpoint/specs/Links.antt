@@ -9,6 +9,7 @@ use Rattle.indexical.specs.Names.{names}
 use Rattle.sweep.specs.Picks.{ArePicks}
 use Rattle.object_pruning.specs.declared.rows.Rows.{Rows}
 use Rattle.object_pruning.specs.InRows.{AreRows}
+pub use Rattle.object_pruning.specs.InRows.{row}
 use Rattle.fixpoint.specs.declared.links.Links.{Links}
 
 -- the numbers, from 1 and rising, are those of the first n conditions that meet the test
@@ -38,12 +39,6 @@ is_among o list = list_any (λ u. u.0 == o) list
 pub record NamedBy (c : Cond) (n : ℕ) (list : List ObjId) : Type 0 where
   pub below : All (λ u. u.0 < n) list
   pub each : (o : ℕ) → o < n → is_among o list ≡ names o c
-
--- what the i-th of the lists has; nothing past the last one
-abbrev pub row : {X : Type 0} → List (Vec X Global) → ℕ → List X
-row [] i = []
-row (v ∷ vs) zero = v.items
-row (v ∷ vs) (suc i) = row vs i
 
 -- there are rows for each of n objects, and they have its picks
 pub record HaveRows (cs : List Cond) (picks : List (Vec ℕ Global)) (n : ℕ) (rows : List Rows) : Type 0 where

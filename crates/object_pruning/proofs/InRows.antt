@@ -86,7 +86,7 @@ row_set_other (w ∷ vs) (suc i) (suc j) v n = row_set_other vs i j v (λ e. n (
 -- ---- one number more
 
 module _ (cs : List Cond) (o : ℕ) (picks : List ℕ) (r : ℕ) where
-  -- a condition that asks for these places, in a row of its place or in row 0
+  -- a condition that asks for these places, in the row of its place or in the first one
   pub single_group : (f : Facing) (i k : ℕ) → k < length picks → slice_index picks k ≡ i → (r ≢ 0 → r ≡ f.place) → ((x : Cond) → slice_get cs (i - 1) ≡ Some x → Faces x o f) → IsGroup cs o picks r (group_of f i)
   single_group f i k h at place faces = record {
     some = omega arith;

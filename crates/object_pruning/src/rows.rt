@@ -22,7 +22,7 @@ pub struct Group {
     pub last: u32,
 }
 
-/// The conditions that name an object, in rows: those that ask for its place r in row r, and those that ask for none in row 0.
+/// The conditions that name an object, in rows: first those that ask for no place of it, and then, place by place, those that ask for it.
 #[derive(Drop)]
 pub struct Rows {
     pub rows: Vec<Vec<Group>>,
