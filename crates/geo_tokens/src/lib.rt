@@ -2,6 +2,7 @@
 #![tactic(auto)]
 
 pub mod fault;
+pub mod first;
 pub mod first_end;
 pub mod front;
 pub mod lexer;

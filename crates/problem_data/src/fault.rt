@@ -4,6 +4,7 @@ ghost use Rattle.std.specs.Prelude.{◌≡◌};
 ghost use Rattle.problem_data.specs.Least.{word_rank, is_after, earlier, fault_if};
 
 use geo_tokens::fault::FaultWord;
+use geo_tokens::first::{self, InOrder};
 
 /// What is wrong at a place. The place is how many bytes of the text stand before it.
 #[derive(Clone, Copy)]
@@ -24,21 +25,20 @@ fn word_rank(word: FaultWord) -> u8
     RANKS[word as usize]
 }
 
-fn is_after(f: Fault, g: Fault) -> bool
-    ensures { result ≡ is_after f g }
-{
-    f.place > g.place || f.place == g.place && word_rank(f.word) > word_rank(g.word)
+impl InOrder for Fault {
+    ghost comes_after = { is_after };
+
+    fn is_after(&self, other: &Fault) -> bool {
+        self.place > other.place
+            || self.place == other.place && word_rank(self.word) > word_rank(other.word)
+    }
 }
 
 /// The one of two that comes first: at the lesser place, and at one place by the order of the words.
 pub fn earlier(a: Option<Fault>, b: Option<Fault>) -> Option<Fault>
     ensures { result ≡ earlier a b }
 {
-    match (a, b) {
-        (Some(f), Some(g)) => { if is_after(f, g) { Some(g) } else { Some(f) } }
-        (Some(f), None) => Some(f),
-        (None, g) => g,
-    }
+    first::earlier(a, b)
 }
 
 /// The fault, where there is one.

@@ -5,6 +5,7 @@ ghost use Rattle.rule_names.specs.declared.mistake.Mistake.{Mistake};
 ghost use Rattle.rule_names.specs.Mistakes.{phase, rank, word_of, is_after, earlier, first_of, mistake_if};
 
 use geo_tokens::fault::FaultWord;
+use geo_tokens::first::{self, InOrder};
 
 /// What is wrong with a name. The first two are mistakes of names, the others of kinds.
 #[derive(Clone, Copy)]
@@ -67,22 +68,15 @@ pub fn word_of(flaw: Flaw) -> FaultWord
     }
 }
 
-fn is_after(f: Mistake, g: Mistake) -> bool
-    ensures { result ≡ is_after f g }
-{
-    let own = phase(f.flaw);
-    let other = phase(g.flaw);
-    own > other
-        || own == other && (f.place > g.place || f.place == g.place && rank(f.flaw) > rank(g.flaw))
-}
+impl InOrder for Mistake {
+    ghost comes_after = { is_after };
 
-fn earlier_of(a: Option<Mistake>, b: Option<Mistake>) -> Option<Mistake>
-    ensures { result ≡ earlier a b }
-{
-    match (a, b) {
-        (Some(f), Some(g)) => { if is_after(f, g) { Some(g) } else { Some(f) } }
-        (Some(f), None) => Some(f),
-        (None, g) => g,
+    fn is_after(&self, other: &Mistake) -> bool {
+        let own = phase(self.flaw);
+        let others = phase(other.flaw);
+        let is_behind = self.place > other.place
+            || self.place == other.place && rank(self.flaw) > rank(other.flaw);
+        own > others || own == others && is_behind
     }
 }
 
@@ -92,7 +86,7 @@ pub fn earlier(a: Option<Mistake>, b: Option<Mistake>) -> Option<Mistake>
     ensures lists { (ms ns : List Mistake) → a ≡ first_of ms → b ≡ first_of ns
         → result ≡ first_of (ms ++ ns) }
 {
-    earlier_of(a, b)
+    first::earlier(a, b)
 }
 
 /// The mistake, where there is one.
