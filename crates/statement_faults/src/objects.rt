@@ -4,9 +4,9 @@ ghost use Rattle.std.specs.Prelude.{◌≡◌, ◌↔◌, ◌≤◌, ◌∷◌, 
 ghost use Rattle.problem_data.specs.Limits.{IsFieldName};
 ghost use Rattle.problem_data.specs.View.{object_view};
 ghost use Rattle.problem_data.specs.Least.{IsLeast};
-ghost use Rattle.problem_data.specs.Faults.{Among, FieldFault, AttributesFault, ObjectFault, ObjectsFault, Repeated};
+ghost use Rattle.problem_data.specs.Faults.{FieldFault, AttributesFault, ObjectFault, ObjectsFault, Repeated};
 
-use crate::each::{FindFault, each_fault};
+use crate::each::{FindFault, TryFindFault, each_fault, try_each_fault};
 use crate::names::{limited, names_fault, not_made};
 use crate::numbers::ranges_fault;
 use geo_tokens::fault::FaultWord;
@@ -90,21 +90,20 @@ fn object_fault(
     Ok(earlier(names, others))
 }
 
-fn each_object(
+// Finds the first fault of an object, where there are so many dimensions and these are the names of the shapes.
+#[derive(Clone, Copy)]
+struct Objects<'a> {
     alloc: Global,
     k: usize,
-    made: &SeenNames<'_>,
-    objects: &[ObjectText],
-) -> Result<Option<Fault>, AllocError>
-    ensures { IfOk result (IsLeast
-        (Among (λ before. ObjectFault k made.now) (map object_view objects.now))) }
-{
-    let mut found = None;
-    for object in objects {
-        let here = object_fault(alloc, k, made, object)?;
-        found = earlier(found, here);
+    made: &'a SeenNames<'a>,
+}
+
+impl TryFindFault<ObjectText> for Objects<'_> {
+    ghost IsFaultOf = { λ it o. ObjectFault it.k it.made.now (object_view o) };
+
+    fn try_fault_of(&self, item: &ObjectText) -> Result<Option<Fault>, AllocError> {
+        object_fault(self.alloc, self.k, self.made, item)
     }
-    Ok(found)
 }
 
 /// The first fault of the statements of objects, where these are the names of the shapes and the first name of an object
@@ -120,6 +119,6 @@ pub fn objects_fault(
     ensures { IfOk result (IsLeast (ObjectsFault k made.now (map object_view objects.now))) }
 {
     let names = limited(MOST_OBJECTS, objects, repeated);
-    let each = each_object(alloc, k, made, objects)?;
+    let each = try_each_fault(&Objects { alloc, k, made }, objects)?;
     Ok(earlier(names, each))
 }

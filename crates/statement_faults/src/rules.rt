@@ -3,10 +3,10 @@
 ghost use Rattle.std.specs.Prelude.{◌≡◌, map, IfOk};
 ghost use Rattle.problem_data.specs.View.{macro_view, demand_view, rule_view};
 ghost use Rattle.problem_data.specs.Least.{IsLeast};
-ghost use Rattle.problem_data.specs.Faults.{Among, MacroFault, MacrosFault, DemandFault, RuleFault, RulesFault};
+ghost use Rattle.problem_data.specs.Faults.{MacroFault, MacrosFault, DemandFault, RuleFault, RulesFault};
 
 use crate::divisors::{body_zero, divisor_fault, formula_zero};
-use crate::each::{FindFault, each_fault};
+use crate::each::{FindFault, TryFindFault, each_fault, try_each_fault};
 use crate::names::names_fault;
 use crate::numbers::ranges_fault;
 use problem_data::fault::{Fault, earlier};
@@ -30,15 +30,18 @@ fn macro_fault(alloc: Global, said: &MacroText) -> Result<Option<Fault>, AllocEr
     Ok(earlier(names, divisor))
 }
 
-fn each_macro(alloc: Global, macros: &[MacroText]) -> Result<Option<Fault>, AllocError>
-    ensures { IfOk result (IsLeast (Among (λ before. MacroFault) (map macro_view macros.now))) }
-{
-    let mut found = None;
-    for one in macros {
-        let here = macro_fault(alloc, one)?;
-        found = earlier(found, here);
+// Finds the first fault of a macro.
+#[derive(Clone, Copy)]
+struct Macros {
+    alloc: Global,
+}
+
+impl TryFindFault<MacroText> for Macros {
+    ghost IsFaultOf = { λ _ m. MacroFault (macro_view m) };
+
+    fn try_fault_of(&self, item: &MacroText) -> Result<Option<Fault>, AllocError> {
+        macro_fault(self.alloc, item)
     }
-    Ok(found)
 }
 
 /// The first fault of the statements of macros.
@@ -46,7 +49,7 @@ pub fn macros_fault(alloc: Global, macros: &[MacroText]) -> Result<Option<Fault>
     ensures { IfOk result (IsLeast (MacrosFault (map macro_view macros.now))) }
 {
     let names = names_fault(alloc, MOST_MACROS, macros)?;
-    let each = each_macro(alloc, macros)?;
+    let each = try_each_fault(&Macros { alloc }, macros)?;
     Ok(earlier(names, each))
 }
 
