@@ -31,15 +31,15 @@ use Rattle.derivation_reading.specs.Grammar.{Lookup, lookup, shapes_of, has_name
 use Rattle.derivation_reading.specs.Machine.{Leaves, here, on, Opens}
 
 -- a number among the tokens is within the limit
-abbrev pub IsSmallNumber : Terminal → Type 0
-IsSmallNumber (terminals.Number v) = v ≤ 1000000000
-IsSmallNumber t = Unit {0}
+abbrev pub IsLimitedTerminal : Terminal → Type 0
+IsLimitedTerminal (terminals.Number v) = v ≤ 1000000000
+IsLimitedTerminal t = Unit {0}
 
-abbrev pub IsSmall : Lexeme → Type 0
-IsSmall w = IsSmallNumber w.is
+abbrev pub IsLimitedLexeme : Lexeme → Type 0
+IsLimitedLexeme w = IsLimitedTerminal w.is
 
 -- and so is each number of a text that is cut into tokens
-small_kind : (kind : Kind) (n : ℕ) (bytes : List ℕ) → IsToken kind n bytes → IsSmallNumber (terminal_of kind)
+small_kind : (kind : Kind) (n : ℕ) (bytes : List ℕ) → IsToken kind n bytes → IsLimitedTerminal (terminal_of kind)
 small_kind (kinds.Number v) n bytes h = h.small
 small_kind (kinds.Word keywords.Shape) n bytes h = tt
 small_kind (kinds.Word keywords.Qed) n bytes h = tt
@@ -48,12 +48,12 @@ small_kind (kinds.Symbol symbols.BracketOpen) n bytes h = tt
 small_kind (kinds.Symbol symbols.BracketClose) n bytes h = tt
 small_kind kind n bytes h = tt
 
-pub cut_small : {end : ℕ} {rest : List ℕ} {place : ℕ} {bytes : List ℕ} {ts : List Token} (text : List ℕ) → Cut end rest place bytes ts → All IsSmall (lexemes text ts)
-cut_small text (cuts.here _ _ _ a b c) = subst (λ (us : List Token). All IsSmall (lexemes text us)) (sym c) (All-nil IsSmall)
+pub cut_small : {end : ℕ} {rest : List ℕ} {place : ℕ} {bytes : List ℕ} {ts : List Token} (text : List ℕ) → Cut end rest place bytes ts → All IsLimitedLexeme (lexemes text ts)
+cut_small text (cuts.here _ _ _ a b c) = subst (λ (us : List Token). All IsLimitedLexeme (lexemes text us)) (sym c) (All-nil IsLimitedLexeme)
 cut_small text (cuts.behind_gap _ _ _ n g d) = cut_small text d
 cut_small {ts} text (cuts.behind_token place bytes _ kind n us h e d) =
-    subst (λ (vs : List Token). All IsSmall (lexemes text vs)) (sym e)
-    (All-cons IsSmall (lexeme text (record { kind = kind; start = place; end = place + n })) (lexemes text us) (small_kind kind n bytes h) (cut_small text d))
+    subst (λ (vs : List Token). All IsLimitedLexeme (lexemes text vs)) (sym e)
+    (All-cons IsLimitedLexeme (lexeme text (record { kind = kind; start = place; end = place + n })) (lexemes text us) (small_kind kind n bytes h) (cut_small text d))
 
 -- a number that a derivation can have
 abbrev IsWithin : ℤ → Type 0
@@ -138,7 +138,7 @@ module _ (n K : ℕ) where
   -- ---- all steps
 
   module _ (L : Lookup) (finds : Finds L n K) where
-    fits_next : (s : Symbol) (t : Terminal) (w : List ℕ) → SymbolFits s → IsSmallNumber t → NextFits (next L s t w)
+    fits_next : (s : Symbol) (t : Terminal) (w : List ℕ) → SymbolFits s → IsLimitedTerminal t → NextFits (next L s t w)
     fits_next Text terminals.Name w h i = fits_if (bytes_eq w (codes "none")) _ _ ((tt, (tt, tt)), tt) (fits_node w (Qed ∷ []) (tt, tt))
     fits_next Node terminals.Name w h i = fits_node w [] tt
     fits_next Qed terminals.Qed w h i = (tt, tt)
@@ -171,11 +171,11 @@ module _ (n K : ℕ) where
     fits_next (CutNumber part d Minus) (terminals.Number v) w h i = ((tt, (tt, tt)), (cut_fits part d (signed Minus v) h (signed_within Minus v i), tt))
     fits_next s t w h i = tt
 
-    fits_at : (s : Symbol) (w : Lexeme) (x : Next) → SymbolFits s → IsSmall w → at L s w ≡ x → NextFits x
+    fits_at : (s : Symbol) (w : Lexeme) (x : Next) → SymbolFits s → IsLimitedLexeme w → at L s w ≡ x → NextFits x
     fits_at s w x h i e = subst NextFits e (fits_next s w.is w.name h i)
 
     -- and so of all tokens
-    fits_all : (left ss : List Symbol) (ws : List Lexeme) (es : List Event) → Leaves L left ss ws es → SymbolsFit ss → AllByRecursion IsSmall ws → EventsFit es × SymbolsFit left
+    fits_all : (left ss : List Symbol) (ws : List Lexeme) (es : List Event) → Leaves L left ss ws es → SymbolsFit ss → AllByRecursion IsLimitedLexeme ws → EventsFit es × SymbolsFit left
     fits_all left ss ws es (here _ _ _ a b c) h i = (subst EventsFit (sym c) tt, subst SymbolsFit a h)
     fits_all left ss ws es (on s w more ts ds us _ vs a d e) h i =
         let f = fits_at s w (Goes more ds) h.0 i.0 a in
@@ -216,8 +216,8 @@ module _ (n : NameTable) (is_table : IsNameTable n) where
       by false q f = absurd cc
 
   -- the events of what was read are events of what exists
-  pub opens_fit : {ws : List Lexeme} {ss : List Symbol} {es : List Event} → All IsSmall ws → Opens (lookup n) ws ss es → All (EventFits (length n.objects) n.dims) es
+  pub opens_fit : {ws : List Lexeme} {ss : List Symbol} {es : List Event} → All IsLimitedLexeme ws → Opens (lookup n) ws ss es → All (EventFits (length n.objects) n.dims) es
   opens_fit {ws} {ss} {es} small d =
       let finds : Finds (lookup n) how_many n.dims = record { object = object_below; place = place_within; dimension = dimension_below } in
-      let r = fits_all how_many n.dims (lookup n) finds ss (Text ∷ []) ws es d (tt, tt) (recursion_from_All IsSmall ws small) in
+      let r = fits_all how_many n.dims (lookup n) finds ss (Text ∷ []) ws es d (tt, tt) (recursion_from_All IsLimitedLexeme ws small) in
       All-from_recursion (EventFits how_many n.dims) es r.0

@@ -20,7 +20,7 @@ use Rattle.layout_text.proofs.TextParts.{Part, blank, lexeme, all_bytes, Fits, b
 use Rattle.derivation.specs.declared.event.Event.{Event}
 use Rattle.derivation.specs.declared.event.Event.TheVariants.{SplitShape, SplitUpto, SplitFrom, Drop, Raise, Lower, Gone, Dead, Cover, EndCovers, By, Cut, CutFrom}
 use Rattle.derivation_text.specs.Lines.{object_name, shape_name, line_of, listed, lines_of, derivation_text, IsNamed, AreNamed}
-use Rattle.derivation_round_trip.specs.Limits.{IsSmall, IsLimited}
+use Rattle.derivation_round_trip.specs.Limits.{IsTextNumber, IsLimited}
 use Rattle.derivation_round_trip.proofs.Found.{object_text, shape_text}
 
 -- ---- the parts
@@ -147,34 +147,34 @@ by_text = plain_word (codes "by") refl refl (lit≤ tt) refl
 cut_text : IsNameText (codes "cut")
 cut_text = plain_word (codes "cut") refl refl (lit≤ tt) refl
 
-small_number : (k : ℕ) → IsSmall (pos k) → k ≤ 1000000000
+small_number : (k : ℕ) → IsTextNumber (pos k) → k ≤ 1000000000
 small_number k h = let high : pos k ≤ℤ pos 1000000000 = h.1 in omega (arith, ints)
 
-int_fits : (v : ℤ) (u : List ℕ) → IsSmall v → EndsAll (slice_index u 0) → Fits (int_parts v) u
+int_fits : (v : ℤ) (u : List ℕ) → IsTextNumber v → EndsAll (slice_index u 0) → Fits (int_parts v) u
 int_fits (pos k) u h f = (small_number k h, f (number k), tt)
 int_fits (negsuc k) u h f = let low : negsuc 999999999 ≤ℤ negsuc k = h.0 in (tt, refl, (omega (arith, ints), f (number (suc k)), tt))
 
 -- an int in front of others
-int_then : (v : ℤ) (end : List Part) (u : List ℕ) → IsSmall v → EndsAll (slice_index (all_bytes end ++ u) 0) → Fits end u → Fits (int_parts v ++ end) u
+int_then : (v : ℤ) (end : List Part) (u : List ℕ) → IsTextNumber v → EndsAll (slice_index (all_bytes end ++ u) 0) → Fits end u → Fits (int_parts v ++ end) u
 int_then v end u h f g = fits_both (int_parts v) end u (int_fits v (all_bytes end ++ u) h f) g
 
 module _ (n : NameTable) (table : IsNameTable n) where
   counted : (d : ℕ) → d < n.dims → d + 1 ≤ 1000000000
   counted d h = let most : n.dims ≤ 1000000000 = table.dims in omega arith
 
-  coordinate_fits : (first object : List ℕ) (d : ℕ) (v : ℤ) (end : List Part) (u : List ℕ) → IsNameText first → IsNameText object → d < n.dims → IsSmall v
+  coordinate_fits : (first object : List ℕ) (d : ℕ) (v : ℤ) (end : List Part) (u : List ℕ) → IsNameText first → IsNameText object → d < n.dims → IsTextNumber v
       → EndsAll (slice_index (all_bytes end ++ u) 0) → Fits end u → Fits (coordinate_parts first object d space_parts v end) u
   coordinate_fits first object d v end u hf ho hd hv f g = (hf, refl, (refl, (ho, refl, (refl, (counted d hd, refl, (refl, int_then v end u hv f g))))))
 
-  split_fits : (between object : List ℕ) (d : ℕ) (v : ℤ) (u : List ℕ) → IsNameText between → IsNameText object → d < n.dims → IsSmall v
+  split_fits : (between object : List ℕ) (d : ℕ) (v : ℤ) (u : List ℕ) → IsNameText between → IsNameText object → d < n.dims → IsTextNumber v
       → Fits (coordinate_parts (codes "split") object d (word_parts between) v end_parts) u
   split_fits between object d v u hb ho hd hv =
       (split_text, refl, (refl, (ho, refl, (refl, (counted d hd, refl, (refl, (hb, refl, (refl, int_then v end_parts u hv line_ends (refl, tt)))))))))
 
-  cut_fits : (first : List ℕ) (d : ℕ) (v : ℤ) (u : List ℕ) → IsNameText first → d < n.dims → IsSmall v → Fits (cut_parts first d v) u
+  cut_fits : (first : List ℕ) (d : ℕ) (v : ℤ) (u : List ℕ) → IsNameText first → d < n.dims → IsTextNumber v → Fits (cut_parts first d v) u
   cut_fits first d v u hf hd hv = (hf, refl, (refl, (counted d hd, refl, (refl, int_then v end_parts u hv line_ends (refl, tt)))))
 
-  number_fits : (first : List ℕ) (i : ℕ) (u : List ℕ) → IsNameText first → IsSmall (pos i) → Fits (number_parts first i) u
+  number_fits : (first : List ℕ) (i : ℕ) (u : List ℕ) → IsNameText first → IsTextNumber (pos i) → Fits (number_parts first i) u
   number_fits first i u hf hi = (hf, refl, (refl, (small_number i hi, refl, (refl, tt))))
 
   line_fits : (o : ℕ) (e : Event) (u : List ℕ) → IsNamed n o e → IsLimited e → Fits (line_parts n o e) u

@@ -7,7 +7,7 @@ use Rattle.std.proofs.Math.ListN.{length-set}
 use Rattle.geo_conditions.specs.Reach.{State, Reach, nowhere, place_in, with_low, with_high, without, Within}
 use Rattle.geo_base.specs.Boxes.{coordinate}
 use Rattle.geo_conditions.proofs.Greatest.{at_set}
-use Rattle.geo_state.specs.Trail.{IsSmall, IsSmallNumber}
+use Rattle.geo_state.specs.Trail.{HasSmallIntervals, IsSmallEnd}
 
 -- a low end that rises
 pub low_within : (r : Reach) (d : ℕ) (v : ℤ) → coordinate r.region.lo d ≤ℤ v → Within (with_low r d v) r
@@ -52,10 +52,10 @@ without_within r s = record {
 
 -- the ends of the reach in that dimension are small
 abbrev Ends : ℕ → Reach → Type 0
-Ends d q = IsSmallNumber (coordinate q.region.lo d) × IsSmallNumber (coordinate q.region.hi d)
+Ends d q = IsSmallEnd (coordinate q.region.lo d) × IsSmallEnd (coordinate q.region.hi d)
 
 -- one reach is changed, and its ends are small
-pub small_set : (S : State) (o : ℕ) (r : Reach) → IsSmall S → ((d : ℕ) → IsSmallNumber (coordinate r.region.lo d) × IsSmallNumber (coordinate r.region.hi d)) → IsSmall (set S o r)
+pub small_set : (S : State) (o : ℕ) (r : Reach) → HasSmallIntervals S → ((d : ℕ) → IsSmallEnd (coordinate r.region.lo d) × IsSmallEnd (coordinate r.region.hi d)) → HasSmallIntervals (set S o r)
 small_set S o r h k u d = elim (cases_eq u o) [
   | inl e ↦ elim (cases_lt o (length S)) [
     | inl b ↦ subst (Ends d) (sym (ap (λ (n : ℕ). get_or (set S o r) n nowhere) e ∙ get_or-set_same S o r nowhere b)) (k d)

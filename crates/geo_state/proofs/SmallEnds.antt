@@ -5,12 +5,12 @@ use Rattle.std.proofs.lemmas.Bool.{cases_lt, cases_eq}
 use Rattle.std.proofs.lemmas.List.{get_or_past}
 use Rattle.geo_base.specs.Boxes.{coordinate}
 use Rattle.geo_conditions.specs.Reach.{State, Reach, IsState, reach, nowhere, low, high}
-use Rattle.geo_state.specs.Trail.{IsSmall, IsSmallNumber}
+use Rattle.geo_state.specs.Trail.{HasSmallIntervals, IsSmallEnd}
 use Rattle.geo_state.proofs.Shapes.{lo_long, hi_long}
 
 -- both ends of one interval are small
 abbrev pub AreSmall : State → ℕ → ℕ → Type 0
-AreSmall S o d = IsSmallNumber (low S o d) × IsSmallNumber (high S o d)
+AreSmall S o d = IsSmallEnd (low S o d) × IsSmallEnd (high S o d)
 
 -- the ends of an object in the first n dimensions, and of the first n objects
 abbrev pub SmallDimensions : State → ℕ → ℕ → Type 0
@@ -21,7 +21,7 @@ abbrev pub SmallObjects : State → ℕ → Type 0
 SmallObjects S n = (o : ℕ) → o < n → (d : ℕ) → AreSmall S o d
 
 -- 0 is small
-zero_small : (z : ℤ) → z ≡ pos 0 → IsSmallNumber z
+zero_small : (z : ℤ) → z ≡ pos 0 → IsSmallEnd z
 zero_small z e = (omega (arith, ints, e), omega (arith, ints, e))
 
 -- one dimension more
@@ -43,9 +43,9 @@ small_everywhere k S o n s h b m d = elim (cases_lt d n) [
 ]
 
 -- all objects are covered, so the state is small
-pub small_whole : (S : State) (n : ℕ) → length S ≤ n → SmallObjects S n → IsSmall S
+pub small_whole : (S : State) (n : ℕ) → length S ≤ n → SmallObjects S n → HasSmallIntervals S
 small_whole S n b m o d = elim (cases_lt o n) [
   | inl l ↦ m o l d
-  | inr l ↦ subst (λ (r : Reach). IsSmallNumber (coordinate r.region.lo d) × IsSmallNumber (coordinate r.region.hi d)) (sym (get_or_past S o nowhere (omega (arith, l, b))))
+  | inr l ↦ subst (λ (r : Reach). IsSmallEnd (coordinate r.region.lo d) × IsSmallEnd (coordinate r.region.hi d)) (sym (get_or_past S o nowhere (omega (arith, l, b))))
       (zero_small (pos 0) refl, zero_small (pos 0) refl)
 ]

@@ -9,7 +9,7 @@ use Rattle.std.proofs.Math.ListN.{length-replicate}
 use Rattle.std.proofs.Math.Nat.{mul-le-mul_right}
 use Rattle.geo_conditions.specs.Reach.{State, Reach, reach, Inside}
 use Rattle.geo_state.specs.Undo.{Entry, entry_of, state_before, marks_before, restored, saved_by, IsUndoable}
-use Rattle.geo_state.specs.Trail.{IsSmall, IsTrail, IsTrailed}
+use Rattle.geo_state.specs.Trail.{HasSmallIntervals, IsTrail, IsTrailed}
 use Rattle.geo_state.proofs.Undo.{length_undone, now_within}
 use Rattle.geo_state.proofs.Levels.{saves, saves_room, saves_restored, keeps_restored, opens, opens_restored, closes, closes_restored, m_within}
 use Rattle.geo_state.proofs.Trails.{Narrows, trail_start, trail_push, trail_pop, trail_narrowed}
@@ -24,7 +24,7 @@ undoable_start n = record {
   levels = λ i l. subst (λ (es : List Entry). All (λ m. m ≤ i) (marks_before (replicate n 0) es)) (sym (drop_all {X = Entry} (saved_by [] [] i) [] (omega arith))) (All-replicate (λ m. m ≤ i) n 0 (omega arith));
 }
 
-pub trailed_start : (S : State) (es : List Entry) (marks starts : List ℕ) (n spare : ℕ) → IsSmall S → es ≡ [] → marks ≡ replicate (length S) 0 → starts ≡ replicate n 0 → n * length S ≤ spare → IsTrailed S es marks starts 0 spare
+pub trailed_start : (S : State) (es : List Entry) (marks starts : List ℕ) (n spare : ℕ) → HasSmallIntervals S → es ≡ [] → marks ≡ replicate (length S) 0 → starts ≡ replicate n 0 → n * length S ≤ spare → IsTrailed S es marks starts 0 spare
 trailed_start S es marks starts n spare s none ones zeros l = record {
   within = omega arith;
   objects = ap length ones ∙ length-replicate (length S) 0;

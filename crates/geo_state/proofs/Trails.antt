@@ -10,7 +10,7 @@ use Rattle.geo_base.specs.Boxes.{coordinate}
 use Rattle.geo_conditions.specs.Reach.{State, Reach, reach, low, high, with_low, with_high, without, Within, Inside}
 use Rattle.geo_conditions.proofs.Points.{inside_self, inside_trans}
 use Rattle.geo_conditions.proofs.Greatest.{narrowed, at_set}
-use Rattle.geo_state.specs.Trail.{IsSmall, IsSmallNumber, ShrinkTo, IsTrail}
+use Rattle.geo_state.specs.Trail.{HasSmallIntervals, IsSmallEnd, ShrinkTo, IsTrail}
 use Rattle.geo_state.proofs.Narrower.{low_within, high_within, without_within, small_set}
 
 -- ---- states that shrink
@@ -57,15 +57,15 @@ all_last P R G h = (
 -- ---- what a trailed state keeps
 
 -- no level is open
-pub trail_start : (S : State) → IsSmall S → IsTrail S []
+pub trail_start : (S : State) → HasSmallIntervals S → IsTrail S []
 trail_start S s = record {
   small = s;
-  restores_small = All-nil IsSmall;
+  restores_small = All-nil HasSmallIntervals;
   shrinks = λ i h. absurd (omega arith);
 }
 
 -- the state shrinks
-pub trail_on : (S T : State) (R : List State) → IsTrail S R → Inside T S → IsSmall T → IsTrail T R
+pub trail_on : (S T : State) (R : List State) → IsTrail S R → Inside T S → HasSmallIntervals T → IsTrail T R
 trail_on S T R t i s = record {
   small = s;
   restores_small = t.restores_small;
@@ -76,14 +76,14 @@ trail_on S T R t i s = record {
 pub trail_push : (S : State) (R : List State) → IsTrail S R → IsTrail S (R ++ S ∷ [])
 trail_push S R t = record {
   small = t.small;
-  restores_small = All-push IsSmall R S t.restores_small t.small;
+  restores_small = All-push HasSmallIntervals R S t.restores_small t.small;
   shrinks = shrink_push R S t.shrinks;
 }
 
 -- a level is closed
 pub trail_pop : (S G : State) (R : List State) → IsTrail S (R ++ G ∷ []) → IsTrail G R × Inside S G
 trail_pop S G R t =
-    let s = all_last IsSmall R G t.restores_small in
+    let s = all_last HasSmallIntervals R G t.restores_small in
     let k = shrink_pop R G S t.shrinks in (record { small = s.1; restores_small = s.0; shrinks = k.0 }, k.1)
 
 -- ---- one object is narrowed
@@ -91,27 +91,27 @@ trail_pop S G R t =
 -- what is open to the object then lies within what was, and its ends are small
 pub record Narrows (S : State) (o : ℕ) (r : Reach) : Type 0 where
   pub within : Within r (reach S o)
-  pub small : (d : ℕ) → IsSmallNumber (coordinate r.region.lo d) × IsSmallNumber (coordinate r.region.hi d)
+  pub small : (d : ℕ) → IsSmallEnd (coordinate r.region.lo d) × IsSmallEnd (coordinate r.region.hi d)
 
 pub trail_narrowed : (S : State) (R : List State) (o : ℕ) (r : Reach) → IsTrail S R → o < length S → Narrows S o r → IsTrail (set S o r) R
 trail_narrowed S R o r t h n = trail_on S (set S o r) R t (narrowed S o r n.within h) (small_set S o r t.small n.small)
 
 -- by a low end that rises
-pub narrows_low : (S : State) (o d : ℕ) (v : ℤ) → IsSmall S → IsSmallNumber v → low S o d ≤ℤ v → Narrows S o (with_low (reach S o) d v)
+pub narrows_low : (S : State) (o d : ℕ) (v : ℤ) → HasSmallIntervals S → IsSmallEnd v → low S o d ≤ℤ v → Narrows S o (with_low (reach S o) d v)
 narrows_low S o d v t s l = record {
   within = low_within (reach S o) d v l;
-  small = λ j. (at_set (λ k z. IsSmallNumber z) (reach S o).region.lo d v (λ b. s) (λ k. (t o k).0) j, (t o j).1);
+  small = λ j. (at_set (λ k z. IsSmallEnd z) (reach S o).region.lo d v (λ b. s) (λ k. (t o k).0) j, (t o j).1);
 }
 
 -- by a high end that falls
-pub narrows_high : (S : State) (o d : ℕ) (v : ℤ) → IsSmall S → IsSmallNumber v → v ≤ℤ high S o d → Narrows S o (with_high (reach S o) d v)
+pub narrows_high : (S : State) (o d : ℕ) (v : ℤ) → HasSmallIntervals S → IsSmallEnd v → v ≤ℤ high S o d → Narrows S o (with_high (reach S o) d v)
 narrows_high S o d v t s l = record {
   within = high_within (reach S o) d v l;
-  small = λ j. ((t o j).0, at_set (λ k z. IsSmallNumber z) (reach S o).region.hi d v (λ b. s) (λ k. (t o k).1) j);
+  small = λ j. ((t o j).0, at_set (λ k z. IsSmallEnd z) (reach S o).region.hi d v (λ b. s) (λ k. (t o k).1) j);
 }
 
 -- by a place that goes
-pub narrows_without : (S : State) (o s : ℕ) → IsSmall S → Narrows S o (without (reach S o) s)
+pub narrows_without : (S : State) (o s : ℕ) → HasSmallIntervals S → Narrows S o (without (reach S o) s)
 narrows_without S o s t = record {
   within = without_within (reach S o) s;
   small = λ j. t o j;

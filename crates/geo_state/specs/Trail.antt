@@ -11,12 +11,12 @@ pub record Trail : Type 0 where
   pub restores : List (List Reach)
 
 -- a number from -2,000,000 to 2,000,000
-abbrev pub IsSmallNumber : ℤ → Type 0
-IsSmallNumber v = (negsuc 1999999 ≤ℤ v) × (v ≤ℤ pos 2000000)
+abbrev pub IsSmallEnd : ℤ → Type 0
+IsSmallEnd v = (negsuc 1999999 ≤ℤ v) × (v ≤ℤ pos 2000000)
 
 -- each end of each interval is a small number
-abbrev pub IsSmall : State → Type 0
-IsSmall S = (o d : ℕ) → IsSmallNumber (low S o d) × IsSmallNumber (high S o d)
+abbrev pub HasSmallIntervals : State → Type 0
+HasSmallIntervals S = (o d : ℕ) → IsSmallEnd (low S o d) × IsSmallEnd (high S o d)
 
 -- each of the states lies inside the one before it, and S inside the last one
 abbrev pub ShrinkTo : List State → State → Type 0
@@ -24,8 +24,8 @@ ShrinkTo restores S = (i : ℕ) → i < length restores → Inside (slice_index_
 
 -- the state, and those that the open levels restore
 pub record IsTrail (S : State) (restores : List State) : Type 0 where
-  pub small : IsSmall S
-  pub restores_small : All IsSmall restores
+  pub small : HasSmallIntervals S
+  pub restores_small : All HasSmallIntervals restores
   pub shrinks : ShrinkTo restores S
 
 -- what a trailed state keeps: the entries that were saved, for each object the greatest open level that has saved it, for each

@@ -1,6 +1,6 @@
 ghost use Rattle.std.specs.Prelude.{◌≡◌, ℕ, ◌+◌, ◌<◌, ◌≤◌, ◌≤ℤ◌, length, List, [], ◌∷◌, ◌++◌, IfOk, slice_set};
 ghost use Rattle.geo_conditions.specs.Reach.{reach, low, high, with_low, with_high, without, Inside};
-ghost use Rattle.geo_state.specs.Trail.{Trail, IsSmall, IsSmallNumber};
+ghost use Rattle.geo_state.specs.Trail.{Trail, HasSmallIntervals, IsSmallEnd};
 
 use super::entries::{Saved, put_back, save};
 use geo_base::MAX_DIMS;
@@ -48,7 +48,7 @@ impl<const K: usize> Trailed<K> {
     pub fn start(alloc: Global, first: State<K>, levels: usize) -> Result<Trailed<K>, AllocError>
         requires k { K ≤ MAX_DIMS }
         requires few { levels ≤ MAX_LEVELS }
-        requires small { IsSmall first }
+        requires small { HasSmallIntervals first }
         ensures state { IfOk result (λ t. t.state ≡ first.entry) }
         ensures levels { IfOk result (λ t. t.levels ≡ levels) }
         ensures restores { IfOk result (λ t. t.restores ≡ []) }
@@ -70,7 +70,7 @@ impl<const K: usize> Trailed<K> {
     /// The state now.
     pub fn state(&self) -> &State<K>
         ensures value { result.now ≡ self.now.state }
-        ensures small { IsSmall self.now.state }
+        ensures small { HasSmallIntervals self.now.state }
     {
         let _depth = self.depth;
         &self.state
@@ -115,7 +115,7 @@ impl<const K: usize> Trailed<K> {
         requires k { K ≤ MAX_DIMS }
         requires object { o.0 < length self.old.state }
         requires dimension { d < K }
-        requires small { IsSmallNumber v }
+        requires small { IsSmallEnd v }
         requires narrower { low self.old.state o.0 d ≤ℤ v }
         ensures state { self.new.state
             ≡ slice_set self.old.state o.0 (with_low (reach self.old.state o.0) d v) }
@@ -131,7 +131,7 @@ impl<const K: usize> Trailed<K> {
         requires k { K ≤ MAX_DIMS }
         requires object { o.0 < length self.old.state }
         requires dimension { d < K }
-        requires small { IsSmallNumber v }
+        requires small { IsSmallEnd v }
         requires narrower { v ≤ℤ high self.old.state o.0 d }
         ensures state { self.new.state
             ≡ slice_set self.old.state o.0 (with_high (reach self.old.state o.0) d v) }

@@ -13,7 +13,7 @@ use Rattle.rule_print.proofs.Respelled.{AllOf, joined}
 use Rattle.problem_data.specs.Problem.{ProblemData}
 use Rattle.problem_data.specs.Tuple.{Spot, Tuple, spot, object_of}
 use Rattle.problem_text.specs.Canonical.{int_spelling}
-use Rattle.problem_text.proofs.PrintingParts.{IsSmall}
+use Rattle.problem_text.proofs.PrintingParts.{IsTextNumber}
 use Rattle.layout_text.specs.Block.{shape_name, coordinates, line_of, lines_of, group_of, later_group, token_of, token_line, block_of}
 use Rattle.layout_text.proofs.TextParts.{Part, blank, lexeme, part_bytes, all_bytes, lexemes, Fits, bytes_both, fits_both, lexemes_both, IsMark, space_mark, comma_mark, slash_mark, mark_ends}
 
@@ -31,7 +31,7 @@ int_lexemes : (v : ℤ) → lexemes (int_parts v) ≡ int_spelling v
 int_lexemes (pos n) = refl
 int_lexemes (negsuc n) = refl
 
-int_fits : (v : ℤ) (u : List ℕ) → IsSmall v → EndsAll (slice_index u 0) → Fits (int_parts v) u
+int_fits : (v : ℤ) (u : List ℕ) → IsTextNumber v → EndsAll (slice_index u 0) → Fits (int_parts v) u
 int_fits (pos n) u h f = (h, f (number n), tt)
 int_fits (negsuc n) u h f = (tt, refl, (h, f (number (suc n)), tt))
 
@@ -51,7 +51,7 @@ coordinates_end : (m : Part) (vs : List ℤ) (u : List ℕ) → IsMark m → End
 coordinates_end m [] u k f = f
 coordinates_end m (v ∷ vs) u k f = mark_ends m (int_parts v ++ coordinate_parts m vs) u k
 
-coordinate_fits : (m : Part) (vs : List ℤ) (u : List ℕ) → IsMark m → AllOf IsSmall vs → EndsAll (slice_index u 0) → Fits (coordinate_parts m vs) u
+coordinate_fits : (m : Part) (vs : List ℤ) (u : List ℕ) → IsMark m → AllOf IsTextNumber vs → EndsAll (slice_index u 0) → Fits (coordinate_parts m vs) u
 coordinate_fits m [] u k h f = tt
 coordinate_fits m (v ∷ vs) u k h f =
     k.fits (int_parts v ++ coordinate_parts m vs) u
@@ -72,7 +72,7 @@ comma_lexemes (v ∷ vs) =
 -- what can be written of an object
 pub record CanWriteSpot (s : Spot) : Type 0 where
   pub place : s.place ≤ 1000000000
-  pub origin : AllOf IsSmall s.origin
+  pub origin : AllOf IsTextNumber s.origin
 
 module _ (p : ProblemData) (t : Tuple) where
   abbrev pub line_parts : ℕ → List Part

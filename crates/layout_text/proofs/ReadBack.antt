@@ -37,7 +37,7 @@ use Rattle.problem_data.specs.Cells.{range_at, IsSpotOf, IsTuple}
 use Rattle.problem_data.specs.WellFormed.{IsRange, IsObject, IsWellFormed}
 use Rattle.problem_text.proofs.Said.{said_table}
 use Rattle.problem_syntax.proofs.WholeText.{is_whole}
-use Rattle.problem_text.proofs.PrintingParts.{IsSmall, IsSome}
+use Rattle.problem_text.proofs.PrintingParts.{IsTextNumber, IsSome}
 use Rattle.layout_text.specs.Block.{shape_name, token_of, block_of}
 use Rattle.layout_text.specs.Tree.{LineTree, GroupTree, TokenTree, LayoutTree}
 use Rattle.layout_text.specs.Grammar.{TupleWords, LayoutWords}
@@ -80,7 +80,7 @@ each_at R k (suc n) (l ∷ ls) (suc i) h lt =
 
 -- ---- small numbers
 
-small_in : (r : RangeData) (v : ℤ) → IsRange r → r.low ≤ℤ v → v ≤ℤ r.high → IsSmall v
+small_in : (r : RangeData) (v : ℤ) → IsRange r → r.low ≤ℤ v → v ≤ℤ r.high → IsTextNumber v
 small_in r (pos n) h a b = let top : r.high ≤ℤ pos 1000000 = h.high in omega (arith, ints)
 small_in r (negsuc n) h a b = let bottom : negsuc 999999 ≤ℤ r.low = h.low in omega (arith, ints)
 
@@ -179,7 +179,7 @@ module _ (p : ProblemData) (well : IsWellFormed p) (said : IsSaid p) where
       counted : length (spot t i).origin ≡ p.dims
       counted = fits.form.dimensions
 
-      small : (d : ℕ) → d < length (spot t i).origin → IsSmall (get_or (spot t i).origin d (pos 0))
+      small : (d : ℕ) → d < length (spot t i).origin → IsTextNumber (get_or (spot t i).origin d (pos 0))
       small d less =
           let n : length (spot t i).origin ≡ p.dims = counted in
           let m : length (object_of p i).ranges ≡ p.dims = is_object.dimensions in
@@ -190,7 +190,7 @@ module _ (p : ProblemData) (well : IsWellFormed p) (said : IsSaid p) where
       writes_spot : CanWriteSpot (spot t i)
       writes_spot = record {
         place = (let last : (spot t i).place ≤ length (object_of p i).shapes = fits.form.last in let few : length (object_of p i).shapes ≤ 16 = is_object.few in omega arith);
-        origin = all_of IsSmall (spot t i).origin (pos 0) small;
+        origin = all_of IsTextNumber (spot t i).origin (pos 0) small;
       }
 
       some : IsSome (spot t i).origin

@@ -17,7 +17,7 @@ use Rattle.problem_data.specs.Tuple.{Spot, Tuple, spot, object_of}
 use Rattle.problem_data.specs.Meaning.{number_of}
 use Rattle.problem_data.specs.Grammar.{OneOrMore, IntWords}
 use Rattle.problem_text.specs.Canonical.{int_spelling}
-use Rattle.problem_text.proofs.PrintingParts.{bare_int, int_of, IsSmall, IsSome, IntAgain, int_again, all_as, one_or_more_again}
+use Rattle.problem_text.proofs.PrintingParts.{bare_int, int_of, IsTextNumber, IsSome, IntAgain, int_again, all_as, one_or_more_again}
 use Rattle.layout_text.specs.Tree.{LineTree, GroupTree, TokenTree, LayoutTree}
 use Rattle.layout_text.specs.Grammar.{line_tree, group_tree, token_tree, layout_tree, LineWords, GroupWords, TupleWords, TokenWords, TokenLine, LayoutWords}
 use Rattle.layout_text.specs.Block.{shape_name}
@@ -33,9 +33,9 @@ numbers_back [] (x ∷ xs) h = absurd h
 numbers_back (v ∷ vs) [] h = absurd h
 numbers_back (v ∷ vs) (x ∷ xs) h = λ i. (ap (λ (n : Int). n.value) h.0) i ∷ numbers_back vs xs h.1 i
 
-ints_again : (vs : List ℤ) → IsSome vs → AllOf IsSmall vs → Again (λ text. OneOrMore IntWords) (λ xs. map number_of xs ≡ vs) (flat_map int_spelling vs)
+ints_again : (vs : List ℤ) → IsSome vs → AllOf IsTextNumber vs → Again (λ text. OneOrMore IntWords) (λ xs. map number_of xs ≡ vs) (flat_map int_spelling vs)
 ints_again vs some h =
-    let r = one_or_more_again (λ text. IntWords) (λ v i. bare_int i ≡ int_of v) int_spelling vs some (all_as {P = IsSmall} {Q = IntAgain} int_again vs h) in
+    let r = one_or_more_again (λ text. IntWords) (λ v i. bare_int i ≡ int_of v) int_spelling vs some (all_as {P = IsTextNumber} {Q = IntAgain} int_again vs h) in
     record { reads = λ text v st. (let x = r.again.reads text v st in (x.0, x.1, numbers_back vs x.0 x.2)) }
 
 -- ---- lines
@@ -53,8 +53,8 @@ module _ (p : ProblemData) (t : Tuple) where
   abbrev pub CanReadLine : ℕ → Type 0
   CanReadLine o = CanWriteLine p t o × IsSome (spot t o).origin
 
-  ints_written : (vs : List ℤ) → AllOf IsSmall vs → IsSome vs → AllWritten (flat_map int_spelling vs)
-  ints_written vs h some = (one_or_more_again (λ text. IntWords) (λ v i. bare_int i ≡ int_of v) int_spelling vs some (all_as {P = IsSmall} {Q = IntAgain} int_again vs h)).good
+  ints_written : (vs : List ℤ) → AllOf IsTextNumber vs → IsSome vs → AllWritten (flat_map int_spelling vs)
+  ints_written vs h some = (one_or_more_again (λ text. IntWords) (λ v i. bare_int i ≡ int_of v) int_spelling vs some (all_as {P = IsTextNumber} {Q = IntAgain} int_again vs h)).good
 
   line_again : (o : ℕ) → CanReadLine o → LineAgain o
   unfolding LineWords
@@ -80,13 +80,13 @@ module _ (p : ProblemData) (t : Tuple) where
 abbrev GroupAgain : Spot → Type 0
 GroupAgain s = Respelled (λ text. GroupWords) (λ g. spot_in g ≡ s) (lexemes (group_parts s))
 
-comma_int : (v : ℤ) → IsSmall v → Respelled (λ text. Bind (Tok (symbol syms.Comma)) (λ c. IntWords)) (λ i. bare_int i ≡ int_of v) (a_symbol syms.Comma ∷ int_spelling v)
+comma_int : (v : ℤ) → IsTextNumber v → Respelled (λ text. Bind (Tok (symbol syms.Comma)) (λ c. IntWords)) (λ i. bare_int i ≡ int_of v) (a_symbol syms.Comma ∷ int_spelling v)
 comma_int v h = let r = int_again v h in record { good = (tt, r.good); again = bind_again (tok_again (symbol syms.Comma) (a_symbol syms.Comma) refl) (λ t k. r.again) }
 
 group_again : (s : Spot) → CanWriteSpot s → GroupAgain s
 unfolding GroupWords
 group_again s h =
-    let each = all_as {P = IsSmall} {Q = λ v. Respelled (λ text. Bind (Tok (symbol syms.Comma)) (λ c. IntWords)) (λ i. bare_int i ≡ int_of v) (a_symbol syms.Comma ∷ int_spelling v)} comma_int s.origin h.origin in
+    let each = all_as {P = IsTextNumber} {Q = λ v. Respelled (λ text. Bind (Tok (symbol syms.Comma)) (λ c. IntWords)) (λ i. bare_int i ≡ int_of v) (a_symbol syms.Comma ∷ int_spelling v)} comma_int s.origin h.origin in
     let e : digits s.place ∷ joined (λ v. a_symbol syms.Comma ∷ int_spelling v) s.origin ≡ lexemes (group_parts s) = ap (λ (us : List Written). digits s.place ∷ us) (sym (comma_lexemes s.origin)) in
     record {
       good = subst (λ (us : List Written). AllWritten us) e (h.place, many_good (λ text. Bind (Tok (symbol syms.Comma)) (λ c. IntWords)) (λ v i. bare_int i ≡ int_of v) (λ v. a_symbol syms.Comma ∷ int_spelling v) s.origin each);

@@ -13,7 +13,7 @@ use Rattle.geo_conditions.proofs.Monotone.{le_trans}
 use Rattle.geo_conditions.proofs.Greatest.{narrowed}
 use Rattle.geo_conditions.proofs.Decide.{cases_ℤ}
 use Rattle.std.proofs.lemmas.List.{get_or-set_same, get_or-set_other}
-use Rattle.geo_state.specs.Trail.{IsSmall, IsSmallNumber}
+use Rattle.geo_state.specs.Trail.{HasSmallIntervals, IsSmallEnd}
 use Rattle.geo_state.proofs.Narrower.{low_within, high_within, without_within}
 use Rattle.geo_state.proofs.Shapes.{lo_long, hi_long}
 use Rattle.object_pruning.specs.Pruning.{CanBe, HasSamePoints, IsTight, PrunesTo}
@@ -230,7 +230,7 @@ outermost_in cs S o d up v b =
     )
 
 -- and so it is small
-pub outermost_small : (cs : List Cond) (S : State) (o d : ℕ) (up : Bool) (v : ℤ) → IsSmall S → IsOutermost cs S o d up v → IsSmallNumber v
+pub outermost_small : (cs : List Cond) (S : State) (o d : ℕ) (up : Bool) (v : ℤ) → HasSmallIntervals S → IsOutermost cs S o d up v → IsSmallEnd v
 outermost_small cs S o d up v m b = let i = outermost_in cs S o d up v b in (omega (arith, ints, i.0, (m o d).0.0), omega (arith, ints, i.1, (m o d).1.1))
 
 -- the low end moves

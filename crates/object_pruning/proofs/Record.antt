@@ -22,7 +22,7 @@ use Rattle.derivation.specs.Chains.{Narrows, bound_event}
 use Rattle.derivation.proofs.Continuing.{continues_same, growth_done}
 use Rattle.derivation.proofs.SmallerCovers.{box_same, box_within, upto_smaller, from_smaller, covers_smaller}
 use Rattle.derivation.proofs.Listings.{recorded_start, recorded_skip, recorded_more, recorded_end, drop_led, bound_led, gone_closed}
-use Rattle.geo_state.specs.Trail.{IsSmall, IsSmallNumber}
+use Rattle.geo_state.specs.Trail.{HasSmallIntervals, IsSmallEnd}
 use Rattle.derivation.proofs.Leaves.{covered_numbers}
 use Rattle.sweep.specs.Picks.{ArePicks}
 use Rattle.sweep.specs.Sweep.{IsCovered, part_before}
@@ -138,12 +138,12 @@ narrows : (S : State) (o d : ℕ) (up : Bool) (v : ℤ) → low S o d ≤ℤ v �
 narrows S o d true v l h = l
 narrows S o d false v l h = h
 
-is_cut : (S : State) (o d : ℕ) (up : Bool) (v : ℤ) → d < dims S o → IsSmallNumber v → IsCut (dims S o) (end_side up d v)
+is_cut : (S : State) (o d : ℕ) (up : Bool) (v : ℤ) → d < dims S o → IsSmallEnd v → IsCut (dims S o) (end_side up d v)
 is_cut S o d true v k n = (k, omega (arith, ints, n.0), omega (arith, ints, n.1))
 is_cut S o d false v k n = (k, omega (arith, ints, n.0), omega (arith, ints, n.1))
 
 -- its place holder, a cover for each place, and the end of their list; and then its event in the place of the place holder
-pub end_recorded : (cs : List Cond) (S : State) (o d : ℕ) (up : Bool) (v : ℤ) (old first mid last new : List Event) (x : Event) (m : ℕ) → o < length S → d < dims S o → IsSmall S → low S o d ≤ℤ v → v ≤ℤ high S o d → m ≡ length old
+pub end_recorded : (cs : List Cond) (S : State) (o d : ℕ) (up : Bool) (v : ℤ) (old first mid last new : List Event) (x : Event) (m : ℕ) → o < length S → d < dims S o → HasSmallIntervals S → low S o d ≤ℤ v → v ≤ℤ high S o d → m ≡ length old
     → first ≡ old ++ (x ∷ []) → AreListed cs S o d up v first mid → last ≡ mid ++ (EndCovers ∷ []) → new ≡ set last m (bound_event o (end_side up d v)) → IsLed cs S (with_end S o d up v) old new
 end_recorded cs S o d up v old first mid last new x m there k small l h e f a g q =
     let side = end_side up d v in

@@ -4,7 +4,7 @@ ghost use Rattle.std.specs.Prelude.{◌≡◌, ◌+◌, ◌-◌, ◌^◌, ◌<�
 ghost use Rattle.geo_conditions.specs.Conditions.{AllFit};
 ghost use Rattle.geo_conditions.specs.Reach.{reach};
 ghost use Rattle.geo_conditions.specs.Supported.{HasNoPoint, IsFirstPoint};
-ghost use Rattle.geo_state.specs.Trail.{IsSmall};
+ghost use Rattle.geo_state.specs.Trail.{HasSmallIntervals};
 ghost use Rattle.derivation.specs.Events.{Grows};
 ghost use Rattle.sweep.specs.Picks.{ArePicks, picked};
 ghost use Rattle.sweep.specs.Sweep.{IsCovered, part_before};
@@ -36,7 +36,7 @@ pub fn first_point<const K: usize, I: Indexical<K>, R: Recorder>(
     requires object { o.0 < length s.now }
     requires picks { ArePicks (length list.now) picks.now }
     requires rows { IfSome rows (λ r. AreRows (map I.cond list.now) o.0 picks.now r.now) }
-    requires small { IsSmall s.now }
+    requires small { HasSmallIntervals s.now }
     ensures point { let cs = picked (map I.cond list.now) picks.now in
         let b = (reach s.now o.0).region in
         IfOk result (λ r. MatchOption r (HasNoPoint cs s.now o.0 place b)

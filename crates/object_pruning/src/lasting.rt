@@ -5,7 +5,7 @@ ghost use Rattle.geo_base.specs.Boxes.{coordinate};
 ghost use Rattle.geo_conditions.specs.Conditions.{AllFit};
 ghost use Rattle.geo_conditions.specs.Reach.{reach};
 ghost use Rattle.geo_conditions.specs.Supported.{NoneRefuted};
-ghost use Rattle.geo_state.specs.Trail.{IsSmall, IsSmallNumber};
+ghost use Rattle.geo_state.specs.Trail.{HasSmallIntervals, IsSmallEnd};
 ghost use Rattle.sweep.specs.Picks.{ArePicks, picked};
 ghost use Rattle.object_pruning.specs.Ends.{IsOutermostPoint};
 ghost use Rattle.object_pruning.specs.Kept.{placed};
@@ -25,7 +25,7 @@ fn slice<const K: usize>(s: &State<K>, o: ObjId, d: usize, v: i64) -> KBox<K>
     requires k { K ≤ MAX_DIMS }
     requires object { o.0 < length s.now }
     requires dimension { d < K }
-    requires small { IsSmall s.now × IsSmallNumber v }
+    requires small { HasSmallIntervals s.now × IsSmallEnd v }
     ensures lo { result.lo.coordinates ≡ slice_set (reach s.now o.0).region.lo d v }
     ensures hi { result.hi.coordinates ≡ slice_set (reach s.now o.0).region.hi d v }
     ensures small { IsSmallBox result }
@@ -53,7 +53,7 @@ pub fn lasting_point<const K: usize, I: Indexical<K>>(
     requires dimension { d < K }
     requires picks { ArePicks (length list.now) picks.now }
     requires rows { IfSome rows (λ r. AreRows (map I.cond list.now) o.0 picks.now r.now) }
-    requires small { IsSmall s.now }
+    requires small { HasSmallIntervals s.now }
     requires point { IsOutermostPoint (picked (map I.cond list.now) picks.now) s.now o.0 d up
         q.now }
     ensures { NoneRefuted (picked (map I.cond list.now) picks.now) (placed s.now o.0 result) }

@@ -3,7 +3,7 @@
 ghost use Rattle.std.specs.Prelude.{◌≡◌, ◌+◌, ◌-◌, ◌^◌, ◌<◌, ◌≤◌, ◌≤ℤ◌, false, true, length, map, min, IfOk, IsOk, OnErr, IfSome};
 ghost use Rattle.geo_conditions.specs.Conditions.{AllFit};
 ghost use Rattle.geo_conditions.specs.Reach.{Inside, low, high};
-ghost use Rattle.geo_state.specs.Trail.{IsSmallNumber};
+ghost use Rattle.geo_state.specs.Trail.{IsSmallEnd};
 ghost use Rattle.derivation.specs.Events.{Grows};
 ghost use Rattle.sweep.specs.Picks.{ArePicks, picked};
 ghost use Rattle.object_pruning.specs.Ends.{HasSome, MovesEnd, MovesEnds};
@@ -30,7 +30,7 @@ fn set_end<const K: usize>(t: &mut Trailed<K>, o: ObjId, d: usize, up: bool, v: 
     requires k { K ≤ MAX_DIMS }
     requires object { o.0 < length t.old.state }
     requires dimension { d < K }
-    requires small { IsSmallNumber v }
+    requires small { IsSmallEnd v }
     requires within { (low t.old.state o.0 d ≤ℤ v) × (v ≤ℤ high t.old.state o.0 d) }
     ensures state { t.new.state ≡ with_end t.old.state o.0 d up v }
     ensures levels { (t.new.levels ≡ t.old.levels) × (t.new.restores ≡ t.old.restores) }

@@ -4,7 +4,7 @@ ghost use Rattle.std.specs.Prelude.{◌≡◌, ◌≢◌, ◌+◌, ◌-◌, ◌^
 ghost use Rattle.geo_base.specs.Boxes.{coordinate};
 ghost use Rattle.geo_base.specs.Ways.{toward};
 ghost use Rattle.geo_conditions.specs.Conditions.{AllFit};
-ghost use Rattle.geo_state.specs.Trail.{IsSmall};
+ghost use Rattle.geo_state.specs.Trail.{HasSmallIntervals};
 ghost use Rattle.derivation.specs.Chains.{bound_event};
 ghost use Rattle.derivation.specs.Events.{Grows};
 ghost use Rattle.sweep.specs.Picks.{ArePicks, picked};
@@ -66,7 +66,7 @@ fn point_at<const K: usize, I: Indexical<K>, R: Recorder>(
     requires place { 0 < place }
     requires picks { ArePicks (length list.now) picks.now }
     requires rows { IfSome rows (λ r. AreRows (map I.cond list.now) o.0 picks.now r.now) }
-    requires small { IsSmall s.now }
+    requires small { HasSmallIntervals s.now }
     ensures point { let cs = picked (map I.cond list.now) picks.now in
         IfOk result (λ r. MatchOption r ((p : List ℤ) → CanBe cs s.now o.0 place p → ⊥)
         (λ q. IsFirstAt cs s.now o.0 place way.now.lead way.now.up q)) }
@@ -105,7 +105,7 @@ fn outermost<const K: usize, I: Indexical<K>, R: Recorder>(
     requires dimension { d < K }
     requires picks { ArePicks (length list.now) picks.now }
     requires rows { IfSome rows (λ r. AreRows (map I.cond list.now) o.0 picks.now r.now) }
-    requires small { IsSmall s.now }
+    requires small { HasSmallIntervals s.now }
     requires some { HasSome (picked (map I.cond list.now) picks.now) s.now o.0 }
     ensures point { IfOk result (λ q.
         IsOutermostPoint (picked (map I.cond list.now) picks.now) s.now o.0 d up q) }
@@ -163,7 +163,7 @@ pub fn sought_end<const K: usize, I: Indexical<K>, R: Recorder>(
     requires dimension { d < K }
     requires picks { ArePicks (length list.now) picks.now }
     requires rows { IfSome rows (λ r. AreRows (map I.cond list.now) o.0 picks.now r.now) }
-    requires small { IsSmall s.now }
+    requires small { HasSmallIntervals s.now }
     requires some { HasSome (picked (map I.cond list.now) picks.now) s.now o.0 }
     ensures point { IfOk result (λ q.
         IsOutermostPoint (picked (map I.cond list.now) picks.now) s.now o.0 d up q) }

@@ -4,7 +4,7 @@ ghost use Rattle.std.specs.Prelude.{◌≡◌, ℕ, ◌+◌, ◌-◌, ◌^◌, �
 ghost use Rattle.geo_conditions.specs.Conditions.{AllFit};
 ghost use Rattle.geo_conditions.specs.Reach.{Inside, has, reach, without};
 ghost use Rattle.geo_conditions.specs.Supported.{HasNoPoint};
-ghost use Rattle.geo_state.specs.Trail.{IsSmall};
+ghost use Rattle.geo_state.specs.Trail.{HasSmallIntervals};
 ghost use Rattle.derivation.specs.Events.{Grows};
 ghost use Rattle.sweep.specs.Picks.{ArePicks, picked};
 ghost use Rattle.object_pruning.specs.Ends.{DropsPlaces};
@@ -59,7 +59,7 @@ fn sought_point<const K: usize, I: Indexical<K>, R: Recorder>(
     requires there { has s.now o.0 place ≡ true }
     requires picks { ArePicks (length list.now) picks.now }
     requires rows { IfSome rows (λ r. AreRows (map I.cond list.now) o.0 picks.now r.now) }
-    requires small { IsSmall s.now }
+    requires small { HasSmallIntervals s.now }
     ensures point { let cs = picked (map I.cond list.now) picks.now in
         IfOk result (λ r. MatchOption r (HasNoPoint cs s.now o.0 place (reach s.now o.0).region)
         (λ p. CanBe cs s.now o.0 place p.coordinates)) }
@@ -102,7 +102,7 @@ fn has_point<const K: usize, I: Indexical<K>, R: Recorder>(
     requires there { has s.now o.0 place ≡ true }
     requires picks { ArePicks (length list.now) picks.now }
     requires rows { IfSome rows (λ r. AreRows (map I.cond list.now) o.0 picks.now r.now) }
-    requires small { IsSmall s.now }
+    requires small { HasSmallIntervals s.now }
     requires kept { AllSupport (picked (map I.cond list.now) picks.now) s.now o.0 kept.old }
     ensures point { let cs = picked (map I.cond list.now) picks.now in
         IfOk result (λ b. MatchBool b ((p : List ℤ) × CanBe cs s.now o.0 place p)

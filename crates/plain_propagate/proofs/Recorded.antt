@@ -7,7 +7,7 @@ use Rattle.std.proofs.lemmas.List.{get_or-set_same, get_or-set_other}
 use Rattle.std.proofs.Math.ListN.{length-set}
 use Rattle.geo_base.specs.Boxes.{coordinate, IsCrossed}
 use Rattle.geo_conditions.specs.declared.cond.Cond.{Cond}
-use Rattle.geo_state.specs.Trail.{IsSmall, IsSmallNumber}
+use Rattle.geo_state.specs.Trail.{HasSmallIntervals, IsSmallEnd}
 use Rattle.geo_conditions.specs.Reach.{State, Region, reach, has, low, high, dims, InBox, with_at, with_low, with_high, just}
 use Rattle.geo_conditions.specs.Supported.{NoneRefuted, HasNoPoint}
 use Rattle.geo_conditions.proofs.Points.{in_just}
@@ -59,25 +59,25 @@ cut_single b c d v k l q one e h =
 -- ---- boxes with small ends
 
 -- the region of an object of a small state
-pub small_region : (S : State) (o : ℕ) (b : Region) → IsSmall S → b ≡ (reach S o).region → IsSmallRegion b
+pub small_region : (S : State) (o : ℕ) (b : Region) → HasSmallIntervals S → b ≡ (reach S o).region → IsSmallRegion b
 small_region S o b small e = subst IsSmallRegion (sym e) (λ d. small o d)
 
 -- one end changed
-pub small_hi : (b c : Region) (d : ℕ) (v : ℤ) → IsSmallNumber v → c.lo ≡ b.lo → c.hi ≡ set b.hi d v → IsSmallRegion b → IsSmallRegion c
+pub small_hi : (b c : Region) (d : ℕ) (v : ℤ) → IsSmallEnd v → c.lo ≡ b.lo → c.hi ≡ set b.hi d v → IsSmallRegion b → IsSmallRegion c
 small_hi b c d v n lo hi small e = (
-  subst (λ (xs : List ℤ). IsSmallNumber (coordinate xs e)) (sym lo) (small e).0,
-  subst (λ (xs : List ℤ). IsSmallNumber (coordinate xs e)) (sym hi) (at_set (λ j x. IsSmallNumber x) b.hi d v (λ l. n) (λ j. (small j).1) e),
+  subst (λ (xs : List ℤ). IsSmallEnd (coordinate xs e)) (sym lo) (small e).0,
+  subst (λ (xs : List ℤ). IsSmallEnd (coordinate xs e)) (sym hi) (at_set (λ j x. IsSmallEnd x) b.hi d v (λ l. n) (λ j. (small j).1) e),
 )
 
-pub small_lo : (b c : Region) (d : ℕ) (v : ℤ) → IsSmallNumber v → c.lo ≡ set b.lo d v → c.hi ≡ b.hi → IsSmallRegion b → IsSmallRegion c
+pub small_lo : (b c : Region) (d : ℕ) (v : ℤ) → IsSmallEnd v → c.lo ≡ set b.lo d v → c.hi ≡ b.hi → IsSmallRegion b → IsSmallRegion c
 small_lo b c d v n lo hi small e = (
-  subst (λ (xs : List ℤ). IsSmallNumber (coordinate xs e)) (sym lo) (at_set (λ j x. IsSmallNumber x) b.lo d v (λ l. n) (λ j. (small j).0) e),
-  subst (λ (xs : List ℤ). IsSmallNumber (coordinate xs e)) (sym hi) (small e).1,
+  subst (λ (xs : List ℤ). IsSmallEnd (coordinate xs e)) (sym lo) (at_set (λ j x. IsSmallEnd x) b.lo d v (λ l. n) (λ j. (small j).0) e),
+  subst (λ (xs : List ℤ). IsSmallEnd (coordinate xs e)) (sym hi) (small e).1,
 )
 
 -- both ends changed
-pub small_cut : (b c : Region) (d : ℕ) (v : ℤ) → IsSmallNumber v → c ≡ cut_to b d v → IsSmallRegion b → IsSmallRegion c
-small_cut b c d v n q small = subst IsSmallRegion (sym q) (λ e. (at_set (λ j x. IsSmallNumber x) b.lo d v (λ l. n) (λ j. (small j).0) e, at_set (λ j x. IsSmallNumber x) b.hi d v (λ l. n) (λ j. (small j).1) e))
+pub small_cut : (b c : Region) (d : ℕ) (v : ℤ) → IsSmallEnd v → c ≡ cut_to b d v → IsSmallRegion b → IsSmallRegion c
+small_cut b c d v n q small = subst IsSmallRegion (sym q) (λ e. (at_set (λ j x. IsSmallEnd x) b.lo d v (λ l. n) (λ j. (small j).0) e, at_set (λ j x. IsSmallEnd x) b.hi d v (λ l. n) (λ j. (small j).1) e))
 
 -- ---- lists with one number changed
 
@@ -205,7 +205,7 @@ high_none cs S o d b v q e l n h p y =
     l.lacks (n, p, record { place = h; point = i.0; unrefuted = y.unrefuted }, (omega (arith, ints, i.1, i.0.below d)))
 
 -- the low end rises by 1, with the covers up to it
-pub raise_led : (cs : List Cond) (S : State) (o d : ℕ) (b : Region) (v w : ℤ) (old mid end : List Event) → v ≡ low S o d → w ≡ low S o d +ℤ pos 1 → b ≡ part_to (reach S o).region d v → IsSmall S → LacksLow cs S o d
+pub raise_led : (cs : List Cond) (S : State) (o d : ℕ) (b : Region) (v w : ℤ) (old mid end : List Event) → v ≡ low S o d → w ≡ low S o d +ℤ pos 1 → b ≡ part_to (reach S o).region d v → HasSmallIntervals S → LacksLow cs S o d
     → mid ≡ old ++ (Raise (record { 0 = o }) d w ∷ []) → RecordedCovers cs S o b mid end → IsLed cs S (set S o (with_low (reach S o) d (low S o d +ℤ pos 1))) old end
 raise_led cs S o d b v w old mid end q f e small l m r =
     let u : ℤ = low S o d +ℤ pos 1 in
@@ -216,7 +216,7 @@ raise_led cs S o d b v w old mid end q f e small l m r =
     (m ∙ ap (λ (x : ℤ). old ++ (Raise (record { 0 = o }) d x ∷ [])) f) (subst (λ (x : Region). RecordedCovers cs S o x mid end) same r) refl
 
 -- the high end falls by 1, with the covers from it on
-pub lower_led : (cs : List Cond) (S : State) (o d : ℕ) (b : Region) (v w : ℤ) (old mid end : List Event) → v ≡ high S o d → w ≡ high S o d +ℤ negsuc 0 → b ≡ from_on (reach S o).region d v → IsSmall S → LacksHigh cs S o d
+pub lower_led : (cs : List Cond) (S : State) (o d : ℕ) (b : Region) (v w : ℤ) (old mid end : List Event) → v ≡ high S o d → w ≡ high S o d +ℤ negsuc 0 → b ≡ from_on (reach S o).region d v → HasSmallIntervals S → LacksHigh cs S o d
     → mid ≡ old ++ (Lower (record { 0 = o }) d w ∷ []) → RecordedCovers cs S o b mid end → IsLed cs S (set S o (with_high (reach S o) d (high S o d +ℤ negsuc 0))) old end
 lower_led cs S o d b v w old mid end q f e small l m r =
     let u : ℤ = high S o d +ℤ negsuc 0 in

@@ -3,7 +3,7 @@ use Rattle.std.specs.Prelude.{◌≡◌, ℕ, ◌<◌, List, ℤ, slice_set}
 use Rattle.geo_conditions.specs.declared.cond.Cond.{Cond}
 use Rattle.geo_conditions.specs.Reach.{State, Region, InBox, with_at, just}
 use Rattle.geo_base.specs.Boxes.{coordinate}
-use Rattle.geo_state.specs.Trail.{IsSmallNumber}
+use Rattle.geo_state.specs.Trail.{IsSmallEnd}
 use Rattle.geo_conditions.specs.Supported.{NoneRefuted, Supports}
 
 -- the points agree in the dimensions below d
@@ -24,7 +24,7 @@ HasEnd cs S o d v = (s : ℕ) × (p : List ℤ) × Supports cs S o s p × (coord
 
 -- each end of the box is a small number
 abbrev pub IsSmallRegion : Region → Type 0
-IsSmallRegion b = (d : ℕ) → IsSmallNumber (coordinate b.lo d) × IsSmallNumber (coordinate b.hi d)
+IsSmallRegion b = (d : ℕ) → IsSmallEnd (coordinate b.lo d) × IsSmallEnd (coordinate b.hi d)
 
 -- the part of the box that has one number in a dimension
 abbrev pub cut_to : Region → ℕ → ℤ → Region

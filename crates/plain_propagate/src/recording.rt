@@ -12,7 +12,7 @@ ghost use Rattle.derivation.specs.declared.event.Event.TheVariants as events;
 ghost use Rattle.derivation.specs.Covers.{refutes};
 ghost use Rattle.derivation.specs.Events.{Grows};
 ghost use Rattle.derivation.specs.PlaceCovers.{RecordedBelow, RecordedCovers};
-ghost use Rattle.geo_state.specs.Trail.{IsSmall};
+ghost use Rattle.geo_state.specs.Trail.{HasSmallIntervals};
 ghost use Rattle.plain_propagate.specs.Points.{IsSmallRegion};
 ghost use Rattle.plain_propagate.specs.Defects.{LacksAll, LacksPoint, LacksLow, LacksHigh};
 ghost use Rattle.derivation.specs.Chains.{IsLed, IsClosed};
@@ -185,7 +185,7 @@ pub fn record_gone<const K: usize, R: Recorder>(
     requires k { K ≤ MAX_DIMS }
     requires list { length cs.now ≤ 1000000000 }
     requires fits { All (λ c. FitsIn c s.now) cs.now }
-    requires small { IsSmall s.now }
+    requires small { HasSmallIntervals s.now }
     requires lacks { LacksAll cs.now s.now o.0 }
     ensures closed { OnOk result (R.keeps ≡ true
         → IsClosed cs.now s.now (R.list rec.old) (R.list rec.new)) }
@@ -207,7 +207,7 @@ pub fn record_drop<const K: usize, R: Recorder>(
     requires k { K ≤ MAX_DIMS }
     requires list { length cs.now ≤ 1000000000 }
     requires fits { All (λ c. FitsIn c s.now) cs.now }
-    requires small { IsSmall s.now }
+    requires small { HasSmallIntervals s.now }
     requires lacks { LacksPoint cs.now s.now o.0 place }
     ensures led { OnOk result (R.keeps ≡ true → IsLed cs.now s.now
         (slice_set s.now o.0 (without (reach s.now o.0) place)) (R.list rec.old) (R.list rec.new)) }
@@ -231,7 +231,7 @@ pub fn record_raise<const K: usize, R: Recorder>(
     requires list { length cs.now ≤ 1000000000 }
     requires fits { All (λ c. FitsIn c s.now) cs.now }
     requires dimension { d < K }
-    requires small { IsSmall s.now }
+    requires small { HasSmallIntervals s.now }
     requires lacks { LacksLow cs.now s.now o.0 d }
     ensures led { OnOk result (R.keeps ≡ true → IsLed cs.now s.now
         (slice_set s.now o.0 (with_low (reach s.now o.0) d (low s.now o.0 d +ℤ pos 1)))
@@ -259,7 +259,7 @@ pub fn record_lower<const K: usize, R: Recorder>(
     requires list { length cs.now ≤ 1000000000 }
     requires fits { All (λ c. FitsIn c s.now) cs.now }
     requires dimension { d < K }
-    requires small { IsSmall s.now }
+    requires small { HasSmallIntervals s.now }
     requires lacks { LacksHigh cs.now s.now o.0 d }
     ensures led { OnOk result (R.keeps ≡ true → IsLed cs.now s.now
         (slice_set s.now o.0 (with_high (reach s.now o.0) d (high s.now o.0 d +ℤ negsuc 0)))

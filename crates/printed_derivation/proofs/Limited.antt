@@ -13,10 +13,10 @@ use Rattle.derivation.specs.Covers.{CoverTree, Leaf, Fork, cut_event, events_of,
 use Rattle.derivation.specs.PlaceCovers.{PlaceCover, open_events, covers_events}
 use Rattle.derivation.specs.Chains.{bound_event}
 use Rattle.derivation.specs.Nodes.{Node, Split, DropNode, Bound, GoneNode, DeadNode, split_event, node_events}
-use Rattle.derivation_round_trip.specs.Limits.{IsSmall, IsLimited}
+use Rattle.derivation_round_trip.specs.Limits.{IsTextNumber, IsLimited}
 use Rattle.whole_derivation.specs.Whole.{HalfFits, CoversFit, NodeFits}
 
-small_number : (i : ℕ) → i ≤ 1000000000 → IsSmall (pos i)
+small_number : (i : ℕ) → i ≤ 1000000000 → IsTextNumber (pos i)
 small_number i h = (omega (arith, ints), omega (arith, ints))
 
 cut_limited : (k : ℕ) (side : Side) → IsCut k side → IsLimited (cut_event side)

@@ -2,7 +2,7 @@
 
 ghost use Rattle.std.specs.Prelude.{IsTrue, ◌↔◌};
 ghost use Rattle.std.specs.List.{All};
-ghost use Rattle.derivation_round_trip.specs.Limits.{IsLimited, IsSmall};
+ghost use Rattle.derivation_round_trip.specs.Limits.{IsLimited, IsTextNumber};
 ghost use Rattle.printed_derivation.specs.Printable.{IsPrintable};
 
 use derivation::Event;
@@ -10,7 +10,7 @@ use derivation_text::all_named;
 use geo_tokens::names::Names;
 
 fn is_small(v: i64) -> bool
-    ensures { IsTrue result ↔ IsSmall v }
+    ensures { IsTrue result ↔ IsTextNumber v }
 {
     -1_000_000_000 <= v && v <= 1_000_000_000
 }

@@ -142,14 +142,14 @@ module _ {A B : Type 0} (L : List ℕ → Lang A) (R : B → A → Type 0) (s : 
 -- ---- numbers
 
 -- an int whose number can be written
-abbrev pub IsSmall : ℤ → Type 0
-IsSmall (pos n) = n ≤ 1000000000
-IsSmall (negsuc n) = suc n ≤ 1000000000
+abbrev pub IsTextNumber : ℤ → Type 0
+IsTextNumber (pos n) = n ≤ 1000000000
+IsTextNumber (negsuc n) = suc n ≤ 1000000000
 
 abbrev pub IntAgain : ℤ → Type 0
 IntAgain v = Respelled (λ text. IntWords) (λ i. bare_int i ≡ int_of v) (int_spelling v)
 
-pub int_again : (v : ℤ) → IsSmall v → IntAgain v
+pub int_again : (v : ℤ) → IsTextNumber v → IntAgain v
 unfolding IntWords
 int_again (pos n) h = record {
   good = (h, tt);
@@ -160,7 +160,7 @@ int_again (negsuc n) h = record {
   again = left_again (bind_again (tok_again (symbol syms.Minus) sign refl) (λ m k. last_again (λ t. negative_int m t) (tok_again numbers (digits (suc n)) refl) (λ t j. ap (λ (d : Kind). int_of (neg_ℤ (pos (number_in d)))) j)));
 }
 
-pub range_again : (r : RangeData) → IsSmall r.low → IsSmall r.high → Respelled (λ text. RangeWords) (λ x. bare_range x ≡ range_of r) (range_spelling r)
+pub range_again : (r : RangeData) → IsTextNumber r.low → IsTextNumber r.high → Respelled (λ text. RangeWords) (λ x. bare_range x ≡ range_of r) (range_spelling r)
 unfolding RangeWords
 range_again r l h =
     let a = int_again r.low l in
@@ -183,11 +183,11 @@ name_again bytes h = record {
 -- ints of which there is one at least, and which can be written
 pub record CanWriteInts (vs : List ℤ) : Type 0 where
   pub some : IsSome vs
-  pub small : AllOf IsSmall vs
+  pub small : AllOf IsTextNumber vs
 
 ints_again : (vs : List ℤ) → CanWriteInts vs → Respelled (λ text. OneOrMore IntWords) (λ xs. map bare_int xs ≡ map int_of vs) (ints_spelling vs)
 ints_again vs h =
-    let r = one_or_more_again (λ text. IntWords) (λ v i. bare_int i ≡ int_of v) int_spelling vs h.some (all_as {P = IsSmall} {Q = IntAgain} int_again vs h.small) in
+    let r = one_or_more_again (λ text. IntWords) (λ v i. bare_int i ≡ int_of v) int_spelling vs h.some (all_as {P = IsTextNumber} {Q = IntAgain} int_again vs h.small) in
     record { good = r.good; again = record { reads = λ text v st. (let x = r.again.reads text v st in (x.0, x.1, each_map bare_int int_of vs x.0 x.2)) } }
 
 pub record CanWriteBox (b : BoxData) : Type 0 where
@@ -215,8 +215,8 @@ boxes_again bs h =
     record { good = r.good; again = record { reads = λ text v st. (let x = r.again.reads text v st in (x.0, x.1, each_map bare_box box_of bs x.0 x.2)) } }
 
 pub record CanWriteRange (r : RangeData) : Type 0 where
-  pub low : IsSmall r.low
-  pub high : IsSmall r.high
+  pub low : IsTextNumber r.low
+  pub high : IsTextNumber r.high
 
 pub record CanWriteRanges (rs : List RangeData) : Type 0 where
   pub some : IsSome rs
@@ -230,7 +230,7 @@ ranges_again rs h =
 
 pub record CanWriteAttribute (a : AttributeData) : Type 0 where
   pub name : IsNameText a.name
-  pub value : IsSmall a.value
+  pub value : IsTextNumber a.value
 
 abbrev AttributeAgain : AttributeData → Type 0
 AttributeAgain a = Respelled AttributeWords (λ x. bare_attribute x ≡ attribute_of a) (attribute_spelling a)

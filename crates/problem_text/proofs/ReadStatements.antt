@@ -18,7 +18,7 @@ use Rattle.problem_data.specs.declared.tree.ParamText.{ParamText}
 use Rattle.problem_data.specs.Tree.{BoxTree, ObjectTree, BodyTree, means, equals, DemandTree, apart, within, plain, StatementTree, a_shape, an_object, an_order, some_sides, a_macro, a_rule}
 use Rattle.problem_data.specs.Grammar.{plain_int, negative_int, range_text, box_tree, attribute_text, param_text, shape_tree, object_tree, order_tree, sides_tree, macro_tree, rule_tree, OneOrMore, Listed, PlainInt, NegativeInt, IntWords, RangeWords, BoxWords, AttributeWords, Attributes, ParamWords, Params, BodyWords, DemandWords, ShapeWords, ObjectWords, OrderWords, SidesWords, MacroWords, RuleWords, StatementWords}
 use Rattle.problem_data.specs.Meaning as meaning
-use Rattle.problem_text.proofs.PrintingParts.{IsSome, IsSmall, CanWriteInts, CanWriteBox, CanWriteBoxes, CanWriteRange, CanWriteRanges, CanWriteAttribute, CanWriteParam, CanWriteBody, CanWriteDemand}
+use Rattle.problem_text.proofs.PrintingParts.{IsSome, IsTextNumber, CanWriteInts, CanWriteBox, CanWriteBoxes, CanWriteRange, CanWriteRanges, CanWriteAttribute, CanWriteParam, CanWriteBody, CanWriteDemand}
 use Rattle.problem_text.proofs.PrintingStatements.{CanWriteShape, CanWriteMacro, CanWriteRule}
 
 -- ---- lists
@@ -54,35 +54,35 @@ module _ (text : List ℕ) {A : Type 0} (L : Lang A) (Q : A → Type 0) (f : (a 
       several Q j.value i.value xs (pure_is (j.value ∷ i.value) xs i.rest i.second) (f j.value j.front j.first j.front_true)
       (many_of text (Bind (Tok (symbol syms.Comma)) (λ mark. L)) Q (λ a v g gt. (let k = split text a v g gt in f a k.rest k.second k.rest_true)) many.0 i.value i.front many.1 i.front_true)
 
-negative_small : (n : ℕ) → n ≤ 1000000000 → IsSmall (neg_ℤ (pos n))
+negative_small : (n : ℕ) → n ≤ 1000000000 → IsTextNumber (neg_ℤ (pos n))
 negative_small zero h = omega arith
 negative_small (suc n) h = h
 
 module _ (text : List ℕ) where
   -- ---- parts
 
-  plain_read : (i : Int) (w : List Token) → PlainInt (Some i) w → AllTrue text w → IsSmall i.value
+  plain_read : (i : Int) (w : List Token) → PlainInt (Some i) w → AllTrue text w → IsTextNumber i.value
   plain_read i w h tr =
       let j = split text i w h tr in
       let small : number_in j.value.kind ≤ 1000000000 = small_number text j.value (token_of_list text numbers j.value j.front j.first j.front_true).is_true in
-      subst (λ (u : Int). IsSmall u.value) (pure_is (plain_int j.value) i j.rest j.second) small
+      subst (λ (u : Int). IsTextNumber u.value) (pure_is (plain_int j.value) i j.rest j.second) small
 
-  negative_read : (i : Int) (w : List Token) → NegativeInt (Some i) w → AllTrue text w → IsSmall i.value
+  negative_read : (i : Int) (w : List Token) → NegativeInt (Some i) w → AllTrue text w → IsTextNumber i.value
   negative_read i w h tr =
       let j = split text i w h tr in
       let k = split text i j.rest j.second j.rest_true in
       let small : number_in k.value.kind ≤ 1000000000 = small_number text k.value (token_of_list text numbers k.value k.front k.first k.front_true).is_true in
-      subst (λ (u : Int). IsSmall u.value) (pure_is (negative_int j.value k.value) i k.rest k.second) (negative_small (number_in k.value.kind) small)
+      subst (λ (u : Int). IsTextNumber u.value) (pure_is (negative_int j.value k.value) i k.rest k.second) (negative_small (number_in k.value.kind) small)
 
-  pub int_read : (i : Int) (w : List Token) → IntWords (Some i) w → AllTrue text w → IsSmall i.value
+  pub int_read : (i : Int) (w : List Token) → IntWords (Some i) w → AllTrue text w → IsTextNumber i.value
   unfolding IntWords
   int_read i w (left h) tr = negative_read i w h tr
   int_read i w (right h) tr = plain_read i w h tr
 
   ints_read : (is : List Int) (w : List Token) → OneOrMore IntWords (Some is) w → AllTrue text w → CanWriteInts (map meaning.number_of is)
   ints_read is w h tr =
-      let s = one_or_more_of text IntWords (λ i. IsSmall i.value) int_read is w h tr in
-      record { some = some_mapped meaning.number_of is s.some; small = mapped IsSmall meaning.number_of is s.each }
+      let s = one_or_more_of text IntWords (λ i. IsTextNumber i.value) int_read is w h tr in
+      record { some = some_mapped meaning.number_of is s.some; small = mapped IsTextNumber meaning.number_of is s.each }
 
   range_read : (r : RangeText) (w : List Token) → RangeWords (Some r) w → AllTrue text w → CanWriteRange (meaning.range_of r)
   unfolding RangeWords

@@ -18,7 +18,7 @@ use Rattle.geo_conditions.specs.Reach.{State, IsState, Tuple, TupleIn, Inside, s
 use Rattle.geo_conditions.specs.Walk.{Variable, PlaceOf, CoordinateOf, object_of, Order, NamesEach, AreOf, value_in, values, variables, variables_of, variables_in, coordinates_from}
 use Rattle.geo_conditions.proofs.Points.{inside_self}
 use Rattle.geo_conditions.proofs.Orders.{order_are_of}
-use Rattle.geo_state.specs.Trail.{IsSmall, IsSmallNumber}
+use Rattle.geo_state.specs.Trail.{HasSmallIntervals, IsSmallEnd}
 use Rattle.geo_state.proofs.Shapes.{places_long, place_few}
 use Rattle.trail_search.specs.Cursor.{HasDimension, IsValueOf, AreValues}
 use Rattle.trail_search.specs.Walker.{Position, IsToken, IsWell}
@@ -86,7 +86,7 @@ order_few k S order s h n =
 -- ---- the token
 
 -- the values of a tuple inside a small state are small
-value_small_in : (k : ℕ) (S : State) (t : Tuple) (x : Variable) → IsState k S → IsSmall S → TupleIn t S → object_of x < length S → IsSmallNumber (value_in t x)
+value_small_in : (k : ℕ) (S : State) (t : Tuple) (x : Variable) → IsState k S → HasSmallIntervals S → TupleIn t S → object_of x < length S → IsSmallEnd (value_in t x)
 value_small_in k S t (PlaceOf o) s m i h =
     let p = (i.each o h).place in
     let few = place_few (reach S o).places (spot t o).place p in
@@ -96,12 +96,12 @@ value_small_in k S t (CoordinateOf o d down) s m i h =
     (omega (arith, ints, b.above d, (m o d).0.0), omega (arith, ints, b.below d, (m o d).1.1))
 
 -- so are those of all variables
-values_small : (k : ℕ) (S : State) (t : Tuple) (xs : List Variable) → IsState k S → IsSmall S → TupleIn t S → AreOf S xs → All IsSmallNumber (values xs t)
-values_small k S t [] s m i a = All-nil IsSmallNumber
-values_small k S t (x ∷ xs) s m i a = All-cons IsSmallNumber (value_in t x) (values xs t) (value_small_in k S t x s m i a.0) (values_small k S t xs s m i a.1)
+values_small : (k : ℕ) (S : State) (t : Tuple) (xs : List Variable) → IsState k S → HasSmallIntervals S → TupleIn t S → AreOf S xs → All IsSmallEnd (values xs t)
+values_small k S t [] s m i a = All-nil IsSmallEnd
+values_small k S t (x ∷ xs) s m i a = All-cons IsSmallEnd (value_in t x) (values xs t) (value_small_in k S t x s m i a.0) (values_small k S t xs s m i a.1)
 
 -- the values of a tuple inside the first state are a token
-pub token_is : (k : ℕ) (S : State) (xs : List Variable) (a : Option Tuple) → IsState k S → IsSmall S → IfSome a (λ t. TupleIn t S) → AreOf S xs → IsToken xs (option_map (values xs) a)
+pub token_is : (k : ℕ) (S : State) (xs : List Variable) (a : Option Tuple) → IsState k S → HasSmallIntervals S → IfSome a (λ t. TupleIn t S) → AreOf S xs → IsToken xs (option_map (values xs) a)
 token_is k S xs None s m i a = tt
 token_is k S xs (Some t) s m i a = (length-map xs (value_in t), values_small k S t xs s m i a)
 
@@ -119,7 +119,7 @@ zero_values xs vs l h i x b = subst (IsValueOf (get_or xs i x)) (sym (h i (pos 0
 -- ---- the walker
 
 -- a walker that is made is well
-pub started_well : (k : ℕ) (order : Order) (a : Option Tuple) (p : Position) → IsState k p.first → IsSmall p.first → NamesEach k p.first order → IfSome a (λ t. TupleIn t p.first) → p.variables ≡ variables_in order → p.token ≡ option_map (values (variables_in order)) a → p.trail.state ≡ p.first → p.trail.levels ≡ length p.variables → p.trail.restores ≡ [] → length p.values ≡ length p.variables → All (λ z. z ≡ pos 0) p.values → IsWell k p
+pub started_well : (k : ℕ) (order : Order) (a : Option Tuple) (p : Position) → IsState k p.first → HasSmallIntervals p.first → NamesEach k p.first order → IfSome a (λ t. TupleIn t p.first) → p.variables ≡ variables_in order → p.token ≡ option_map (values (variables_in order)) a → p.trail.state ≡ p.first → p.trail.levels ≡ length p.variables → p.trail.restores ≡ [] → length p.values ≡ length p.variables → All (λ z. z ≡ pos 0) p.values → IsWell k p
 started_well k order a p s m n i v t st lv rs vl vz = record {
   objects = subst (AreOf p.first) (sym v) (order_are_of k p.first order n);
   dimensions = subst (All (HasDimension k)) (sym v) (order_have k p.first order n);

@@ -3,7 +3,7 @@ use Rattle.std.proofs.Common.{◌≡◌, ℕ, zero, suc, ◌+◌, ◌<◌, ◌�
 use Rattle.std.proofs.lemmas.Int.{ints}
 use lib.Signed.{mag}
 use Rattle.trail_search.specs.Cursor.{after, bound_at, token_bound}
-use Rattle.geo_state.specs.Trail.{IsSmallNumber}
+use Rattle.geo_state.specs.Trail.{IsSmallEnd}
 use Rattle.trail_search.specs.Walker.{Position, SameWalk, depth}
 use Rattle.geo_conditions.proofs.Defaults.{any_default}
 use Rattle.trail_search.proofs.Token.{bound_last}
@@ -63,12 +63,12 @@ bound_of xs t m D r s l h b e f =
     e ∙ ap (after (variable_of (get_or xs m D))) f ∙ ap (λ (y : Seen). after y (get_or t m (pos 0))) (sym (get_or-map variable_of xs m D)) ∙ sym (bound_last (map variable_of xs) t m (variable_of D) (omega (arith, n, l)) (omega (arith, n, h, b)))
 
 -- a token's bound is small
-pub bound_small : (xs : List Seen) (t : List ℤ) (m : ℕ) → All IsSmallNumber t → (negsuc 2000000 ≤ℤ bound_at xs t m) × (bound_at xs t m ≤ℤ pos 2000001)
+pub bound_small : (xs : List Seen) (t : List ℤ) (m : ℕ) → All IsSmallEnd t → (negsuc 2000000 ≤ℤ bound_at xs t m) × (bound_at xs t m ≤ℤ pos 2000001)
 bound_small [] t m a = (omega (arith, ints), omega (arith, ints))
 bound_small (x ∷ xs) [] m a = (omega (arith, ints), omega (arith, ints))
 bound_small (x ∷ xs) (t ∷ ts) zero a = base x xs t (a 0 (pos 0) (omega arith))
   where
-    base : (x : Seen) (xs : List Seen) (t : ℤ) → IsSmallNumber t → (negsuc 2000000 ≤ℤ token_bound x xs t) × (token_bound x xs t ≤ℤ pos 2000001)
+    base : (x : Seen) (xs : List Seen) (t : ℤ) → IsSmallEnd t → (negsuc 2000000 ≤ℤ token_bound x xs t) × (token_bound x xs t ≤ℤ pos 2000001)
     base (PlaceOf o) [] t h = (omega (arith, ints, h.0), omega (arith, ints, h.1))
     base (CoordinateOf o d false) [] t h = (omega (arith, ints, h.0), omega (arith, ints, h.1))
     base (CoordinateOf o d true) [] t h = (omega (arith, ints, h.0), omega (arith, ints, h.1))

@@ -1,7 +1,7 @@
 -- Where a search stands: the values that it has fixed, what is left to visit, and what its levels restore.
 use Rattle.std.specs.Prelude.{◌≡◌, ℕ, zero, suc, ◌<◌, ◌⊎◌, Bool, true, false, List, [], ◌∷◌, length, ℤ, pos, negsuc, ◌+ℤ◌, ◌≤ℤ◌, ◌<ℤ◌, Option, Some, None, slice_index_or, take}
 use Rattle.std.specs.List.{All}
-use Rattle.geo_state.specs.Trail.{IsSmallNumber}
+use Rattle.geo_state.specs.Trail.{IsSmallEnd}
 use Rattle.geo_conditions.specs.Reach.{State, has, low, high, Inside, HasNoEmpty}
 use Rattle.geo_conditions.specs.Supported.{IsSupported}
 use Rattle.geo_conditions.specs.Walk.{Variable, PlaceOf, CoordinateOf, IsBefore, Precedes, IsFixed, IsFirstValue, Tree, IsIn, IsFront}
@@ -36,7 +36,7 @@ HasNoneFrom S x v = (T : State) → HasNoEmpty T → Inside T S → IsFrom T x v
 -- a place from 0 to 16, or a coordinate from -2,000,000 to 2,000,000
 abbrev pub IsValueOf : Variable → ℤ → Type 0
 IsValueOf (PlaceOf o) v = (pos 0 ≤ℤ v) × (v ≤ℤ pos 16)
-IsValueOf (CoordinateOf o d down) v = IsSmallNumber v
+IsValueOf (CoordinateOf o d down) v = IsSmallEnd v
 
 -- each variable has such a value
 abbrev pub AreValues : List Variable → List ℤ → Type 0

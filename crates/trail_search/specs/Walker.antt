@@ -6,7 +6,7 @@ use Rattle.geo_conditions.specs.declared.cond.Cond.{Cond}
 use Rattle.geo_conditions.specs.Reach.{State, Reach, Inside, HasNoEmpty}
 use Rattle.geo_conditions.specs.Supported.{IsSupported}
 use Rattle.geo_conditions.specs.Walk.{Variable, AreOf, Tree, IsFront, IsWhole, GoesOn, is_full}
-use Rattle.geo_state.specs.Trail.{Trail, IsSmallNumber}
+use Rattle.geo_state.specs.Trail.{Trail, IsSmallEnd}
 use Rattle.geo_state.specs.declared.propagate.Settled.{Settled}
 use Rattle.geo_state.specs.declared.propagate.Settled.TheVariants.{Kept, Dead}
 use Rattle.trail_search.specs.declared.step.Step.{Step}
@@ -38,7 +38,7 @@ path p = take (depth p) p.values
 -- a token has a small value for each variable
 abbrev pub IsToken : List Variable → Option (List ℤ) → Type 0
 IsToken xs None = Unit {0}
-IsToken xs (Some t) = (length t ≡ length xs) × All IsSmallNumber t
+IsToken xs (Some t) = (length t ≡ length xs) × All IsSmallEnd t
 
 -- what is true of a walker, whatever its conditions
 pub record IsWell (k : ℕ) (p : Position) : Type 0 where

@@ -1,7 +1,7 @@
 ghost use Rattle.std.specs.Prelude.{◌≡◌, ℕ, ℤ, ◌<◌, ◌≤◌, ◌<ℤ◌, ◌≤ℤ◌, ◌↔◌, IsTrue, true, false, pos, length, slice_set};
 ghost use Rattle.geo_conditions.specs.Reach.{reach, has, low, high, with_low, with_high, NotEmpty};
 ghost use Rattle.geo_conditions.specs.Walk.{PlaceOf, CoordinateOf, object_of, IsFirstValue, IsFixed};
-ghost use Rattle.geo_state.specs.Trail.{IsSmall};
+ghost use Rattle.geo_state.specs.Trail.{HasSmallIntervals};
 ghost use Rattle.trail_search.specs.Cursor.{after, Narrows, IsFrom, IsValueOf, HasAfter, HasDimension};
 ghost use Rattle.trail_search.specs.Record.{with_first, with_later, IsFixedTo};
 ghost use Rattle.trail_search.specs.Shed.{Clears, Sheds};
@@ -36,7 +36,7 @@ pub fn first_value<const K: usize>(s: &State<K>, x: Variable) -> i64
     requires object { object_of (variable_of x) < length s.now }
     requires dimension { HasDimension K (variable_of x) }
     requires full { NotEmpty (reach s.now (object_of (variable_of x))) }
-    requires small { IsSmall s.now }
+    requires small { HasSmallIntervals s.now }
     ensures first { IsFirstValue s.now (variable_of x) result }
     ensures fits { IsValueOf (variable_of x) result }
 {

@@ -6,7 +6,7 @@ ghost use Rattle.geo_base.specs.Boxes.{coordinate};
 ghost use Rattle.geo_conditions.specs.Conditions.{AllFit};
 ghost use Rattle.geo_conditions.specs.Reach.{Tuple, TupleIn, spot};
 ghost use Rattle.geo_conditions.specs.Walk.{NamesEach, variables_in, values};
-ghost use Rattle.geo_state.specs.Trail.{IsSmall};
+ghost use Rattle.geo_state.specs.Trail.{HasSmallIntervals};
 ghost use Rattle.trail_search.specs.Next.{Steps, HasRecorded, HasFound, is_found};
 
 use super::start::start_walker;
@@ -78,7 +78,7 @@ impl<const K: usize, P: Propagate<K> + Drop, R: Recorder + Drop> Search<K, P, R>
         rec: R,
     ) -> Result<Search<K, P, R>, AllocError>
         requires k { K ≤ MAX_DIMS }
-        requires small { IsSmall first }
+        requires small { HasSmallIntervals first }
         requires order { NamesEach K first order }
         requires token { IfSome (option_copied after) (λ t. TupleIn t first) }
         requires objects { length first ≡ P.objects prop }

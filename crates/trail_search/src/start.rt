@@ -3,7 +3,7 @@ ghost use Rattle.std.specs.List.{All};
 ghost use Rattle.std.specs.Option.{option_copied, option_map};
 ghost use Rattle.geo_conditions.specs.Reach.{IsState, TupleIn};
 ghost use Rattle.geo_conditions.specs.Walk.{NamesEach, AreOf, object_of, value_in, values, variables_in};
-ghost use Rattle.geo_state.specs.Trail.{IsSmall};
+ghost use Rattle.geo_state.specs.Trail.{HasSmallIntervals};
 ghost use Rattle.trail_search.specs.Cursor.{HasDimension};
 ghost use Rattle.trail_search.specs.Variables.{variable_of};
 ghost use Rattle.trail_search.specs.Walker.{IsWell, IsFresh, token_of};
@@ -93,7 +93,7 @@ pub fn start_walker<const K: usize>(
     after: Option<&Layout>,
 ) -> Result<Walker<K>, AllocError>
     requires k { K ≤ MAX_DIMS }
-    requires small { IsSmall first }
+    requires small { HasSmallIntervals first }
     requires order { NamesEach K first order.now }
     requires token { IfSome (option_copied after) (λ t. TupleIn t first) }
     ensures shape { IfOk result (λ p. IsState K p.first) }

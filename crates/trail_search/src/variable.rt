@@ -1,7 +1,7 @@
 ghost use Rattle.std.specs.Prelude.{◌≡◌, ◌+◌, ◌<◌, ◌++◌, length, map, OnOk, IfOk, IsTrue, ◌↔◌, pos, ◌≤ℤ◌};
 ghost use Rattle.std.specs.List.{All};
 ghost use Rattle.geo_conditions.specs.Walk.{variables, variables_of, variables_in};
-ghost use Rattle.geo_state.specs.Trail.{IsSmallNumber};
+ghost use Rattle.geo_state.specs.Trail.{IsSmallEnd};
 ghost use Rattle.trail_search.specs.Cursor.{after, bound_at, IsValueOf};
 ghost use Rattle.trail_search.specs.Variables.{variable_of, split_of, IsAt};
 
@@ -43,7 +43,7 @@ pub fn list_variables(alloc: Global, order: &SearchOrder) -> Result<Vec<Variable
 
 /// The number next to `v` in the order of the variable.
 pub fn after(x: Variable, v: i64) -> i64
-    requires small { IsSmallNumber v }
+    requires small { IsSmallEnd v }
     ensures { result ≡ after (variable_of x) v }
 {
     match x {
@@ -57,7 +57,7 @@ pub fn after(x: Variable, v: i64) -> i64
 pub fn token_bound(variables: &[Variable], t: &[i64], m: usize) -> i64
     requires lengths { length t.now ≡ length variables.now }
     requires number { m < length variables.now }
-    requires small { All IsSmallNumber t.now }
+    requires small { All IsSmallEnd t.now }
     ensures { result ≡ bound_at (map variable_of variables.now) t.now m }
 {
     if m + 1 < variables.len() {

@@ -2,7 +2,7 @@
 
 ghost use Rattle.std.specs.Prelude.{◌≡◌, ◌≤◌, IfOk, length, map};
 ghost use Rattle.geo_conditions.specs.Conditions.{AllFit};
-ghost use Rattle.geo_state.specs.Trail.{IsSmall};
+ghost use Rattle.geo_state.specs.Trail.{HasSmallIntervals};
 
 use super::lines::{B, C, FALSE, Rules, THREE_APART, conditions, line, parts};
 use derivation::{Event, Log};
@@ -33,7 +33,7 @@ fn settles(
 ) -> Result<bool, AllocError>
     requires few { length list.items ≤ 1000000000 }
     requires fits { AllFit (map (λ x. x.cond) list.items) s }
-    requires small { IsSmall s }
+    requires small { HasSmallIntervals s }
 {
     let mut queue = Fixpoint::<1>::start(alloc, list, s.objects())?;
     let mut t = Trailed::start(alloc, s, 0)?;

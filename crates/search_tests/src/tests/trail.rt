@@ -1,7 +1,7 @@
 //! The stack of the trail, and a state that many levels change.
 
 ghost use Rattle.std.specs.Prelude.{◌≡◌, ◌+◌, ◌≤◌, ◌<◌, [], length};
-ghost use Rattle.geo_state.specs.Trail.{IsSmallNumber};
+ghost use Rattle.geo_state.specs.Trail.{IsSmallEnd};
 
 use geo_base::{KBox, Point};
 use geo_conditions::{ObjId, State};
@@ -52,7 +52,7 @@ fn is_same(a: &State<2>, b: &State<2>) -> bool {
 fn raise(t: &mut Trailed<2>, o: ObjId, d: usize, v: i64)
     requires object { o.0 < length t.old.state }
     requires dimension { d < 2 }
-    requires small { IsSmallNumber v }
+    requires small { IsSmallEnd v }
     ensures levels { t.new.levels ≡ t.old.levels }
     ensures restores { t.new.restores ≡ t.old.restores }
 {
@@ -66,7 +66,7 @@ fn raise(t: &mut Trailed<2>, o: ObjId, d: usize, v: i64)
 fn lower(t: &mut Trailed<2>, o: ObjId, d: usize, v: i64)
     requires object { o.0 < length t.old.state }
     requires dimension { d < 2 }
-    requires small { IsSmallNumber v }
+    requires small { IsSmallEnd v }
     ensures levels { t.new.levels ≡ t.old.levels }
     ensures restores { t.new.restores ≡ t.old.restores }
 {

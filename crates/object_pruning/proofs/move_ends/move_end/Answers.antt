@@ -3,7 +3,7 @@ use Rattle.std.specs.Int.{w64}
 use mir.Val.{to_z, of_z}
 use Rattle.geo_base.specs.Boxes.{coordinate}
 use Rattle.geo_conditions.specs.Reach.{State, IsState, reach, low, high}
-use Rattle.geo_state.specs.Trail.{IsSmallNumber}
+use Rattle.geo_state.specs.Trail.{IsSmallEnd}
 use Rattle.geo_state.proofs.Numbers.{kept64}
 use Rattle.derivation.specs.Chains.{moved}
 use Rattle.sweep.specs.Picks.{picked}
@@ -67,7 +67,7 @@ set_end-requires g c =
     let v = coordinate q.point.coordinates d in
     let out : IsOutermostPoint cs S o d up q = subst (λ (T : State). IsOutermostPoint cs T o d up q) c.state-state.ensures.value c.in_ok-q.ensures.point in
     let at : to_z w64 (of_z w64 c.get-v.result) ≡ v = kept64 c.get-v.result c.get-v.type_inv ∙ c.get-v.ensures in
-    let small : IsSmallNumber (to_z w64 (of_z w64 c.get-v.result)) = subst IsSmallNumber (sym at) (outermost_small cs S o d up v c.state-state.ensures.small out.1) in
+    let small : IsSmallEnd (to_z w64 (of_z w64 c.get-v.result)) = subst IsSmallEnd (sym at) (outermost_small cs S o d up v c.state-state.ensures.small out.1) in
     let within : (low S o d ≤ℤ to_z w64 (of_z w64 c.get-v.result)) × (to_z w64 (of_z w64 c.get-v.result) ≤ℤ high S o d) =
     subst (λ (z : ℤ). (low S o d ≤ℤ z) × (z ≤ℤ high S o d)) (sym at) (outermost_in cs S o d up v out.1) in
     search rules

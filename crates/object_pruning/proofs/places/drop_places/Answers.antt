@@ -2,7 +2,7 @@ use Rattle.std.proofs.Common.{◌≡◌, ◌+◌, ◌<◌, true, false, map, len
 use Rattle.geo_conditions.specs.Conditions.{AllFit}
 use Rattle.geo_conditions.specs.Reach.{State, reach, has, without}
 use Rattle.geo_conditions.specs.Supported.{HasNoPoint}
-use Rattle.geo_state.specs.Trail.{Trail, IsSmall}
+use Rattle.geo_state.specs.Trail.{Trail, HasSmallIntervals}
 use Rattle.geo_state.proofs.Fits.{all_fit}
 use Rattle.sweep.specs.Picks.{picked}
 use Rattle.object_pruning.specs.Kept.{AllSupport}
@@ -27,7 +27,7 @@ has_point-requires g c =
     let fits : AllFit (map g.I.Indexical.cond c.args.list.now) R = subst (AllFit (map g.I.Indexical.cond c.args.list.now)) (sym e) (all_fit _ c.args.t.now.state T i.drops.inside c.requires.fits) in
     let object : o < length R = omega (arith, ap length e, i.drops.inside.objects, c.requires.object) in
     let there : has R o (c.loop-before.before + 1) ≡ true = sym c.has_shape.ensures ∙ c.if-has_shape.true in
-    let small : IsSmall R = subst IsSmall (sym e) c.state-state.ensures.small in
+    let small : HasSmallIntervals R = subst HasSmallIntervals (sym e) c.state-state.ensures.small in
     let kept : AllSupport cs R o c.loop-before.kept = subst (λ (X : State). AllSupport cs X o c.loop-before.kept) (sym e) i.kept in
     search rules
 

@@ -7,7 +7,7 @@ use Rattle.geo_base.specs.Boxes.{coordinate}
 use Rattle.geo_conditions.specs.Reach.{with_at, dims}
 use Rattle.geo_conditions.specs.Regions.{region_of}
 use Rattle.geo_conditions.specs.Supported.{NoneRefuted, HasNoPoint}
-use Rattle.geo_state.specs.Trail.{IsSmallNumber}
+use Rattle.geo_state.specs.Trail.{IsSmallEnd}
 use Rattle.geo_state.proofs.Numbers.{kept64}
 use Rattle.geo_state.proofs.Shapes.{lo_long}
 use Rattle.plain_propagate.specs.Points.{IsSmallRegion}
@@ -50,7 +50,7 @@ loop-v-preserved g t c =
     let b = region_of c.args.b.now in
     let k : c.args.d < length b.lo = omega (arith, c.requires.lows, c.requires.dimension, c.if-d.false) in
     let dimension : dims c.args.s.now c.args.o.0 ≡ g.row.K = lo_long g.row.K c.args.s.now c.args.o.0 c.objects-objects.ensures.shape c.requires.object in
-    let near : IsSmallNumber (to_z w64 c.loop-v.v-bits) = (omega (arith, ints, c.loop-v.invariant.from, (c.requires.small c.args.d).0.0), omega (arith, ints, c.loop-v.invariant.to, c.get-last.ensures, (c.requires.small c.args.d).1.1)) in
+    let near : IsSmallEnd (to_z w64 c.loop-v.v-bits) = (omega (arith, ints, c.loop-v.invariant.from, (c.requires.small c.args.d).0.0), omega (arith, ints, c.loop-v.invariant.to, c.get-last.ensures, (c.requires.small c.args.d).1.1)) in
     record {
       from = omega (arith, ints, c.loop-v.invariant.from);
       to = omega (arith, ints, c.loop-v.invariant.to);

@@ -9,7 +9,7 @@ use Rattle.geo_conditions.specs.Reach.{Region, reach, has, low, high}
 use Rattle.geo_conditions.specs.Regions.{region_of}
 use Rattle.geo_conditions.specs.Supported.{HasNoPoint}
 use Rattle.geo_state.proofs.Numbers.{kept64}
-use Rattle.geo_state.specs.Trail.{IsSmallNumber}
+use Rattle.geo_state.specs.Trail.{IsSmallEnd}
 use Rattle.plain_propagate.specs.Points.{IsSmallRegion}
 use Rattle.plain_propagate.proofs.Recorded.{from_on, from_on_same, high_none, lower_led, small_region, small_lo}
 use Rattle.derivation.proofs.Continuing.{growth_on, growth_failed}
@@ -23,7 +23,7 @@ record_places-requires g c =
     (ap (λ (p : Point g.row.K). p.coordinates) c.new-taken.ensures.lo ∙ c.with.ensures.whole) (ap (λ (p : Point g.row.K). p.coordinates) c.new-taken.ensures.hi) in
     let none : (n : ℕ) → has c.args.s.now c.args.o.0 n ≡ true → HasNoPoint c.args.cs.now c.args.s.now c.args.o.0 n (region_of c.new-taken.result) = high_none c.args.cs.now c.args.s.now c.args.o.0 c.args.d (region_of c.new-taken.result) v at part c.requires.lacks in
     let region : IsSmallRegion (region_of c.region-region.result) = small_region c.args.s.now c.args.o.0 _ c.requires.small c.region-region.ensures.value in
-    let number : IsSmallNumber v = subst IsSmallNumber (sym at) (c.requires.small c.args.o.0 c.args.d).1 in
+    let number : IsSmallEnd v = subst IsSmallEnd (sym at) (c.requires.small c.args.o.0 c.args.d).1 in
     let small : IsSmallRegion (region_of c.new-taken.result) = small_lo (region_of c.region-region.result) (region_of c.new-taken.result) c.args.d v number (ap (λ (p : Point g.row.K). p.coordinates) c.new-taken.ensures.lo ∙ c.with.ensures.whole) (ap (λ (p : Point g.row.K). p.coordinates) c.new-taken.ensures.hi) region in
     search rules
 

@@ -9,7 +9,7 @@ use Rattle.geo_conditions.specs.Reach.{Region, reach, has, low, high}
 use Rattle.geo_conditions.specs.Regions.{region_of}
 use Rattle.geo_conditions.specs.Supported.{HasNoPoint}
 use Rattle.geo_state.proofs.Numbers.{kept64}
-use Rattle.geo_state.specs.Trail.{IsSmallNumber}
+use Rattle.geo_state.specs.Trail.{IsSmallEnd}
 use Rattle.plain_propagate.specs.Points.{IsSmallRegion}
 use Rattle.plain_propagate.proofs.Recorded.{part_to, part_to_same, low_none, raise_led, small_region, small_hi}
 use Rattle.derivation.proofs.Continuing.{growth_on, growth_failed}
@@ -26,7 +26,7 @@ record_places-requires g c =
     let same = ap (λ (x : Region). length x.lo) (sym c.region-region.ensures.value) ∙ l ∙ sym h ∙ ap (λ (x : Region). length x.hi) c.region-region.ensures.value in
     let none : (n : ℕ) → has c.args.s.now c.args.o.0 n ≡ true → HasNoPoint c.args.cs.now c.args.s.now c.args.o.0 n (region_of c.new-taken.result) = low_none c.args.cs.now c.args.s.now c.args.o.0 c.args.d (region_of c.new-taken.result) v same at part c.requires.lacks in
     let region : IsSmallRegion (region_of c.region-region.result) = small_region c.args.s.now c.args.o.0 _ c.requires.small c.region-region.ensures.value in
-    let number : IsSmallNumber v = subst IsSmallNumber (sym at) (c.requires.small c.args.o.0 c.args.d).0 in
+    let number : IsSmallEnd v = subst IsSmallEnd (sym at) (c.requires.small c.args.o.0 c.args.d).0 in
     let small : IsSmallRegion (region_of c.new-taken.result) = small_hi (region_of c.region-region.result) (region_of c.new-taken.result) c.args.d v number (ap (λ (p : Point g.row.K). p.coordinates) c.new-taken.ensures.lo) (ap (λ (p : Point g.row.K). p.coordinates) c.new-taken.ensures.hi ∙ c.with.ensures.whole) region in
     search rules
 

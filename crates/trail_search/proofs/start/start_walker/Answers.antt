@@ -4,7 +4,7 @@ use Rattle.std.proofs.lemmas.List.{length-map}
 use Rattle.geo_conditions.specs.Walk.{Variable as Seen, AreOf, values}
 use Rattle.std.specs.Option.{option_map, option_copied}
 use Rattle.geo_conditions.proofs.Orders.{order_are_of}
-use Rattle.geo_state.specs.Trail.{IsSmall}
+use Rattle.geo_state.specs.Trail.{HasSmallIntervals}
 use Rattle.trail_search.specs.Cursor.{HasDimension}
 use Rattle.trail_search.specs.Variables.{variable_of}
 use Rattle.trail_search.proofs.Starting.{order_few, order_have, started_well}
@@ -24,7 +24,7 @@ start-requires g c =
     let f = order_few g.row.K S o c.objects-objects.ensures.shape c.requires.k c.requires.order in
     let n = length-map c.in_ok-variables.variables.items variable_of in
     let m = ap length (c.in_ok-variables.ensures) in
-    (omega arith, (omega arith, (c.requires.k, (omega (arith, c.len-2.ensures, f, n, m), subst IsSmall (sym (c.in_ok-copy.ensures)) c.requires.small))))
+    (omega arith, (omega arith, (c.requires.k, (omega (arith, c.len-2.ensures, f, n, m), subst HasSmallIntervals (sym (c.in_ok-copy.ensures)) c.requires.small))))
 
 pub returns-clause-well : goal.returns-clause-well
 returns-clause-well g c =

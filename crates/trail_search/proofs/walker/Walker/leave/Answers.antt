@@ -2,7 +2,7 @@ use Rattle.std.proofs.Common.{false, ℕ, ◌≡◌, ◌<◌, ◌++◌, ◌∷�
 use Rattle.std.proofs.lemmas.Bool.{false≢true}
 use Rattle.geo_conditions.specs.Reach.{State}
 use Rattle.geo_conditions.specs.Walk.{object_of}
-use Rattle.geo_state.specs.Trail.{IsSmallNumber}
+use Rattle.geo_state.specs.Trail.{IsSmallEnd}
 use Rattle.geo_state.proofs.Numbers.{kept64, small_kept}
 use Rattle.trail_search.specs.Cursor.{Narrows, IsFrom, HasAfter, after}
 use Rattle.trail_search.specs.Walker.{Position, token_of}
@@ -35,7 +35,7 @@ after-requires g c =
     let r : p.trail.restores ≡ t.restores ++ t.state ∷ [] = sym (ap (λ (q : Position). q.trail.restores) c.self.view_is) ∙ c.undo.ensures.restored in
     let l : LeftAt g.row.K p t x u = left_at g.row.K p t c.self.inside.variables.items c.self.inside.values.items c.depth-depth.result c.index-x.result.now u c.requires.well r
     (ap (λ (q : Position). q.variables) c.self.view_is) (ap (λ (q : Position). q.values) c.self.view_is) c.depth-depth.ensures.value c.index-x.ensures c.index-u.ensures in
-    record { small = subst IsSmallNumber (sym (small_kept u l.small)) l.small }
+    record { small = subst IsSmallEnd (sym (small_kept u l.small)) l.small }
 
 pub bound-requires : goal.bound-requires
 bound-requires g c =
