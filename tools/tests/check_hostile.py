@@ -108,6 +108,7 @@ def cases(setting: Setting, folder: Path) -> Cases:
         ("two million nodes, first in first", ["check"], FALSE + nested(2**20, True) + "qed\n", "yes\n", 0),
         ("two million nodes, second in second", ["check"], FALSE + nested(2**20, False) + "qed\n", "yes\n", 0),
         ("a million cuts in a cover", ["check"], FALSE + "drop a s " + "cut 1 9 " * 10**6 + "by 1 " * (10**6 + 1) + "dead 1 qed\n", "yes\n", 0),
+        ("a word that is no text", ["first", "\udcff"], TOUCHING, "bad words\n", 4),
         ("sixty-three levels of brackets", ["show"], f"geost 1 dims 1 rule r : {'[' * 64}true{']' * 64} ; end", "geost 1 dims 1\nrule r : true ;\nend\n", 0),
     ]
     for name, words, text, printed, status in tests:
