@@ -12,7 +12,7 @@ abbrev pub found : List (List ℕ) → List ℕ → Option ℕ
 found names n = position (bytes_eq n) names
 
 pub record AreTables (p : ProblemData) (t : Tables) : Type 0 where
-  pub objects : (n : List ℕ) → found t.objects n ≡ object_position p n
-  pub shapes : (n : List ℕ) → found t.shapes n ≡ shape_position p n
-  pub macros : (n : List ℕ) → found t.macros n ≡ macro_position p n
-  pub attributes : (n : List ℕ) → list_any (bytes_eq n) t.attributes ≡ is_attribute p n
+  pub objects : (n : List ℕ) → found t.objects.value n ≡ object_position p n
+  pub shapes : (n : List ℕ) → found t.shapes.value n ≡ shape_position p n
+  pub macros : (n : List ℕ) → found t.macros.value n ≡ macro_position p n
+  pub attributes : (n : List ℕ) → list_any (bytes_eq n) t.attributes.value ≡ is_attribute p n

@@ -14,10 +14,10 @@ use std::alloc::{AllocError, Global};
 /// The names of a problem's objects, shapes and macros, each in the order of the problem's list, and of all attributes.
 #[derive(Drop)]
 pub struct Tables<'a> {
-    pub objects: SeenNames<'a>,
-    pub shapes: SeenNames<'a>,
-    pub macros: SeenNames<'a>,
-    pub attributes: SeenNames<'a>,
+    pub objects: Box<SeenNames<'a>>,
+    pub shapes: Box<SeenNames<'a>>,
+    pub macros: Box<SeenNames<'a>>,
+    pub attributes: Box<SeenNames<'a>>,
 }
 
 // A part of a problem with a name of its own.
@@ -60,14 +60,14 @@ pub fn position_of(names: &SeenNames<'_>, name: &[u8]) -> Option<usize>
 }
 
 // The names of the items.
-fn names_of<'a, T: HasName>(alloc: Global, items: &'a [T]) -> Result<SeenNames<'a>, AllocError>
-    ensures { IfOk result (λ names. names ≡ met (map T.own_name items.now)) }
+fn names_of<'a, T: HasName>(alloc: Global, items: &'a [T]) -> Result<Box<SeenNames<'a>>, AllocError>
+    ensures { IfOk result (λ names. names.value ≡ met (map T.own_name items.now)) }
 {
     let mut names = SeenNames::new(alloc);
     for item in items {
         let _is_new = names.meet(item.own_name())?;
     }
-    Ok(names)
+    Ok(Box::new(alloc, names)?)
 }
 
 // Meets the names of an object's attributes.
@@ -83,15 +83,18 @@ fn add_attributes<'a>(names: &mut SeenNames<'a>, object: &'a ObjectDef) -> Resul
 }
 
 // The names of all attributes.
-fn attribute_names<'a>(alloc: Global, objects: &'a [ObjectDef]) -> Result<SeenNames<'a>, AllocError>
-    ensures { IfOk result (λ names. (n : List ℕ) → list_any (bytes_eq n) names
+fn attribute_names<'a>(
+    alloc: Global,
+    objects: &'a [ObjectDef],
+) -> Result<Box<SeenNames<'a>>, AllocError>
+    ensures { IfOk result (λ names. (n : List ℕ) → list_any (bytes_eq n) names.value
         ≡ list_any (λ o. lists_attribute o n) objects.now) }
 {
     let mut names = SeenNames::new(alloc);
     for object in objects {
         add_attributes(&mut names, object)?;
     }
-    Ok(names)
+    Ok(Box::new(alloc, names)?)
 }
 
 /// The tables of a problem.

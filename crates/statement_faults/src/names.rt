@@ -29,8 +29,8 @@ fn past_limit<T: Named>(most: usize, items: &[T]) -> Option<Fault>
 pub fn met_names<'a, T: Named>(
     alloc: Global,
     items: &'a [T],
-) -> Result<(SeenNames<'a>, Option<Fault>), AllocError>
-    ensures names { IfOk result (λ r. r.0 ≡ met (map text_of (map T.name_of items.now))) }
+) -> Result<(Box<SeenNames<'a>>, Option<Fault>), AllocError>
+    ensures names { IfOk result (λ r. r.0.value ≡ met (map text_of (map T.name_of items.now))) }
     ensures fault { IfOk result (λ r. IsLeast (Repeated (map T.name_of items.now)) r.1) }
 {
     let mut seen = SeenNames::new(alloc);
@@ -41,7 +41,7 @@ pub fn met_names<'a, T: Named>(
         let here = fault_if(!is_new, name.place, FaultWord::Twice);
         found = earlier(found, here);
     }
-    Ok((seen, found))
+    Ok((Box::new(alloc, seen)?, found))
 }
 
 /// The first name that is past the limit or repeated.

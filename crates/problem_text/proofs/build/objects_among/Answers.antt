@@ -10,6 +10,6 @@ use Rattle.problem_text.proofs.build.objects_among.Goals as goal
 
 pub returns : goal.returns
 returns c =
-    let e : c.in_ok-names.names ≡ shape_names (map shape_view c.args.shapes.now) =
-    c.in_ok-names.ensures.names ∙ ap (λ (ns : List PlacedName). met (map text_of ns)) (sym (map_twice shape_name shape_view c.args.shapes.now)) ∙ c.requires.differ in
+    let e : c.deref.result.now ≡ shape_names (map shape_view c.args.shapes.now) =
+    c.deref.ensures ∙ c.in_ok-names.ensures.names ∙ ap (λ (ns : List PlacedName). met (map text_of ns)) (sym (map_twice shape_name shape_view c.args.shapes.now)) ∙ c.requires.differ in
     subst (λ (ns : List (List ℕ)). IfOk c.build_objects.result (λ v. v.items ≡ map (object_of ns) (map object_view c.args.objects.items))) e c.build_objects.ensures

@@ -10,6 +10,6 @@ use Rattle.problem_text.proofs.build.order_among.Goals as goal
 
 pub returns : goal.returns
 returns c =
-    let e : c.in_ok-names.names ≡ object_names (map object_view c.args.objects.now) =
-    c.in_ok-names.ensures.names ∙ ap (λ (ns : List PlacedName). met (map text_of ns)) (sym (map_twice object_name object_view c.args.objects.now)) ∙ c.requires.differ in
+    let e : c.deref.result.now ≡ object_names (map object_view c.args.objects.now) =
+    c.deref.ensures ∙ c.in_ok-names.ensures.names ∙ ap (λ (ns : List PlacedName). met (map text_of ns)) (sym (map_twice object_name object_view c.args.objects.now)) ∙ c.requires.differ in
     subst (λ (ns : List (List ℕ)). IfOk c.build_order.result (λ v. v.items ≡ order_of ns (map order_view c.args.orders.now))) e c.build_order.ensures

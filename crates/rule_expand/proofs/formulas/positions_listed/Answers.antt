@@ -1,4 +1,4 @@
-use Rattle.std.proofs.Common.{◌∙◌, ap, sym, [], ◌∷◌, ◌++◌, take}
+use Rattle.std.proofs.Common.{ℕ, List, ◌∙◌, ap, sym, [], ◌∷◌, ◌++◌, take}
 use Rattle.std.specs.List.{cons_option}
 use Rattle.std.proofs.lemmas.List.{take_more}
 use Rattle.std.proofs.lemmas.List.Elements.{filter_map-append}
@@ -13,6 +13,6 @@ loop-name-preserved c =
     let front = take c.loop-name.name-index c.args.names.now in
     c.in_ok-add_found.ensures
     ∙ ap (λ xs. xs ++ cons_option c.position_of.result []) c.loop-name.invariant
-    ∙ ap (λ o. listed_objects p front ++ cons_option o []) (c.position_of.ensures ∙ ap (found c.args.source.now.names.objects) c.as_bytes.ensures ∙ c.requires.names.objects c.name-item.result.name)
+    ∙ ap (λ o. listed_objects p front ++ cons_option o []) (c.position_of.ensures ∙ ap (found c.deref.result.now) c.as_bytes.ensures ∙ ap (λ (ns : List (List ℕ)). found ns c.name-item.result.name) c.deref.ensures ∙ c.requires.names.objects c.name-item.result.name)
     ∙ sym (filter_map-append (λ n. object_position p n.name) front (c.name-item.result ∷ []))
     ∙ ap (listed_objects p) (ap (λ x. front ++ x ∷ []) c.name-item.is ∙ sym (take_more c.args.names.now c.loop-name.name-index c.name-item.result c.loop-name-test.true))

@@ -1,4 +1,4 @@
-use Rattle.std.proofs.Common.{false, refl, ap, arith}
+use Rattle.std.proofs.Common.{false, refl, ap, ◌∙◌, arith}
 use Rattle.std.specs.List.{list_any}
 use Rattle.std.specs.Str.{bytes_eq}
 use Rattle.rule_names.specs.Sight.{lists_attribute}
@@ -13,4 +13,4 @@ loop-object-preserved c = λ n.
     any-step (λ o. lists_attribute o n) c.args.objects.now c.loop-object.object-index c.object-item.result false _ _ _ c.loop-object-test.true c.object-item.is (c.loop-object.invariant n) refl (c.in_ok-add_attributes.ensures n)
 
 pub returns : goal.returns
-returns c = λ n. any-all (λ o. lists_attribute o n) c.args.objects.now c.loop-object.object-index _ false (omega arith) (c.loop-object.invariant n)
+returns c = λ n. ap (list_any (bytes_eq n)) c.in_ok-new.ensures.ok ∙ any-all (λ o. lists_attribute o n) c.args.objects.now c.loop-object.object-index _ false (omega arith) (c.loop-object.invariant n)

@@ -16,4 +16,4 @@ loop-item-preserved g c =
     ∙ sym (met_push before name) ∙ ap met (sym (push_view g.T.HasName.own_name c.args.items.now c.loop-item.item-index c.item-item.result c.loop-item-test.true c.item-item.is))
 
 pub returns : goal.returns
-returns g c = c.loop-item.invariant ∙ ap met (take_view g.T.HasName.own_name c.args.items.now c.loop-item.item-index c.loop-item-test.false)
+returns g c = c.in_ok-new.ensures.ok ∙ c.loop-item.invariant ∙ ap met (take_view g.T.HasName.own_name c.args.items.now c.loop-item.item-index c.loop-item-test.false)

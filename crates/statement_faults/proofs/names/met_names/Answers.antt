@@ -31,6 +31,6 @@ loop-item-preserved g c =
 
 pub returns : goal.returns
 returns g c = record {
-  names = c.loop-item.invariant.names ∙ ap (λ (ns : List PlacedName). met (map text_of ns)) (take_view g.T.Named.name_of c.args.items.now c.loop-item.item-index c.loop-item-test.false);
+  names = c.in_ok-new.ensures.ok ∙ c.loop-item.invariant.names ∙ ap (λ (ns : List PlacedName). met (map text_of ns)) (take_view g.T.Named.name_of c.args.items.now c.loop-item.item-index c.loop-item-test.false);
   fault = all_view g.T.Named.name_of c.args.items.now c.loop-item.item-index (λ before n f. Contains (map text_of before) n.name × (f ≡ fault n.place words.Twice)) _ c.loop-item-test.false c.loop-item.invariant.first;
 }

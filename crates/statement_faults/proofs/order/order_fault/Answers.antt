@@ -14,7 +14,7 @@ pub returns : goal.returns
 returns c = λ before e.
     let names : List PlacedName = c.args.order.now.names.items in
     let same = map-id c.as_slice-names.result.now ∙ c.as_slice-names.ensures.value in
-    let listed = c.in_ok-listed.ensures.names ∙ ap (λ (ns : List PlacedName). met (map text_of ns)) same in
+    let listed = c.deref.ensures ∙ c.in_ok-listed.ensures.names ∙ ap (λ (ns : List PlacedName). met (map text_of ns)) same in
     let made : List (List ℕ) = c.args.made.now in
     joined (SecondOrder before (order_view c.args.order.now)) (λ f. Repeated names f ⊎ NotMade made names f ⊎ Incomplete made (order_view c.args.order.now) f) _ _ _ c.earlier.ensures
     (tested (1 ≤ length before) _ _ _ _ _ c.fault_if-second.ensures refl (at_least 1 c.args.index _ e) (at_least_back 1 c.args.index _ e))
