@@ -1,5 +1,5 @@
 -- The children of a condition as a list.
-use Rattle.std.proofs.Common.{◌≡◌, ℕ, suc, ◌+◌, ◌-◌, ◌<◌, ◌≤◌, List, [], ◌∷◌, length, get_or, drop, refl, sym, ap, ◌∙◌, subst, below_more}
+use Rattle.std.proofs.Common.{◌≡◌, ℕ, zero, suc, ◌+◌, ◌-◌, ◌<◌, ◌≤◌, List, [], ◌∷◌, length, get_or, drop, refl, sym, ap, ◌∙◌, subst, below_more}
 use Rattle.std.specs.List.{All}
 use Rattle.geo_conditions.specs.declared.cond.Cond.{Row_of-Cond, end_of-Cond, more_of-Cond, items-the_row-Cond, items_hidden-the_row-Cond-0, Cond, AtLeast, AtLeast'}
 use Rattle.geo_conditions.specs.declared.cond.Conds.{Conds}
@@ -88,6 +88,43 @@ one_less S xs i sure left x h v w e =
     let none : count (possible (get_or xs i x) S) ≡ 0 = ap count e in
     let rest : many_possible S (drop (suc i) xs) ≤ length (drop (suc i) xs) = many_most S (drop (suc i) xs) in
     let size : length (drop (suc i) xs) ≡ length xs - suc i = length-drop (suc i) xs in omega arith
+
+-- ---- the conditions behind the first i
+
+-- they have at most as many as all have
+pub many_behind : (S : State) (cs : List Cond) (i : ℕ) → many_possible S (drop i cs) ≤ many_possible S cs
+many_behind S [] i = let none : many_possible S (drop i []) ≡ 0 = ap (many_possible S) (drop_all i [] (omega arith)) in omega arith
+many_behind S (c ∷ cs) zero = omega arith
+many_behind S (c ∷ cs) (suc i) = let r = many_behind S cs i in omega arith
+
+-- and at most i fewer
+pub many_before : (S : State) (cs : List Cond) (i : ℕ) → many_possible S cs ≤ i + many_possible S (drop i cs)
+many_before S [] i = omega arith
+many_before S (c ∷ cs) zero = omega arith
+many_before S (c ∷ cs) (suc i) = let r = many_before S cs i in let k = count_most (possible c S) in omega arith
+
+-- where the first one is possible, at least one is
+pub first_enough : (S : State) (xs : List Cond) (x : Cond) → 0 < length xs → possible (get_or xs 0 x) S ≡ true → 1 ≤ many_possible S xs
+first_enough S xs x h e =
+    let step : many_possible S (drop 0 xs) ≡ count (possible (get_or xs 0 x) S) + many_possible S (drop (suc 0) xs) = many_step S xs 0 x h in
+    let all = many_behind S xs 0 in
+    let one : count (possible (get_or xs 0 x) S) ≡ 1 = ap count e in omega (arith, step, all, one)
+
+-- one more that is possible, before them
+pub more_behind : (S : State) (xs : List Cond) (i sure : ℕ) (x : Cond) → 0 < i → i ≤ length xs → sure ≡ many_possible S (drop i xs) → possible (get_or xs (i - 1) x) S ≡ true → sure + 1 ≡ many_possible S (drop (i - 1) xs)
+more_behind S xs i sure x some h v e =
+    let next : i ≡ suc (i - 1) = omega arith in
+    let step : many_possible S (drop (i - 1) xs) ≡ count (possible (get_or xs (i - 1) x) S) + many_possible S (drop (suc (i - 1)) xs) = many_step S xs (i - 1) x (omega arith) in
+    let was : sure ≡ many_possible S (drop (suc (i - 1)) xs) = subst (λ (k : ℕ). sure ≡ many_possible S (drop k xs)) next v in
+    let one : count (possible (get_or xs (i - 1) x) S) ≡ 1 = ap count e in omega (arith, step, was, one)
+
+-- one more that is not possible, before them
+pub less_behind : (S : State) (xs : List Cond) (i sure : ℕ) (x : Cond) → 0 < i → i ≤ length xs → sure ≡ many_possible S (drop i xs) → possible (get_or xs (i - 1) x) S ≡ false → sure ≡ many_possible S (drop (i - 1) xs)
+less_behind S xs i sure x some h v e =
+    let next : i ≡ suc (i - 1) = omega arith in
+    let step : many_possible S (drop (i - 1) xs) ≡ count (possible (get_or xs (i - 1) x) S) + many_possible S (drop (suc (i - 1)) xs) = many_step S xs (i - 1) x (omega arith) in
+    let was : sure ≡ many_possible S (drop (suc (i - 1)) xs) = subst (λ (k : ℕ). sure ≡ many_possible S (drop k xs)) next v in
+    let none : count (possible (get_or xs (i - 1) x) S) ≡ 0 = ap count e in omega (arith, step, was, none)
 
 fit_back : (n : _) (row : Row_of-Cond n) (S : State) → All (λ c. FitsIn c S) (items-the_row-Cond n row) → AllFitIn row S
 fit_back n end_of-Cond S h = tt

@@ -1,4 +1,4 @@
-ghost use Rattle.std.specs.Prelude.{◌≡◌, ◌<◌, ◌≤◌, length, not, ◌*ℤ◌};
+ghost use Rattle.std.specs.Prelude.{◌≡◌, ◌<◌, ◌≤◌, length, not, true, IsTrue, ◌*ℤ◌};
 ghost use Rattle.std.specs.List.{All};
 ghost use Rattle.geo_conditions.specs.Conditions.{possible, least_value, least_term, FitsIn};
 ghost use Rattle.geo_conditions.specs.Form.{IsBounded};
@@ -7,11 +7,14 @@ ghost use Rattle.geo_conditions.specs.Regions.{region_of};
 ghost use Rattle.geo_conditions.specs.Puts.{put_of};
 ghost use Rattle.geo_conditions.specs.Sums.{InSum};
 
-use super::cond::Cond;
+use super::cond::{Cond, Conds};
 use super::form::{Form, Term};
 use super::object::ObjId;
 use super::state::State;
 use geo_base::{KBox, MAX_DIMS};
+
+/// From so many parts of a condition on, the last one is asked first.
+const MANY_PARTS: usize = 8;
 
 /// An object put at a place in a box.
 #[derive(Clone, Copy)]
@@ -102,6 +105,88 @@ fn least_value<const K: usize>(f: &Form, s: &State<K>, put: &Option<Put<K>>) -> 
     sum
 }
 
+// Whether one of the conditions is enough, and the first one says that an object has another shape than some, which is possible.
+// Most conditions on an object of several shapes begin so.
+#[inline(always)]
+fn is_of_other_shape<const K: usize>(
+    n: i64,
+    children: &Conds,
+    s: &State<K>,
+    put: &Option<Put<K>>,
+) -> bool
+    requires k { K ≤ MAX_DIMS }
+    requires fits { FitsIn (Cond.AtLeast n children.now) s.now }
+    ensures { IsTrue result
+        → possible (Cond.AtLeast n children.now) (put_on (put_of put.now) s.now) ≡ true }
+{
+    let parts = children.as_slice();
+    if n > 1 || parts.is_empty() {
+        return false;
+    }
+    match &parts[0] {
+        Cond::NotShape(o, place) => !is_only_in(s, put, *o, *place),
+        _ => false,
+    }
+}
+
+// Whether enough of the conditions are possible.
+#[cycle(possible)]
+fn are_enough<const K: usize>(n: i64, children: &Conds, s: &State<K>, put: &Option<Put<K>>) -> bool
+    requires k { K ≤ MAX_DIMS }
+    requires fits { FitsIn (Cond.AtLeast n children.now) s.now }
+    ensures { result ≡ possible (Cond.AtLeast n children.now) (put_on (put_of put.now) s.now) }
+{
+    let least = i128::from(n);
+    let mut sure: usize = 0;
+    let mut open = children.len();
+    for child in children.as_slice() {
+        if possible_in(child, s, put) {
+            sure += 1;
+            if least <= sure as i128 {
+                return true;
+            }
+        } else {
+            open -= 1;
+            if (open as i128) < least {
+                return false;
+            }
+        }
+    }
+    least <= sure as i128
+}
+
+// The same of many conditions, from the last one on. Objects are fixed in their order for the most part, so that what is said of the
+// last ones is possible most often.
+#[cycle(possible)]
+fn are_enough_of_many<const K: usize>(
+    n: i64,
+    children: &Conds,
+    s: &State<K>,
+    put: &Option<Put<K>>,
+) -> bool
+    requires k { K ≤ MAX_DIMS }
+    requires fits { FitsIn (Cond.AtLeast n children.now) s.now }
+    ensures { result ≡ possible (Cond.AtLeast n children.now) (put_on (put_of put.now) s.now) }
+{
+    let least = i128::from(n);
+    let parts = children.as_slice();
+    let mut sure: usize = 0;
+    for i in (0..parts.len()).rev() {
+        if possible_in(&parts[i], s, put) {
+            sure += 1;
+            if least <= sure as i128 {
+                return true;
+            }
+        } else if ((i + sure) as i128) < least {
+            return false;
+        }
+    }
+    least <= sure as i128
+}
+
+// Whether a condition is possible. It is inlined where parts are asked, so that a literal takes no call.
+#[cycle(possible)]
+#[inline(always)]
 fn possible_in<const K: usize>(c: &Cond, s: &State<K>, put: &Option<Put<K>>) -> bool
     requires k { K ≤ MAX_DIMS }
     requires fits { FitsIn c.now s.now }
@@ -112,23 +197,13 @@ fn possible_in<const K: usize>(c: &Cond, s: &State<K>, put: &Option<Put<K>>) -> 
         Cond::Shape(o, place) => has_in(s, put, *o, *place),
         Cond::NotShape(o, place) => !is_only_in(s, put, *o, *place),
         Cond::AtLeast(n, children) => {
-            let least = i128::from(*n);
-            let mut sure: usize = 0;
-            let mut open = children.len();
-            for child in children.as_slice() {
-                if possible_in(child, s, put) {
-                    sure += 1;
-                    if least <= sure as i128 {
-                        return true;
-                    }
-                } else {
-                    open -= 1;
-                    if (open as i128) < least {
-                        return false;
-                    }
-                }
+            if is_of_other_shape(*n, children, s, put) {
+                true
+            } else if children.len() < MANY_PARTS {
+                are_enough(*n, children, s, put)
+            } else {
+                are_enough_of_many(*n, children, s, put)
             }
-            least <= sure as i128
         }
     }
 }

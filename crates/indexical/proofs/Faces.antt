@@ -1,17 +1,21 @@
 -- What the condition of two boxes asks of places before it can be in the way of one of them.
-use Rattle.std.proofs.Common.{◌≡◌, ◌≢◌, ◌⊎◌, ◌==◌, ℕ, ◌<◌, ◌^◌, true, length, sym, ◌∙◌, subst, inl, inr, Some, Option, eqb-true, arith}
+use Rattle.std.proofs.Common.{◌≡◌, ◌≢◌, ◌⊎◌, ◌==◌, ℕ, ◌+◌, ◌<◌, ◌^◌, true, not, List, length, get_or, sym, ap, ◌∙◌, subst, inl, inr, None, Some, Option, ℤ, pos, ◌≤ℤ◌, eqb-true, arith}
 use Rattle.std.specs.Prelude.{IfSome}
-use Rattle.std.proofs.lemmas.Bool.{false≢true, or_cases}
-use Rattle.geo_conditions.specs.declared.cond.Cond.{Cond}
+use Rattle.std.proofs.lemmas.Bool.{false≢true, false_from_ne_true, or_cases}
+use Rattle.geo_conditions.specs.declared.cond.Cond.{Cond, NotShape, AtLeast}
+use Rattle.geo_conditions.specs.declared.cond.Conds.{Conds}
 use Rattle.geo_conditions.specs.declared.object.ObjId.{ObjId}
-use Rattle.geo_conditions.specs.Reach.{State, is_only, only, reach, just, with_at}
+use Rattle.geo_conditions.specs.Reach.{State, Reach, is_only, only, reach, just, with_at}
 use Rattle.geo_conditions.specs.Conditions.{possible, FitsIn}
+use Rattle.geo_conditions.proofs.Points.{reach_same}
 use Rattle.geo_conditions.proofs.Sets.{only_out, only_same}
 use Rattle.indexical.specs.declared.placed.PlacedBox.{PlacedBox}
 use Rattle.indexical.specs.declared.facing.Facing.{Facing}
 use Rattle.indexical.specs.Apart.{apart_parts, MustOverlap, SaysApart}
 use Rattle.indexical.specs.Faces.{SparesElsewhere, SparesUnless, IsBeside, Faces}
+use Rattle.indexical.specs.Free.{Spares}
 use Rattle.indexical.specs.Names.{names}
+use Rattle.indexical.proofs.Unnamed.{spare_more, spare_enough}
 use Rattle.indexical.proofs.PutBoxes.{other_way, possible_says, stands_out, shape_out}
 
 -- What a condition says of two boxes, the one of the object first.
@@ -72,3 +76,21 @@ module _ {K : ℕ} (a b : PlacedBox K) (short : length (apart_parts a b) < 2 ^ 6
 
   pub faces_second : b.object.0 ≡ o → (f.place ≢ 0 → (b.leaf ≡ true) × (b.place ≡ f.place)) → f.other ≡ Some a.object → (f.other_place ≢ 0 → (a.leaf ≡ true) × (a.place ≡ f.other_place)) → Faces c o f
   faces_second is own other other_place = subst (λ (v : ℕ). Faces c v f) is (faces b a c (second_beside a b short c says) (λ e. absurd (omega arith)) f own other other_place)
+
+-- ---- a part that says that the object has another place
+
+-- an object that is put at another place has not this one
+spares_other : (S : State) (o : ObjId) (s t : ℕ) → o.0 < length S → t ≢ s → Spares (NotShape o s) S o.0 t
+spares_other S o s t there other p =
+    ap (λ (r : Reach). not (is_only r.places s)) (reach_same S o.0 t (just p) there)
+    ∙ ap not (false_from_ne_true (is_only (only t) s) (λ k. other (sym (only_same t s (only_out (only t) s k).0))))
+
+-- where one part is enough, and one says so, the condition asks for that place
+pub faces_part : (c : Cond) (n : ℤ) (children : Conds) (xs : List Cond) (i : ℕ) (x : Cond) (o : ObjId) (s : ℕ) (f : Facing) → c ≡ AtLeast n children → xs ≡ children.items.items → n ≤ℤ pos 1 → i < length xs → get_or xs i x ≡ NotShape o s
+    → f.place ≡ s → f.other ≡ None → Faces c o.0 f
+faces_part c n children xs i x o s f is same one h part place other = record {
+  place = λ some S t fits there else_where.
+      let spared : Spares (get_or xs i x) S o.0 t = subst (λ (y : Cond). Spares y S o.0 t) (sym part) (spares_other S o s t there (λ e. else_where (e ∙ sym place))) in
+      spare_enough c n children xs S o.0 t (i + 1) 1 is same one (spare_more xs S o.0 t i 0 x h (λ p. omega arith) spared);
+  other = subst (λ (u : Option ObjId). IfSome u (λ v. IsBeside c o.0 v.0 f.other_place)) (sym other) tt;
+}

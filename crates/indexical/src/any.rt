@@ -11,7 +11,7 @@ ghost use Rattle.indexical.specs.Free.{LeavesFree, Spares, SparesAnywhere};
 ghost use Rattle.indexical.specs.Names.{IsFirstBefore, names};
 
 use super::apart::ApartIndexical;
-use super::facing::Facing;
+use super::facing::{Facing, facing_of_tree};
 use super::indexical::Indexical;
 use super::point::tree_possible_at;
 use super::spared::{is_named, tree_spares, tree_spares_anywhere};
@@ -88,7 +88,7 @@ impl<const K: usize> AnyIndexical<K> {
     }
 
     /// Whether the condition surely spares the object at any place: it is possible wherever the object
-    /// is put. It is told of conditions that ask for some of their parts, and is false for each other one.
+    /// is put. It is told of conditions that are not met by two boxes, and is false for each other one.
     pub fn surely_spares_anywhere(&self, s: &State<K>, o: ObjId) -> bool
         requires k { K ≤ MAX_DIMS }
         requires fits { FitsIn self.now.cond s.now }
@@ -100,14 +100,14 @@ impl<const K: usize> AnyIndexical<K> {
         }
     }
 
-    /// What the condition asks of places before it can be in the object's way. It is told of conditions that are met by two
-    /// boxes, one of them the object's.
+    /// What the condition asks of places before it can be in the object's way. Of conditions that are met by two boxes, one of
+    /// them the object's, it is told of both objects; of each other one, which place a part says that the object has not.
     pub fn facing(&self, o: ObjId) -> Facing
         ensures { Faces self.now.cond o.0 result }
     {
         match &self.boxes {
             Some(boxes) => boxes.facing(o),
-            None => Facing::unknown(),
+            None => facing_of_tree(&self.cond, o),
         }
     }
 

@@ -1,11 +1,12 @@
 //! What a condition asks of places before it can be in an object's way.
 
-ghost use Rattle.std.specs.Prelude.{◌≡◌, ◌≢◌, ℕ, Some, true};
+ghost use Rattle.std.specs.Prelude.{◌≡◌, ◌≢◌, ℕ, None, Some, true};
 ghost use Rattle.geo_conditions.specs.declared.cond.Cond.{Cond};
 ghost use Rattle.indexical.specs.Faces.{Faces};
 
 use super::placed::PlacedBox;
-use geo_conditions::ObjId;
+use super::two_boxes::spared_place;
+use geo_conditions::{Cond, ObjId};
 
 /// What a condition asks of places before it can be in an object's way. Places count from 1; 0 stands where none is asked.
 #[derive(Clone, Copy)]
@@ -23,11 +24,41 @@ impl Facing {
     pub fn unknown() -> Facing
         ensures { (c : Cond) (o : ℕ) → Faces c o result }
     {
+        Facing::at(0)
+    }
+
+    /// The object has to have that place, if it is not 0. Nothing else is known to be asked.
+    fn at(place: u8) -> Facing
+        ensures place { result.place ≡ place }
+        ensures other { result.other ≡ None }
+    {
         Facing {
-            place: 0,
+            place,
             other: None,
             other_place: 0,
         }
+    }
+}
+
+/// What a condition asks of places by its tree: where one of its parts is enough, and one says that the object has another place
+/// than some, the object has to have that one.
+pub fn facing_of_tree(c: &Cond, o: ObjId) -> Facing
+    ensures { Faces c.now o.0 result }
+{
+    let nothing = Facing::unknown();
+    match c {
+        Cond::AtLeast(n, children) => {
+            if *n > 1 {
+                return nothing;
+            }
+            for child in children.as_slice() {
+                if let Some(place) = spared_place(child, o) {
+                    return Facing::at(place);
+                }
+            }
+            nothing
+        }
+        _ => nothing,
     }
 }
 

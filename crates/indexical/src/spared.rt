@@ -61,7 +61,7 @@ fn spares_unnamed<const K: usize>(c: &Cond, s: &State<K>, o: ObjId) -> bool
 }
 
 /// Whether enough parts of the condition spare the object at that place: a literal on a shape that is possible then, a form that
-/// does not name the object and is possible.
+/// does not name the object and is possible. No further part is asked where too few are left.
 pub fn tree_spares<const K: usize>(c: &Cond, s: &State<K>, o: ObjId, place: u8) -> bool
     requires k { K ≤ MAX_DIMS }
     requires fits { FitsIn c.now s.now }
@@ -74,12 +74,19 @@ pub fn tree_spares<const K: usize>(c: &Cond, s: &State<K>, o: ObjId, place: u8) 
         Cond::NotShape(_, _) => shape_spares(c, s, o, place),
         Cond::AtLeast(n, children) => {
             let least = i128::from(*n);
+            let most = children.len() as i128 - least;
             let mut sparing: usize = 0;
+            let mut others: usize = 0;
             for child in children.as_slice() {
                 if tree_spares(child, s, o, place) {
                     sparing += 1;
                     if least <= sparing as i128 {
                         return true;
+                    }
+                } else {
+                    others += 1;
+                    if most < others as i128 {
+                        return false;
                     }
                 }
             }
@@ -88,8 +95,12 @@ pub fn tree_spares<const K: usize>(c: &Cond, s: &State<K>, o: ObjId, place: u8) 
     }
 }
 
-/// Whether enough parts of the condition do not name the object and are possible. It asks parts of the condition itself alone, and
-/// is false where it has none.
+/// From so many parts on a condition that asks for all of them is not asked whether it spares an object.
+const MANY_PARTS: usize = 8;
+
+/// Whether enough parts of the condition spare the object at any place: a literal or a form that does not name the object and is
+/// possible. No further part is asked where too few are left. A condition that asks for all of many parts is not gone into, since
+/// one of them names the object for the most part.
 pub fn tree_spares_anywhere<const K: usize>(c: &Cond, s: &State<K>, o: ObjId) -> bool
     requires k { K ≤ MAX_DIMS }
     requires fits { FitsIn c.now s.now }
@@ -98,17 +109,27 @@ pub fn tree_spares_anywhere<const K: usize>(c: &Cond, s: &State<K>, o: ObjId) ->
     match c {
         Cond::AtLeast(n, children) => {
             let least = i128::from(*n);
+            let most = children.len() as i128 - least;
+            if most == 0 && children.len() >= MANY_PARTS {
+                return false;
+            }
             let mut sparing: usize = 0;
+            let mut others: usize = 0;
             for child in children.as_slice() {
-                if spares_unnamed(child, s, o) {
+                if tree_spares_anywhere(child, s, o) {
                     sparing += 1;
                     if least <= sparing as i128 {
                         return true;
+                    }
+                } else {
+                    others += 1;
+                    if most < others as i128 {
+                        return false;
                     }
                 }
             }
             false
         }
-        _ => false,
+        _ => spares_unnamed(c, s, o),
     }
 }

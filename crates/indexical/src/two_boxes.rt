@@ -118,7 +118,7 @@ fn lengths_of<const K: usize>(parts: &[Cond], a: ObjId, b: ObjId) -> Option<(Poi
 }
 
 /// The place of a literal that the object has another shape, if it is one.
-fn spared_place(c: &Cond, o: ObjId) -> Option<u8>
+pub fn spared_place(c: &Cond, o: ObjId) -> Option<u8>
     ensures { IfSome result (λ p. c.now ≡ Cond.NotShape o p) }
 {
     match c {

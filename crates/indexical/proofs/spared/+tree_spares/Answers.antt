@@ -7,12 +7,13 @@ use Rattle.geo_conditions.proofs.Children.{fit_out}
 use Rattle.indexical.specs.Free.{Spares}
 use Rattle.indexical.proofs.Unnamed.{SpareAmong, spare_start, spare_skip, spare_more, spare_enough}
 use Rattle.indexical.proofs.spared.+tree_spares.Goals as goal
-use Rattle.indexical.proofs.spared.+tree_spares.Goals.{then-tree_spares+else-least-sparing, else-tree_spares}
+use Rattle.indexical.proofs.spared.+tree_spares.Goals.{then-tree_spares+else-least-sparing, else-tree_spares+else-most-others}
 
 pub loop-child-init : goal.loop-child-init
 loop-child-init g t c = record {
   among = spare_start c.as_slice-child-items.result.now c.args.s.now c.args.o.0 c.args.place;
   few = omega arith;
+  rest = omega arith;
   fits = subst (λ (ys : List Cond). All (λ e. FitsIn e c.args.s.now) ys) (sym c.as_slice-child-items.ensures) (fit_out c.in-AtLeast.n c.in-AtLeast.children c.args.s.now (subst (λ (e : Cond). FitsIn e c.args.s.now) c.in-AtLeast.is c.requires.fits));
 }
 
@@ -41,12 +42,16 @@ loop-child-preserved g t c =
         | then-tree_spares+else-least-sparing w ↦
             let one : Spares x S o s = c.tree_spares.ensures w.if-tree_spares.true in
             subst (λ (n : ℕ). SpareAmong xs S o s (i + 1) n) (sym w.sparing-is) (spare_more xs S o s i c.loop-child.sparing x c.loop-child-test.true c.loop-child.invariant.among (subst (λ (y : Cond). Spares y S o s) c.child-item.is one))
-        | else-tree_spares w ↦
+        | else-tree_spares+else-most-others w ↦
             subst (λ (n : ℕ). SpareAmong xs S o s (i + 1) n) (sym w.sparing-is) (spare_skip xs S o s i c.loop-child.sparing x c.loop-child-test.true c.loop-child.invariant.among)
       ];
       few = elim c.if-tree_spares.branch [
         | then-tree_spares+else-least-sparing w ↦ omega (arith, w.sparing-is, c.loop-child.invariant.few)
-        | else-tree_spares w ↦ omega (arith, w.sparing-is, c.loop-child.invariant.few)
+        | else-tree_spares+else-most-others w ↦ omega (arith, w.sparing-is, c.loop-child.invariant.few)
+      ];
+      rest = elim c.if-tree_spares.branch [
+        | then-tree_spares+else-least-sparing w ↦ omega (arith, w.others-is, c.loop-child.invariant.rest)
+        | else-tree_spares+else-most-others w ↦ omega (arith, w.others-is, c.loop-child.invariant.rest)
       ];
       fits = c.loop-child.invariant.fits;
     }

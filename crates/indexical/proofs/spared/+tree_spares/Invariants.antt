@@ -8,5 +8,6 @@ abbrev pub invariant-loop-child : goal.invariant-loop-child
 invariant-loop-child g l = record {
   among : SpareAmong l.child-items l.s l.o.0 l.place l.child-index l.sparing;
   few : l.sparing ≤ l.child-index;
+  rest : l.others ≤ l.child-index;
   fits : All (λ x. FitsIn x l.s) l.child-items;
 }

@@ -2,11 +2,12 @@ use Rattle.std.proofs.Common.{ℕ, ◌≤◌}
 use Rattle.std.specs.List.{All}
 use Rattle.geo_conditions.specs.Conditions.{FitsIn}
 use Rattle.indexical.proofs.Unnamed.{SpareAmong}
-use Rattle.indexical.proofs.spared.tree_spares_anywhere.Given as goal
+use Rattle.indexical.proofs.spared.+tree_spares_anywhere.Given as goal
 
 abbrev pub invariant-loop-child : goal.invariant-loop-child
 invariant-loop-child g l = record {
   among : (s : ℕ) → SpareAmong l.child-items l.s l.o.0 s l.child-index l.sparing;
   few : l.sparing ≤ l.child-index;
+  rest : l.others ≤ l.child-index;
   fits : All (λ x. FitsIn x l.s) l.child-items;
 }

@@ -6,45 +6,50 @@ use Rattle.geo_conditions.specs.Conditions.{FitsIn}
 use Rattle.geo_conditions.proofs.Children.{fit_out}
 use Rattle.indexical.specs.Free.{Spares}
 use Rattle.indexical.proofs.Unnamed.{SpareAmong, spare_start, spare_skip, spare_more, spare_enough}
-use Rattle.indexical.proofs.spared.tree_spares_anywhere.Goals as goal
-use Rattle.indexical.proofs.spared.tree_spares_anywhere.Goals.{then-spares_unnamed+else-least-sparing, else-spares_unnamed}
+use Rattle.indexical.proofs.spared.+tree_spares_anywhere.Goals as goal
+use Rattle.indexical.proofs.spared.+tree_spares_anywhere.Goals.{then-tree_spares_anywhere+else-least-sparing, else-tree_spares_anywhere+else-most-others}
 
 pub loop-child-init : goal.loop-child-init
-loop-child-init g c = record {
+loop-child-init g t c = record {
   among = λ s. spare_start c.as_slice-child-items.result.now c.args.s.now c.args.o.0 s;
   few = omega arith;
+  rest = omega arith;
   fits = subst (λ (ys : List Cond). All (λ e. FitsIn e c.args.s.now) ys) (sym c.as_slice-child-items.ensures) (fit_out c.in-AtLeast.n c.in-AtLeast.children c.args.s.now (subst (λ (e : Cond). FitsIn e c.args.s.now) c.in-AtLeast.is c.requires.fits));
 }
 
 pub returns-then-least-sparing : goal.returns-then-least-sparing
-returns-then-least-sparing g c = λ h s.
+returns-then-least-sparing g t c = λ h s.
     let xs = c.as_slice-child-items.result.now in
     let S = c.args.s.now in
     let o = c.args.o.0 in
     let i = c.loop-child.child-index in
     let x = c.child-item.result in
-    let one : Spares x S o s = c.spares_unnamed.ensures c.if-spares_unnamed.true s in
+    let one : Spares x S o s = c.tree_spares_anywhere.ensures c.if-tree_spares_anywhere.true s in
     let more = spare_more xs S o s i c.loop-child.sparing x c.loop-child-test.true (c.loop-child.invariant.among s) (subst (λ (y : Cond). Spares y S o s) c.child-item.is one) in
     spare_enough c.args.c.now c.in-AtLeast.n c.in-AtLeast.children xs S o s (i + 1) (c.loop-child.sparing + 1) c.in-AtLeast.is c.as_slice-child-items.ensures (omega (arith, ints, c.if-least-sparing.true, c.from-least.ensures)) more
 
 pub loop-child-preserved : goal.loop-child-preserved
-loop-child-preserved g c =
+loop-child-preserved g t c =
     let xs = c.as_slice-child-items.result.now in
     let S = c.args.s.now in
     let o = c.args.o.0 in
     let i = c.loop-child.child-index in
     let x = c.child-item.result in
     record {
-      among = λ s. elim c.if-spares_unnamed.branch [
-        | then-spares_unnamed+else-least-sparing w ↦
-            let one : Spares x S o s = c.spares_unnamed.ensures w.if-spares_unnamed.true s in
+      among = λ s. elim c.if-tree_spares_anywhere.branch [
+        | then-tree_spares_anywhere+else-least-sparing w ↦
+            let one : Spares x S o s = c.tree_spares_anywhere.ensures w.if-tree_spares_anywhere.true s in
             subst (λ (n : ℕ). SpareAmong xs S o s (i + 1) n) (sym w.sparing-is) (spare_more xs S o s i c.loop-child.sparing x c.loop-child-test.true (c.loop-child.invariant.among s) (subst (λ (y : Cond). Spares y S o s) c.child-item.is one))
-        | else-spares_unnamed w ↦
+        | else-tree_spares_anywhere+else-most-others w ↦
             subst (λ (n : ℕ). SpareAmong xs S o s (i + 1) n) (sym w.sparing-is) (spare_skip xs S o s i c.loop-child.sparing x c.loop-child-test.true (c.loop-child.invariant.among s))
       ];
-      few = elim c.if-spares_unnamed.branch [
-        | then-spares_unnamed+else-least-sparing w ↦ omega (arith, w.sparing-is, c.loop-child.invariant.few)
-        | else-spares_unnamed w ↦ omega (arith, w.sparing-is, c.loop-child.invariant.few)
+      few = elim c.if-tree_spares_anywhere.branch [
+        | then-tree_spares_anywhere+else-least-sparing w ↦ omega (arith, w.sparing-is, c.loop-child.invariant.few)
+        | else-tree_spares_anywhere+else-most-others w ↦ omega (arith, w.sparing-is, c.loop-child.invariant.few)
+      ];
+      rest = elim c.if-tree_spares_anywhere.branch [
+        | then-tree_spares_anywhere+else-least-sparing w ↦ omega (arith, w.others-is, c.loop-child.invariant.rest)
+        | else-tree_spares_anywhere+else-most-others w ↦ omega (arith, w.others-is, c.loop-child.invariant.rest)
       ];
       fits = c.loop-child.invariant.fits;
     }
