@@ -1,5 +1,5 @@
 -- The picks of an object by the other object, as they are put there.
-use Rattle.std.proofs.Common.{◌≡◌, ◌≢◌, ◌⊎◌, ℕ, zero, suc, ◌+◌, ◌-◌, ◌<◌, ◌≤◌, true, List, [], ◌∷◌, ◌++◌, length, set, get_or, slice_index, refl, sym, ap, ◌∙◌, subst, inl, inr, arith, Some, Option, Vec, Global}
+use Rattle.std.proofs.Common.{◌≡◌, ◌⊎◌, ℕ, zero, suc, ◌+◌, ◌-◌, ◌<◌, List, [], ◌∷◌, ◌++◌, length, set, get_or, slice_index, refl, sym, ap, ◌∙◌, subst, inl, inr, arith, Some, Option, Vec, Global}
 use Rattle.std.specs.Prelude.{slice_get, IfSome, Contains, ◌↔◌}
 use Rattle.std.specs.List.{All}
 use Rattle.std.proofs.lemmas.Bool.{cases_eq}
@@ -15,7 +15,7 @@ use Rattle.sweep.proofs.PickedConditions.{pick_in}
 use Rattle.fixpoint.specs.declared.pairs.Pairs.{Pairs}
 use Rattle.fixpoint.specs.declared.pairs.Run.{Run}
 use Rattle.fixpoint.specs.Links.{row, HavePairs}
-use Rattle.fixpoint.specs.Pairs.{IsInRun, IsAt, IsSomewhere, IsPair, NamePairs, ArePairsBelow, ArePairs, PutsAt, PutsNumber}
+use Rattle.fixpoint.specs.Pairs.{IsInRun, IsAt, IsSomewhere, IsPair, ArePairsBelow, ArePairs, PutsAt, PutsNumber}
 use Rattle.fixpoint.proofs.Linking.{length_more}
 
 -- ---- runs

@@ -1,9 +1,8 @@
-use Rattle.std.proofs.Common.{◌≡◌, ◌<◌, ℕ, List, Option, length, map, sym, ap, subst, arith, rules}
+use Rattle.std.proofs.Common.{◌≡◌, ◌<◌, ℕ, List, length, map, sym, subst, rules}
 use Rattle.std.specs.Prelude.{Contains}
 use Rattle.std.proofs.lemmas.List.{length-map}
 use Rattle.indexical.specs.declared.any.AnyIndexical.{AnyIndexical}
 use Rattle.sweep.specs.Picks.{ArePicks}
-use Rattle.object_pruning.specs.declared.kept.Placed.{Placed}
 use Rattle.fixpoint.specs.declared.pairs.Pairs.{Pairs}
 use Rattle.fixpoint.specs.Links.{row}
 use Rattle.fixpoint.specs.Pairs.{ArePairs, IsSomewhere, NamePairs}

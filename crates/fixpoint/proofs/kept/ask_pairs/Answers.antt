@@ -1,4 +1,4 @@
-use Rattle.std.proofs.Common.{◌≡◌, ℕ, ◌<◌, ◌+◌, ◌-◌, length, map, get_or, ap, sym, subst, arith, rules, List, Option}
+use Rattle.std.proofs.Common.{ℕ, ◌<◌, ◌+◌, ◌-◌, length, map, get_or, ap, sym, subst, arith, rules, List, Option}
 use Rattle.std.proofs.lemmas.List.{length-map}
 use Rattle.std.proofs.lemmas.Option.{slice_get-get_or}
 use Rattle.indexical.specs.declared.any.AnyIndexical.{AnyIndexical}
