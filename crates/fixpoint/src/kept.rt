@@ -1,8 +1,9 @@
 //! Points that are kept of the objects, and asked again where something changed.
 
-ghost use Rattle.std.specs.Prelude.{◌≡◌, ℕ, ◌-◌, ◌<◌, ◌≤◌, Bool, Contains, false, None, List, length, map, slice_index_or, IfOk};
+ghost use Rattle.std.specs.Prelude.{◌≡◌, ℕ, ◌-◌, ◌<◌, ◌≤◌, Bool, Contains, false, None, List, length, map, slice_index_or, IfOk, IsTrue};
 ghost use Rattle.std.specs.List.{All, list_any};
 ghost use Rattle.geo_conditions.specs.Conditions.{AllFit, FitsIn};
+ghost use Rattle.indexical.specs.Free.{SparesAnywhere};
 ghost use Rattle.sweep.specs.Picks.{ArePicks};
 ghost use Rattle.object_pruning.specs.Kept.{retried};
 ghost use Rattle.fixpoint.specs.Pairs.{IsInRun, IsSomewhere, NamePairs};
@@ -45,6 +46,24 @@ pub fn all_blank<const K: usize>(
     Ok(kept)
 }
 
+// Whether the condition is surely possible wherever the object is put: it asks for a place of another object, which has not that
+// place alone.
+fn is_spared_by_other<const K: usize>(x: &AnyIndexical<K>, o: ObjId, s: &State<K>) -> bool
+    requires k { K ≤ MAX_DIMS }
+    requires fits { FitsIn x.now.cond s.now }
+    requires object { o.0 < length s.now }
+    ensures { IsTrue result → SparesAnywhere x.now.cond s.now o.0 }
+{
+    let facing = x.facing(o);
+    if facing.other_place == 0 {
+        return false;
+    }
+    match facing.other {
+        Some(u) => !s.is_only_shape(u, facing.other_place),
+        None => false,
+    }
+}
+
 // Asks the condition again at what is kept of the object, and forgets where it is refuted. Where it is possible wherever the
 // object is, there is nothing to ask.
 fn retry_object<const K: usize>(
@@ -59,6 +78,9 @@ fn retry_object<const K: usize>(
     ensures { kept.new ≡ map (retried x.now.cond s.now o.0) kept.old }
 {
     if x.surely_spares_anywhere(s, o) {
+        return;
+    }
+    if is_spared_by_other(x, o, s) {
         return;
     }
     retry(kept, s, o, x);
@@ -142,13 +164,12 @@ fn retry_run<const K: usize>(
     }
 }
 
-// Whether one of the two objects is marked.
-fn is_either_marked(marks: &[bool], o: usize, u: usize) -> bool
-    requires { (o < length marks.now) × (u < length marks.now) }
-    ensures { result ≡ false → (slice_index_or marks.now o false ≡ false)
-        × (slice_index_or marks.now u false ≡ false) }
+// Whether the object itself is marked, or the object u.
+fn is_either_marked(own: bool, marks: &[bool], u: usize) -> bool
+    requires { u < length marks.now }
+    ensures { result ≡ false → (own ≡ false) × (slice_index_or marks.now u false ≡ false) }
 {
-    marks[o] || marks[u]
+    own || marks[u]
 }
 
 // The same for the run of each marked object, or of each one where the object itself is marked.
@@ -170,9 +191,9 @@ fn ask_pairs<const K: usize>(
         (IsSomewhere pairs.now.runs.items) kept.old kept.new }
 {
     let runs = pairs.runs.as_slice();
-    let object = o.0 as usize;
+    let own = marks[o.0 as usize];
     for u in 0..runs.len() {
-        if is_either_marked(marks, object, u) {
+        if is_either_marked(own, marks, u) {
             retry_run(list, o, s, &runs[u], kept);
         }
     }

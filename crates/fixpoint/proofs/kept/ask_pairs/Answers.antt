@@ -16,7 +16,7 @@ loop-u-init g c = those_none (map (λ (x : AnyIndexical g.row.K). x.cond) c.args
 pub is_either_marked-requires : goal.is_either_marked-requires
 is_either_marked-requires g c =
     let same = ap length c.as_slice-runs.ensures.value in
-    (omega (arith, c.requires.object.0, c.requires.object.1), omega (arith, c.loop-u-test.true, same, c.requires.runs, c.requires.object.1))
+    omega (arith, c.loop-u-test.true, same, c.requires.runs, c.requires.object.1)
 
 pub retry_run-requires : goal.retry_run-requires
 retry_run-requires g c =
