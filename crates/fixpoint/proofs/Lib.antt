@@ -1,10 +1,11 @@
 pub mod Names
 pub mod Turns
 pub mod Linking
+pub mod Paired
 pub mod Effect
 pub mod Stable
 pub mod StableRows
-pub mod AskedRows
+pub mod Asked
 pub mod Woken
 pub mod Standing
 pub mod Record

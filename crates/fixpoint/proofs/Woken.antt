@@ -1,15 +1,21 @@
 -- Waking the neighbours of an object: what is queued and what is marked.
-use Rattle.std.proofs.Common.{◌≡◌, ◌≢◌, ◌⊎◌, ℕ, ◌+◌, ◌<◌, ◌≤◌, Bool, true, false, List, [], ◌∷◌, ◌++◌, length, set, get_or, refl, sym, ap, ◌∙◌, subst, inl, inr, arith, Vec, Global}
+use Rattle.std.proofs.Common.{◌≡◌, ◌≢◌, ◌⊎◌, ℕ, ◌+◌, ◌-◌, ◌<◌, ◌≤◌, Bool, true, false, List, [], ◌∷◌, ◌++◌, length, set, get_or, refl, sym, ap, ◌∙◌, subst, inl, inr, arith, Vec, Global}
 use Rattle.std.proofs.lemmas.Bool.{false≢true, cases_eq}
 use Rattle.std.proofs.lemmas.List.{get_or-set_same, get_or-set_other}
+use Rattle.std.proofs.lemmas.Option.{same_Some, slice_get-get_or}
+use Rattle.std.specs.Prelude.{slice_get, slice_index, Contains, Some}
+use Rattle.sweep.proofs.PickedConditions.{pick_in}
 use Rattle.std.proofs.Math.ListN.{length-set}
 use Rattle.geo_conditions.specs.declared.cond.Cond.{Cond}
 use Rattle.geo_conditions.specs.Reach.{State, reach}
 use Rattle.fixpoint.specs.declared.links.Links.{Links}
+use Rattle.fixpoint.specs.declared.pairs.Pairs.{Pairs}
+use Rattle.fixpoint.specs.declared.pairs.Run.{Run}
 use Rattle.geo_conditions.specs.declared.object.ObjId.{ObjId}
 use Rattle.fixpoint.specs.Links.{AreLinks, row, is_among}
 use Rattle.fixpoint.specs.Marks.{MarkRows, is_marked, IsSquare, MarksAt, NotesChanges}
-use Rattle.fixpoint.specs.Near.{Unhinders, Unhindered}
+use Rattle.fixpoint.specs.Near.{Unhinders, Unhindered, UnhinderedBy}
+use Rattle.fixpoint.specs.Pairs.{IsInRun, IsPair, IsSomewhere}
 use Rattle.fixpoint.specs.Queue.{Queues, CatchesUp}
 use Rattle.fixpoint.proofs.Linking.{row_set_same, row_set_other, row_before, row_last, length_more, nth, each_named, among_not}
 
@@ -101,12 +107,11 @@ pub record Marked (u : ℕ) (list : List ObjId) (old new : List Bool) (before af
   pub marked : MarksAt (λ o. is_among o list ≡ false) u before after
   pub square : IsSquare (length old) after
 
-pub marked_put : (u : ℕ) (list : List ObjId) (o : ObjId) (old q : List Bool) (before marks : MarkRows) (v : Vec Bool Global) → o.0 < length q → o.0 ≢ u → o.0 < length marks → u < length (row marks o.0) → v.items ≡ set (row marks o.0) u true → length v.items ≡ length old
-    → Queues (λ p. is_among p list ≡ false) u old q → MarksAt (λ p. is_among p list ≡ false) u before marks → IsSquare (length old) marks → length marks ≡ length before → Marked u (list ++ o ∷ []) old (set q o.0 true) before (set marks o.0 v)
-marked_put u list o old q before marks v b ne h inside items long x y z rows = record {
-  queued = queues_both _ _ _ u old q (set q o.0 true) (λ p f n. among_not p list o f n) x (queues_one u o.0 q b ne);
-  marked = marks_both _ _ _ u before marks (set marks o.0 v) rows (λ p f n. among_not p list o f n) y (marks_one u o.0 marks v h inside items);
-  square = square_put (length old) o.0 marks v h long z;
+pub marked_put : (u : ℕ) (list : List ObjId) (o : ObjId) (old q new : List Bool) (before marks after : MarkRows) → length marks ≡ length before → Queues (λ v. v ≢ o.0) u q new → MarksAt (λ v. v ≢ o.0) u marks after → IsSquare (length old) after → Marked u list old q before marks → Marked u (list ++ o ∷ []) old new before after
+marked_put u list o old q new before marks after rows x y z m = record {
+  queued = queues_both _ _ _ u old q new (λ p f n. among_not p list o f n) m.queued x;
+  marked = marks_both _ _ _ u before marks after rows (λ p f n. among_not p list o f n) m.marked y;
+  square = z;
 }
 
 pub marked_skip : (u : ℕ) (list : List ObjId) (o : ObjId) (old q : List Bool) (before marks : MarkRows) → o.0 ≡ u → Queues (λ p. is_among p list ≡ false) u old q → MarksAt (λ p. is_among p list ≡ false) u before marks → IsSquare (length old) marks → Marked u (list ++ o ∷ []) old q before marks
@@ -127,20 +132,37 @@ rows_more n k marks v long m = (
   ],
 )
 
--- ---- the loop over the conditions that name u
+-- ---- the conditions that name u
 
--- the first k conditions that name u leave o possible wherever it is put
-abbrev pub FreeBelow : List Cond → Links → State → ℕ → ℕ → ℕ → Type 0
-FreeBelow cs l S u k o = (j : ℕ) (d : Cond) → j < k → Unhinders (get_or cs (nth l u j) d) S o
+-- nothing is done where all are free that are not queued
+pub queues_stay : (Free : ℕ → Type 0) (u : ℕ) (q : List Bool) → ((o : ℕ) → o ≢ u → get_or q o false ≡ false → Free o) → Queues Free u q q
+queues_stay Free u q f = record { objects = refl; itself = refl; others = λ o n h e. (e, f o n e) }
 
-pub free_more : (cs : List Cond) (l : Links) (S : State) (u k : ℕ) (c : Cond) → ((d : Cond) → get_or cs (nth l u k) d ≡ c) → (o : ℕ) → FreeBelow cs l S u k o → Unhinders c S o → FreeBelow cs l S u (k + 1) o
-free_more cs l S u k c at o f h j d b = elim (cases_eq j k) [
-  | inl e ↦ subst (λ (z : ℕ). Unhinders (get_or cs (nth l u z) d) S o) (sym e) (subst (λ (x : Cond). Unhinders x S o) (sym (at d)) h)
-  | inr ne ↦ f j d (omega (arith, b, ne))
-]
+pub marks_stay : (Free : ℕ → Type 0) (u : ℕ) (marks : MarkRows) → ((o : ℕ) → o ≢ u → is_marked marks o u ≡ false → Free o) → MarksAt Free u marks marks
+marks_stay Free u marks f = record { stay = λ o v e. e; fresh = λ o n h e. f o n e }
 
-pub free_end : (cs : List Cond) (n : ℕ) (l : Links) (S : State) (u k : ℕ) → AreLinks cs n l → u < n → length (row l.picks.items u) ≤ k → (o : ℕ) → FreeBelow cs l S u k o → Unhindered cs S u o
-free_end cs n l S u k a h end o f = each_named (λ c. Unhinders c S o) cs n u l a h (λ j d b. f j d (omega (arith, b, end)))
+-- conditions of u and v leave each third object free
+pub by_pair : (cs : List Cond) (S : State) (run : Run) (u v : ℕ) → ((i : ℕ) (x : Cond) → IsInRun run i → slice_get cs (i - 1) ≡ Some x → IsPair x u v) → (o : ℕ) → o ≢ u → o ≢ v → UnhinderedBy cs S (IsInRun run) o
+by_pair cs S run u v pair o first second i x b e n = elim ((pair i x b e).named o n) [ inl s ↦ absurd (first s) | inr s ↦ absurd (second s) ]
+
+module _ (cs : List Cond) (S : State) (o : ℕ) where
+  pub free_both : (P Q R : ℕ → Type 0) → ((i : ℕ) → R i → P i ⊎ Q i) → UnhinderedBy cs S P o → UnhinderedBy cs S Q o → UnhinderedBy cs S R o
+  free_both P Q R either f g i x r e = elim (either i r) [ inl p ↦ f i x p e | inr q ↦ g i x q e ]
+
+  pub free_one : (number : ℕ) (c : Cond) → slice_get cs (number - 1) ≡ Some c → Unhinders c S o → UnhinderedBy cs S (λ i. i ≡ number) o
+  free_one number c at h i x s e = subst (λ (y : Cond). Unhinders y S o) (same_Some _ _ (sym at ∙ subst (λ (m : ℕ). slice_get cs (m - 1) ≡ Some x) s e)) h
+
+  -- both kinds of numbers have all that name u
+  pub free_end : (n u : ℕ) (l : Links) (d : Pairs) → AreLinks cs n l → u < n → UnhinderedBy cs S (IsSomewhere (get_or l.pairs.items u d).runs.items) o → UnhinderedBy cs S (Contains (get_or l.pairs.items u d).others.items) o → Unhindered cs S u o
+  free_end n u l d a h f g =
+      let pairs = get_or l.pairs.items u d in
+      let picks = row l.picks.items u in
+      let are = a.pairs.each u d h in
+      let all = free_both (IsSomewhere pairs.runs.items) (Contains pairs.others.items) (λ j. IsSomewhere pairs.runs.items j ⊎ Contains pairs.others.items j) (λ j p. p) f g in
+      let each : (j : ℕ) (y : Cond) → j < length picks → Unhinders (get_or cs (nth l u j) y) S o = λ j y b.
+      let k = pick_in (length cs) picks j (a.picks u h).within b in
+      all (slice_index picks j) (get_or cs (nth l u j) y) (are.picks.each j b) (slice_get-get_or cs (nth l u j) y k.1) in
+      each_named (λ c. Unhinders c S o) cs n u l a h each
 
 -- ---- the loop over what differs
 

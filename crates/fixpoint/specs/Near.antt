@@ -1,5 +1,5 @@
 -- What the conditions that name an object say of it.
-use Rattle.std.specs.Prelude.{◌≡◌, ◌⊎◌, ℕ, ◌<◌, true, false, List, length, ℤ}
+use Rattle.std.specs.Prelude.{◌≡◌, ◌⊎◌, ℕ, ◌-◌, ◌<◌, true, false, List, length, slice_get, Some, ℤ}
 use Rattle.std.specs.List.{All}
 use Rattle.geo_base.specs.Boxes.{coordinate}
 use Rattle.geo_conditions.specs.declared.cond.Cond.{Cond}
@@ -15,6 +15,10 @@ Unhinders c S o = names o c ≡ true → SparesAnywhere c S o
 -- each condition that names both objects is possible wherever o is put
 abbrev pub Unhindered : List Cond → State → ℕ → ℕ → Type 0
 Unhindered cs S u o = All (λ c. names u c ≡ true → Unhinders c S o) cs
+
+-- each condition of those numbers is possible wherever o is put, if it names it
+abbrev pub UnhinderedBy : List Cond → State → (ℕ → Type 0) → ℕ → Type 0
+UnhinderedBy cs S Those o = (i : ℕ) (x : Cond) → Those i → slice_get cs (i - 1) ≡ Some x → Unhinders x S o
 
 -- the object o is the same in the two states, and each other one is the same too or leaves it unhindered in T
 pub record IsUntouched (cs : List Cond) (S T : State) (o : ℕ) : Type 0 where

@@ -1,20 +1,22 @@
 //! Points that are kept of the objects, and asked again where something changed.
 
-ghost use Rattle.std.specs.Prelude.{◌≡◌, ℕ, ◌-◌, ◌<◌, ◌≤◌, false, None, Some, List, length, map, slice_get, slice_index_or, IfOk, IfSome, MatchOption};
+ghost use Rattle.std.specs.Prelude.{◌≡◌, ℕ, ◌-◌, ◌<◌, ◌≤◌, Bool, Contains, false, None, List, length, map, slice_index_or, IfOk, IsTrue};
 ghost use Rattle.std.specs.List.{All, list_any};
 ghost use Rattle.geo_conditions.specs.Conditions.{AllFit, FitsIn};
-ghost use Rattle.object_pruning.specs.declared.rows.Group.{Group};
-ghost use Rattle.object_pruning.specs.InRows.{HaveNumber, IsInGroup, IsSomeGroup};
+ghost use Rattle.indexical.specs.Free.{SparesAnywhere};
+ghost use Rattle.sweep.specs.Picks.{ArePicks};
 ghost use Rattle.object_pruning.specs.Kept.{retried};
+ghost use Rattle.fixpoint.specs.Pairs.{IsInRun, IsSomewhere, NamePairs};
 ghost use Rattle.fixpoint.specs.Links.{AreLinks, NamedBy};
 ghost use Rattle.fixpoint.specs.Kept.{AllStand, IsBlank, RetriesMarked, RetriesThose, Stand, StandBut, StandsAlone};
 ghost use Rattle.fixpoint.specs.Marks.{IsCleared, IsSquare};
 
 use super::links::Links;
+use super::pairs::{Pairs, Run};
 use geo_base::MAX_DIMS;
 use geo_conditions::{ObjId, State};
 use indexical::AnyIndexical;
-use object_pruning::{Group, Placed, retry, slots};
+use object_pruning::{Placed, retry, slots};
 use std::alloc::{AllocError, Global};
 
 /// The slots of an object, with nothing kept. The answer is an error where memory is short.
@@ -44,6 +46,24 @@ pub fn all_blank<const K: usize>(
     Ok(kept)
 }
 
+// Whether the condition is surely possible wherever the object is put: it asks for a place of another object, which has not that
+// place alone.
+fn is_spared_by_other<const K: usize>(x: &AnyIndexical<K>, o: ObjId, s: &State<K>) -> bool
+    requires k { K ≤ MAX_DIMS }
+    requires fits { FitsIn x.now.cond s.now }
+    requires object { o.0 < length s.now }
+    ensures { IsTrue result → SparesAnywhere x.now.cond s.now o.0 }
+{
+    let facing = x.facing(o);
+    if facing.other_place == 0 {
+        return false;
+    }
+    match facing.other {
+        Some(u) => !s.is_only_shape(u, facing.other_place),
+        None => false,
+    }
+}
+
 // Asks the condition again at what is kept of the object, and forgets where it is refuted. Where it is possible wherever the
 // object is, there is nothing to ask.
 fn retry_object<const K: usize>(
@@ -58,6 +78,9 @@ fn retry_object<const K: usize>(
     ensures { kept.new ≡ map (retried x.now.cond s.now o.0) kept.old }
 {
     if x.surely_spares_anywhere(s, o) {
+        return;
+    }
+    if is_spared_by_other(x, o, s) {
         return;
     }
     retry(kept, s, o, x);
@@ -119,89 +142,83 @@ fn retry_number<const K: usize>(
     retry_marked(&list[i], &links.named[i], marks, o, s, kept);
 }
 
-// The same for each number of a group.
-fn retry_numbers<const K: usize>(
+// Asks the conditions of a run again at what is kept of the object, and forgets where one is refuted.
+fn retry_run<const K: usize>(
     list: &[AnyIndexical<K>],
-    links: &Links,
     o: ObjId,
     s: &State<K>,
-    marks: &[bool],
-    group: &Group,
+    run: &Run,
     kept: &mut [Option<Placed<K>>],
 )
     requires k { K ≤ MAX_DIMS }
     requires fits { AllFit (map (λ x. x.cond) list.now) s.now }
-    requires links { AreLinks (map (λ x. x.cond) list.now) (length s.now) links.now }
-    requires object { (o.0 < length s.now) × (length marks.now ≡ length s.now) }
-    requires numbers { (i : ℕ) → IsInGroup group.now i → (0 < i) × (i - 1 < length list.now) }
-    ensures { RetriesThose (map (λ x. x.cond) list.now) s.now o.0 marks.now
-        (IsInGroup group.now) kept.old kept.new }
+    requires object { o.0 < length s.now }
+    requires numbers { (i : ℕ) → IsInRun run.now i → (0 < i) × (i - 1 < length list.now) }
+    ensures { (marks : List Bool) → RetriesThose (map (λ x. x.cond) list.now) s.now o.0 marks
+        (IsInRun run.now) kept.old kept.new }
 {
-    let first = group.first as usize;
-    let end = group.last as usize + 1;
+    let first = run.first as usize;
+    let end = first + run.count as usize;
     for i in first..end {
-        retry_number(list, links, o, s, marks, i as u32, kept);
+        retry_object(&list[i - 1], o, s, kept);
     }
 }
 
-// Whether a condition of the group may name a marked object.
-fn may_name_marked(o: ObjId, other: Option<ObjId>, marks: &[bool]) -> bool
-    requires object { o.0 < length marks.now }
-    requires other { IfSome other (λ u. u.0 < length marks.now) }
-    ensures { result ≡ false → MatchOption other ⊥ (λ u.
-        (slice_index_or marks.now o.0 false ≡ false)
-        × (slice_index_or marks.now u.0 false ≡ false)) }
+// Whether the object itself is marked, or the object u.
+fn is_either_marked(own: bool, marks: &[bool], u: usize) -> bool
+    requires { u < length marks.now }
+    ensures { result ≡ false → (own ≡ false) × (slice_index_or marks.now u false ≡ false) }
 {
-    match other {
-        Some(u) => marks[o.0 as usize] || marks[u.0 as usize],
-        None => true,
-    }
+    own || marks[u]
 }
 
-// The same for a group, of which no condition is asked where none names a marked object.
-fn retry_group<const K: usize>(
+// The same for the run of each marked object, or of each one where the object itself is marked.
+fn ask_pairs<const K: usize>(
     list: &[AnyIndexical<K>],
-    links: &Links,
+    pairs: &Pairs,
     o: ObjId,
     s: &State<K>,
     marks: &[bool],
-    group: &Group,
+    kept: &mut [Option<Placed<K>>],
+)
+    requires k { K ≤ MAX_DIMS }
+    requires fits { AllFit (map (λ x. x.cond) list.now) s.now }
+    requires object { (o.0 < length s.now) × (length marks.now ≡ length s.now) }
+    requires runs { length pairs.now.runs.items ≡ length s.now }
+    requires pairs { NamePairs (map (λ x. x.cond) list.now) o.0
+        pairs.now.runs.items pairs.now.others.items }
+    ensures { RetriesThose (map (λ x. x.cond) list.now) s.now o.0 marks.now
+        (IsSomewhere pairs.now.runs.items) kept.old kept.new }
+{
+    let runs = pairs.runs.as_slice();
+    let own = marks[o.0 as usize];
+    for u in 0..runs.len() {
+        if is_either_marked(own, marks, u) {
+            retry_run(list, o, s, &runs[u], kept);
+        }
+    }
+}
+
+// The same for each of the numbers whose condition names a marked object.
+fn ask_others<const K: usize>(
+    list: &[AnyIndexical<K>],
+    links: &Links,
+    others: &[u32],
+    o: ObjId,
+    s: &State<K>,
+    marks: &[bool],
     kept: &mut [Option<Placed<K>>],
 )
     requires k { K ≤ MAX_DIMS }
     requires fits { AllFit (map (λ x. x.cond) list.now) s.now }
     requires links { AreLinks (map (λ x. x.cond) list.now) (length s.now) links.now }
     requires object { (o.0 < length s.now) × (length marks.now ≡ length s.now) }
-    requires group { IsSomeGroup (map (λ x. x.cond) list.now) o.0 group.now }
+    requires others { ArePicks (length list.now) others.now }
     ensures { RetriesThose (map (λ x. x.cond) list.now) s.now o.0 marks.now
-        (IsInGroup group.now) kept.old kept.new }
+        (Contains others.now) kept.old kept.new }
 {
-    if may_name_marked(o, group.other, marks) {
-        retry_numbers(list, links, o, s, marks, group, kept);
-    }
-}
-
-// The same for each group of a row.
-fn retry_row<const K: usize>(
-    list: &[AnyIndexical<K>],
-    links: &Links,
-    o: ObjId,
-    s: &State<K>,
-    marks: &[bool],
-    groups: &[Group],
-    kept: &mut [Option<Placed<K>>],
-)
-    requires k { K ≤ MAX_DIMS }
-    requires fits { AllFit (map (λ x. x.cond) list.now) s.now }
-    requires links { AreLinks (map (λ x. x.cond) list.now) (length s.now) links.now }
-    requires object { (o.0 < length s.now) × (length marks.now ≡ length s.now) }
-    requires groups { (k : ℕ) (g : Group) → slice_get groups.now k ≡ Some g
-        → IsSomeGroup (map (λ x. x.cond) list.now) o.0 g }
-    ensures { RetriesThose (map (λ x. x.cond) list.now) s.now o.0 marks.now
-        (HaveNumber groups.now) kept.old kept.new }
-{
-    for k in 0..groups.len() {
-        retry_group(list, links, o, s, marks, &groups[k], kept);
+    for k in 0..others.len() {
+        retry_number(list, links, o, s, marks, others[k], kept);
     }
 }
 
@@ -223,10 +240,10 @@ fn ask_again<const K: usize>(
     ensures { Stand (map (λ x. x.cond) list.now) s.now o kept.new }
 {
     let _objects = s.objects();
-    let rows = &links.rows[o];
-    for r in 0..rows.rows.len() {
-        retry_row(list, links, ObjId(o as u16), s, marks, rows.row(r), kept);
-    }
+    let object = ObjId(o as u16);
+    let pairs = &links.pairs[o];
+    ask_pairs(list, pairs, object, s, marks, kept);
+    ask_others(list, links, &pairs.others, object, s, marks, kept);
 }
 
 // Takes all marks away.

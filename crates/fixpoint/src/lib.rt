@@ -4,6 +4,7 @@
 mod differences;
 mod kept;
 mod links;
+mod pairs;
 mod propagation;
 mod queue;
 mod waking;

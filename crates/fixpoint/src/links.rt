@@ -2,8 +2,9 @@
 
 ghost use Rattle.std.specs.Prelude.{◌≡◌, ℕ, ◌<◌, ◌≤◌, [], length, map, IfOk};
 ghost use Rattle.sweep.specs.Picks.{ArePicks};
-ghost use Rattle.fixpoint.specs.Links.{AreLinks, HaveRows, NamedBy, Numbers, row};
+ghost use Rattle.fixpoint.specs.Links.{AreLinks, HavePairs, HaveRows, NamedBy, Numbers, row};
 
+use super::pairs::{Pairs, pairs_of};
 use geo_conditions::{MAX_OBJECTS, ObjId};
 use indexical::AnyIndexical;
 use object_pruning::{Rows, rows_of};
@@ -20,6 +21,8 @@ pub struct Links {
     pub bare: Vec<u32>,
     /// For each object its numbers in rows, by the places that the conditions ask for.
     pub rows: Vec<Rows>,
+    /// For each object its numbers by the other objects that the conditions name.
+    pub pairs: Vec<Pairs>,
 }
 
 // The objects that the condition names. Each gets the number of the condition.
@@ -76,6 +79,27 @@ fn all_rows<const K: usize>(
     Ok(rows)
 }
 
+// The pairs of each object, by its numbers.
+fn all_pairs<const K: usize>(
+    alloc: Global,
+    list: &[AnyIndexical<K>],
+    picks: &[Vec<u32>],
+) -> Result<Vec<Pairs>, AllocError>
+    requires objects { length picks.now ≤ MAX_OBJECTS }
+    requires picks { (o : ℕ) → o < length picks.now
+        → ArePicks (length list.now) (row picks.now o) }
+    ensures { IfOk result (λ v. HavePairs (map (λ x. x.cond) list.now) picks.now
+        (length picks.now) (length picks.now) v.items) }
+{
+    let objects = picks.len();
+    let mut pairs = Vec::new(alloc);
+    for o in 0..objects {
+        let own = pairs_of(alloc, list, &picks[o], ObjId(o as u16), objects)?;
+        pairs.push(own)?;
+    }
+    Ok(pairs)
+}
+
 /// The links between the conditions and that number of objects. The answer is an error where memory
 /// runs out.
 pub fn links_of<const K: usize>(
@@ -99,10 +123,12 @@ pub fn links_of<const K: usize>(
         named.push(those)?;
     }
     let rows = all_rows(alloc, list, &picks)?;
+    let pairs = all_pairs(alloc, list, &picks)?;
     Ok(Links {
         named,
         picks,
         bare,
         rows,
+        pairs,
     })
 }

@@ -1,45 +1,52 @@
-use Rattle.std.proofs.Common.{◌≡◌, ◌<◌, ℕ, List, length, map, sym, ap, subst, arith, rules}
-use Rattle.std.specs.Prelude.{slice_get, Some}
+use Rattle.std.proofs.Common.{◌≡◌, ◌<◌, ℕ, List, length, map, sym, subst, rules}
+use Rattle.std.specs.Prelude.{Contains}
+use Rattle.std.proofs.lemmas.List.{length-map}
 use Rattle.indexical.specs.declared.any.AnyIndexical.{AnyIndexical}
-use Rattle.object_pruning.specs.declared.rows.Group.{Group}
-use Rattle.object_pruning.specs.declared.rows.Rows.{Rows}
-use Rattle.object_pruning.specs.InRows.{row, HaveNumber, IsSomeGroup, AreRows}
-use Rattle.object_pruning.proofs.LivePicks.{rows_some}
+use Rattle.sweep.specs.Picks.{ArePicks}
+use Rattle.fixpoint.specs.declared.pairs.Pairs.{Pairs}
+use Rattle.fixpoint.specs.Links.{row}
+use Rattle.fixpoint.specs.Pairs.{ArePairs, IsSomewhere, NamePairs}
 use Rattle.fixpoint.specs.Kept.{RetriesThose}
-use Rattle.fixpoint.proofs.AskedRows.{RowsBelow, those_none, those_row, rows_asked}
+use Rattle.fixpoint.proofs.Asked.{pairs_asked}
 use Rattle.fixpoint.proofs.kept.ask_again.Goals as goal
 
-pub loop-r-init : goal.loop-r-init
-loop-r-init g c = those_none (map (λ (x : AnyIndexical g.row.K). x.cond) c.args.list.now) c.args.s.now c.args.o c.args.marks.now (RowsBelow c.index-rows.result.now 0) c.args.kept.now (λ i p. absurd (omega (arith, p.1)))
-
-pub retry_row-requires : goal.retry_row-requires
-retry_row-requires g c =
+pub ask_pairs-requires : goal.ask_pairs-requires
+ask_pairs-requires g c =
     let cs = map (λ (x : AnyIndexical g.row.K). x.cond) c.args.list.now in
     let S = c.args.s.now in
     let o = c.args.o in
-    let own = c.index-rows.result.now in
-    let a = c.requires.links in
+    let l = c.args.links.now in
+    let own = c.index-pairs.result.now in
     let h : o < length S = c.requires.object.0 in
-    let are = subst (AreRows cs o _) (sym c.index-rows.ensures) (a.rows.each o own h) in
-    let some : (k : ℕ) (x : Group) → slice_get c.row.result.now k ≡ Some x → IsSomeGroup cs o x = rows_some cs S o c.requires.fits h _ own are (a.picks o h).within c.loop-r.r c.row.result.now c.row.ensures in
+    let are : ArePairs cs o (row l.picks.items o) (length S) own = subst (ArePairs cs o (row l.picks.items o) (length S)) (sym c.index-pairs.ensures) (c.requires.links.pairs.each o own h) in
+    let runs : length own.runs.items ≡ length S = are.objects in
+    let named : NamePairs cs o own.runs.items own.others.items = are.picks.named in
     search rules
 
-pub loop-r-preserved : goal.loop-r-preserved
-loop-r-preserved g c =
-    let cs = map (λ (x : AnyIndexical g.row.K). x.cond) c.args.list.now in
-    let own = c.index-rows.result.now in
-    let mid = c.loop-r.kept in
-    let new = c.retry_row.new.kept in
-    let asked : RetriesThose cs c.args.s.now c.args.o c.args.marks.now (HaveNumber (row own.rows.items c.loop-r.r)) mid new = subst (λ (gs : List Group). RetriesThose cs c.args.s.now c.args.o c.args.marks.now (HaveNumber gs) mid new) c.row.ensures c.retry_row.ensures in
-    those_row cs c.args.s.now c.args.o c.args.marks.now own c.loop-r.r c.args.kept.now mid new c.loop-r.invariant asked
+pub ask_others-requires : goal.ask_others-requires
+ask_others-requires g c =
+    let f = λ (x : AnyIndexical g.row.K). x.cond in
+    let cs = map f c.args.list.now in
+    let S = c.args.s.now in
+    let o = c.args.o in
+    let l = c.args.links.now in
+    let own = c.index-pairs.result.now in
+    let h : o < length S = c.requires.object.0 in
+    let are : ArePairs cs o (row l.picks.items o) (length S) own = subst (ArePairs cs o (row l.picks.items o) (length S)) (sym c.index-pairs.ensures) (c.requires.links.pairs.each o own h) in
+    let within : ArePicks (length c.args.list.now) c.deref.result.now = subst (λ (n : ℕ). ArePicks n c.deref.result.now) (length-map c.args.list.now f) (subst (ArePicks (length cs)) (sym c.deref.ensures.value) are.picks.named.others) in
+    search rules
 
 pub returns : goal.returns
 returns g c =
     let cs = map (λ (x : AnyIndexical g.row.K). x.cond) c.args.list.now in
     let S = c.args.s.now in
-    let own = c.index-rows.result.now in
-    let l = c.args.links.now in
-    let same = c.index-rows.ensures in
-    let asked = subst (λ (rs : Rows). RetriesThose cs S c.args.o c.args.marks.now (RowsBelow rs c.loop-r.r) c.args.kept.now c.loop-r.kept) same c.loop-r.invariant in
-    let long = ap (λ (rs : Rows). length rs.rows.items) same in
-    rows_asked cs S c.args.o c.args.marks.now l own c.loop-r.r c.args.kept.now c.loop-r.kept c.requires.links c.requires.object.0 (omega (arith, long, c.loop-r-test.false)) asked c.requires.stand
+    let o = c.args.o in
+    let marks = c.args.marks.now in
+    let own = c.index-pairs.result.now in
+    let old = c.args.kept.now in
+    let mid = c.ask_pairs.new.kept in
+    let new = c.ask_others.new.kept in
+    let first = subst (λ (p : Pairs). RetriesThose cs S o marks (IsSomewhere p.runs.items) old mid) c.index-pairs.ensures c.ask_pairs.ensures in
+    let others = subst (λ (ns : List ℕ). RetriesThose cs S o marks (Contains ns) mid new) c.deref.ensures.value c.ask_others.ensures in
+    let second = subst (λ (p : Pairs). RetriesThose cs S o marks (Contains p.others.items) mid new) c.index-pairs.ensures others in
+    pairs_asked cs S o marks c.args.links.now own old mid new c.requires.links c.requires.object.0 first second c.requires.stand

@@ -7,7 +7,7 @@ use Rattle.indexical.specs.declared.any.AnyIndexical.{AnyIndexical}
 use Rattle.object_pruning.proofs.LivePicks.{at_number}
 use Rattle.fixpoint.specs.Links.{NamedBy, row}
 use Rattle.fixpoint.proofs.Linking.{row_get}
-use Rattle.fixpoint.proofs.AskedRows.{those_one}
+use Rattle.fixpoint.proofs.Asked.{those_one}
 use Rattle.fixpoint.proofs.kept.retry_number.Goals as goal
 
 pub retry_marked-requires : goal.retry_marked-requires

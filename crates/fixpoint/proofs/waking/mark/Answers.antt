@@ -1,12 +1,9 @@
-use Rattle.std.proofs.Common.{◌≡◌, ◌<◌, ◌+◌, ◌++◌, ◌∷◌, [], Bool, true, false, List, length, set, take, get_or, refl, ap, sym, ◌∙◌, subst, arith, Vec, Global}
-use Rattle.std.proofs.lemmas.List.{take_more, take_all, with_items_is}
-use Rattle.std.proofs.Math.ListN.{length-set}
-use Rattle.std.specs.Vec.{with_items}
+use Rattle.std.proofs.Common.{◌≡◌, ◌+◌, ◌++◌, ◌∷◌, [], ℕ, Bool, false, List, length, take, get_or, refl, sym, subst, rules}
+use Rattle.std.proofs.lemmas.List.{take_more, take_all}
 use Rattle.geo_conditions.specs.declared.object.ObjId.{ObjId}
-use Rattle.fixpoint.specs.Links.{is_among, row}
-use Rattle.fixpoint.specs.Marks.{MarkRows, MarksAt}
+use Rattle.fixpoint.specs.Links.{is_among}
+use Rattle.fixpoint.specs.Marks.{MarkRows, IsSquare, MarksAt}
 use Rattle.fixpoint.specs.Queue.{Queues}
-use Rattle.fixpoint.proofs.Linking.{row_get}
 use Rattle.fixpoint.proofs.Woken.{Marked, marked_put, marked_skip, queues_none, marks_none}
 use Rattle.fixpoint.proofs.waking.mark.Goals as goal
 use Rattle.fixpoint.proofs.waking.mark.Goals.{then-o-u, else-o-u}
@@ -18,17 +15,13 @@ loop-o-init c = record {
   square = c.requires.square;
 }
 
-pub set_mark-requires : goal.set_mark-requires
-set_mark-requires c =
-    let list = c.args.list.now in
-    let o : ObjId = get_or list c.loop-o.o-index (record { 0 = 0 }) in
-    let marks = c.loop-o.dirty in
+pub wake_at-requires : goal.wake_at-requires
+wake_at-requires c =
+    let i = c.loop-o.o-index in
     let m = c.loop-o.invariant in
-    let there = c.requires.list c.loop-o.o-index (record { 0 = 0 }) c.loop-o-test.true in
-    let h : o.0 < length marks = omega (arith, there, m.square.rows) in
-    let value : c.deref_mut.result.now ≡ row marks o.0 = c.deref_mut.ensures.value ∙ sym (row_get marks o.0 c.index-dirty-o.result h) in
-    let wide : length (row marks o.0) ≡ length c.args.queued.now = m.square.each o.0 there in
-    omega (arith, c.requires.object, ap length value, wide)
+    let there = c.requires.list i (record { 0 = 0 }) c.loop-o-test.true in
+    let square : IsSquare (length c.loop-o.queued) c.loop-o.dirty = subst (λ (n : ℕ). IsSquare n c.loop-o.dirty) (sym c.loop-o.auto.queued) m.square in
+    search rules
 
 pub loop-o-preserved : goal.loop-o-preserved
 loop-o-preserved c =
@@ -42,21 +35,12 @@ loop-o-preserved c =
     let more : take (i + 1) list ≡ take i list ++ o ∷ [] = take_more list i (record { 0 = 0 }) c.loop-o-test.true in
     subst (λ (l : List ObjId). Marked u l c.args.queued.now c.if-o-u.queued c.args.dirty.now c.if-o-u.dirty) (sym more) (elim c.if-o-u.branch [
       | then-o-u w ↦
-          let there = c.requires.list i (record { 0 = 0 }) c.loop-o-test.true in
-          let b : o.0 < length q = omega (arith, there, c.loop-o.auto.queued) in
-          let h : o.0 < length marks = omega (arith, there, m.square.rows) in
-          let r = w.index-dirty-o.result in
-          let was : Vec Bool Global = get_or marks o.0 r in
-          let now = w.set_mark.new.marks in
-          let value : w.deref_mut.result.now ≡ row marks o.0 = w.deref_mut.ensures.value ∙ sym (row_get marks o.0 r h) in
-          let items : now ≡ set (row marks o.0) u true = w.set_mark.ensures ∙ ap (λ (l : List Bool). set l u true) value in
-          let wide : length (row marks o.0) ≡ length c.args.queued.now = m.square.each o.0 there in
-          let long : length now ≡ length was.items = w.set_mark.auto.marks ∙ ap length w.deref_mut.ensures.value in
-          let back : (with_items was now).items ≡ now = with_items_is was now (omega (arith, long, was.ok.0)) in
-          let inside : u < length (row marks o.0) = omega (arith, c.requires.object, wide) in
+          let new = w.wake_at.new.queued in
+          let after = w.wake_at.new.dirty in
+          let square : IsSquare (length c.args.queued.now) after = subst (λ (n : ℕ). IsSquare n after) c.loop-o.auto.queued w.wake_at.ensures.square in
           subst (λ (xs : List Bool). Marked u (take i list ++ o ∷ []) c.args.queued.now xs c.args.dirty.now c.if-o-u.dirty) (sym w.queued-is) (
-          subst (λ (ms : MarkRows). Marked u (take i list ++ o ∷ []) c.args.queued.now (set q o.0 true) c.args.dirty.now ms) (sym w.dirty-is)
-          (marked_put u (take i list) o c.args.queued.now q c.args.dirty.now marks (with_items was now) b w.if-o-u.true h inside (back ∙ items) (ap length (back ∙ items) ∙ length-set (row marks o.0) u true ∙ wide) m.queued m.marked m.square c.loop-o.auto.dirty))
+          subst (λ (ms : MarkRows). Marked u (take i list ++ o ∷ []) c.args.queued.now new c.args.dirty.now ms) (sym w.dirty-is)
+          (marked_put u (take i list) o c.args.queued.now q new c.args.dirty.now marks after c.loop-o.auto.dirty w.wake_at.ensures.queued w.wake_at.ensures.marked square m))
       | else-o-u w ↦
           subst (λ (xs : List Bool). Marked u (take i list ++ o ∷ []) c.args.queued.now xs c.args.dirty.now c.if-o-u.dirty) (sym w.queued-is) (
           subst (λ (ms : MarkRows). Marked u (take i list ++ o ∷ []) c.args.queued.now q c.args.dirty.now ms) (sym w.dirty-is)

@@ -1,7 +1,0 @@
-use Rattle.std.proofs.Common.{map}
-use Rattle.object_pruning.proofs.LivePicks.{HaveBelow}
-use Rattle.fixpoint.specs.Kept.{RetriesThose}
-use Rattle.fixpoint.proofs.kept.retry_row.Given as goal
-
-abbrev pub invariant-loop-k : goal.invariant-loop-k
-invariant-loop-k g l = RetriesThose (map (λ x. x.cond) l.list) l.s l.o.0 l.marks (HaveBelow l.groups l.k) l.fn.kept l.kept
