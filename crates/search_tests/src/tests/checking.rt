@@ -183,26 +183,3 @@ fn the_first_node_that_fails_is_named(rt: HostRuntime) -> Result<(), Fail> {
     }
     Ok(())
 }
-
-/// A hundred thousand splits inside each other, each with an end for its first part, and the end of the last second part.
-fn many_splits(alloc: Global, last: u32) -> Result<Log, AllocError> {
-    let mut log = Log::new(alloc);
-    for i in 0..200_000u32 {
-        log.add(if i < 100_000 {
-            Event::SplitUpto(A, 0, 9)
-        } else {
-            Event::Dead(1)
-        })?;
-    }
-    log.add(Event::Dead(last))?;
-    Ok(log)
-}
-
-#[test]
-fn a_derivation_may_be_as_deep_as_it_is_long(rt: HostRuntime) -> Result<(), Fail> {
-    for (last, wanted) in [(1, 0), (2, 200_001)] {
-        let log = many_splits(rt.alloc(), last)?;
-        assert!(rt; checked(rt.alloc(), &[(0, 9)], FALSE, &log)? == Some(wanted));
-    }
-    Ok(())
-}
