@@ -7,3 +7,5 @@ pub mod SmallerCovers
 pub mod Listings
 pub mod Refuting
 pub mod SmallerStates
+pub mod OtherNumbers
+pub mod RenumberedChains

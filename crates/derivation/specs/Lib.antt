@@ -8,3 +8,4 @@ pub mod Nodes
 pub mod Valid
 pub mod Fits
 pub mod Laws
+pub mod Renumbered

@@ -6,6 +6,7 @@ mod half;
 mod laws;
 mod log;
 mod recorder;
+mod renumbering;
 mod side;
 
 pub use event::Event;
@@ -13,4 +14,5 @@ pub use half::Half;
 pub use laws::covers_stay;
 pub use log::Log;
 pub use recorder::{NoRecord, Recorder};
+pub use renumbering::Renumbering;
 pub use side::Side;

@@ -2,6 +2,7 @@ ghost use Rattle.std.specs.Prelude.{◌≡◌, []};
 
 use super::event::Event;
 use super::recorder::Recorder;
+use super::renumbering::Renumbering;
 use std::alloc::{AllocError, Global};
 use std::marker::Model;
 
@@ -59,6 +60,10 @@ impl Recorder for Log {
 
     fn set(&mut self, at: usize, e: Event) {
         self.events[at] = e;
+    }
+
+    fn renumber(&mut self, from: usize, numbers: &Renumbering) {
+        numbers.events(&mut self.events[from..]);
     }
 
     fn add(&mut self, e: Event) -> Result<(), AllocError> {

@@ -1,6 +1,8 @@
-ghost use Rattle.std.specs.Prelude.{◌≡◌, ℕ, ◌+◌, ◌-◌, ◌^◌, min, ◌<◌, ◌≤◌, Bool, true, false, IsOk, List, [], ◌∷◌, ◌++◌, length, take, slice_set, OnOk, OnErr};
+ghost use Rattle.std.specs.Prelude.{◌≡◌, ℕ, ◌+◌, ◌-◌, ◌^◌, min, ◌<◌, ◌≤◌, Bool, true, false, IsOk, List, [], ◌∷◌, ◌++◌, length, map, take, drop, slice_set, OnOk, OnErr};
+ghost use Rattle.derivation.specs.Renumbered.{renumbered};
 
 use super::event::Event;
+use super::renumbering::Renumbering;
 use std::alloc::AllocError;
 
 /// Takes down events, or lets them go. A count tells how often it refused an event for want of
@@ -32,6 +34,13 @@ pub trait Recorder {
     fn set(&mut self, at: usize, e: Event)
         requires { keeps ≡ true → at < length (list self.old) }
         ensures list { keeps ≡ true → list self.new ≡ slice_set (list self.old) at e }
+        ensures refusals { refusals self.new ≡ refusals self.old };
+
+    /// Puts other numbers of conditions into the events from the index `from` on.
+    fn renumber(&mut self, from: usize, numbers: &Renumbering)
+        requires { keeps ≡ true → from ≤ length (list self.old) }
+        ensures list { keeps ≡ true → list self.new ≡ take from (list self.old)
+            ++ map (renumbered numbers.now) (drop from (list self.old)) }
         ensures refusals { refusals self.new ≡ refusals self.old };
 
     /// Appends an event. A refusal leaves the events as they were, and where none are kept there is
@@ -76,6 +85,8 @@ impl Recorder for NoRecord {
     fn cut_back(&mut self, _mark: usize) {}
 
     fn set(&mut self, _at: usize, _e: Event) {}
+
+    fn renumber(&mut self, _from: usize, _numbers: &Renumbering) {}
 
     fn add(&mut self, _e: Event) -> Result<(), AllocError> {
         Ok(())
