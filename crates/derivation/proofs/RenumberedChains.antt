@@ -9,16 +9,11 @@ use Rattle.derivation.specs.declared.side.Side.{Side}
 use Rattle.derivation.specs.declared.side.Side.TheVariants.{Upto, From}
 use Rattle.derivation.specs.declared.event.Event.TheVariants.{Cover, EndCovers, Drop, Gone}
 use Rattle.derivation.specs.declared.renumbering.Renumbering.{Renumbering}
-use Rattle.derivation.specs.Renumbered.{number_for, renumbered}
+use Rattle.derivation.specs.Renumbered.{number_for, renumbered, StandsFor}
 use Rattle.derivation.specs.Cuts.{near, far, is_empty}
 use Rattle.derivation.specs.Covers.{CoverTree, Leaf, Fork, events_of, cut_event, refutes, covers, IsNumber, HasNumbersIn}
 use Rattle.derivation.specs.PlaceCovers.{PlaceCover, open_events, covers_events, next_place, is_that, all_cover, HaveNumbersIn}
 use Rattle.derivation.specs.Chains.{Link, Drops, Bounds, link_events, bound_event, after, Holds, links_events, behind, EachHolds, Leads, Ending, IsGone, IsDead, ending_events, EndHolds, Closes}
-
--- each number stands for one of the second conditions, which is refuted where its own is
-pub record StandsFor (r : Renumbering) (ps cs : List Cond) : Type 0 where
-  pub refuted : (i : ℕ) (S : State) → refutes ps i S ≡ true → refutes cs (number_for r i) S ≡ true
-  pub within : (i : ℕ) → IsNumber (length ps) i → IsNumber (length cs) (number_for r i)
 
 both : (x y : Bool) → x ≡ true → y ≡ true → (x && y) ≡ true
 both true y e f = f

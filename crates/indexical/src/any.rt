@@ -39,6 +39,20 @@ impl<const K: usize> AnyIndexical<K> {
         AnyIndexical { cond: c, boxes }
     }
 
+    /// The condition.
+    pub fn cond(&self) -> &Cond
+        ensures { result.now ≡ self.now.cond }
+    {
+        &self.cond
+    }
+
+    /// The condition alone.
+    pub fn into_cond(self) -> Cond
+        ensures { result ≡ self.entry.cond }
+    {
+        self.cond
+    }
+
     /// Whether the condition is met by two boxes.
     pub fn has_boxes(&self) -> bool
         ensures { result ≡ is_some self.now.boxes }

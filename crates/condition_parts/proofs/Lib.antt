@@ -1,0 +1,5 @@
+pub mod Naming
+pub mod Either
+pub mod Under
+pub mod Apart
+pub mod Making

@@ -1,0 +1,4 @@
+pub mod Literals
+pub mod Parts
+pub mod Apart
+pub mod Made

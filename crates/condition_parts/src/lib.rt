@@ -1,0 +1,9 @@
+//! Conditions that ask for several things at once, taken apart into one condition for each.
+#![tactic(auto)]
+
+mod literals;
+mod names;
+mod parts;
+mod taken;
+
+pub use taken::{TakenApart, take_apart};
