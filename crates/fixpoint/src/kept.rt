@@ -15,7 +15,7 @@ use super::links::Links;
 use super::pairs::{Pairs, Run};
 use geo_base::MAX_DIMS;
 use geo_conditions::{ObjId, State};
-use indexical::AnyIndexical;
+use indexical::{AnyIndexical, Watched};
 use object_pruning::{Placed, retry, slots};
 use std::alloc::{AllocError, Global};
 
@@ -64,8 +64,26 @@ fn is_spared_by_other<const K: usize>(x: &AnyIndexical<K>, o: ObjId, s: &State<K
     }
 }
 
-// Asks the condition again at what is kept of the object, and forgets where it is refuted. Where it is possible wherever the
-// object is, there is nothing to ask.
+// Asks the condition again at what is kept of the object, and forgets where it is refuted. Where it is possible wherever the object
+// is, since another one has not the place that it asks for, there is nothing to ask.
+fn retry_faced<const K: usize>(
+    x: &AnyIndexical<K>,
+    o: ObjId,
+    s: &State<K>,
+    kept: &mut [Option<Placed<K>>],
+)
+    requires k { K ≤ MAX_DIMS }
+    requires fits { FitsIn x.now.cond s.now }
+    requires object { o.0 < length s.now }
+    ensures { kept.new ≡ map (retried x.now.cond s.now o.0) kept.old }
+{
+    if is_spared_by_other(x, o, s) {
+        return;
+    }
+    retry(kept, s, o, x);
+}
+
+// The same. Nor is there where enough parts are possible that do not name the object.
 fn retry_object<const K: usize>(
     x: &AnyIndexical<K>,
     o: ObjId,
@@ -80,10 +98,26 @@ fn retry_object<const K: usize>(
     if x.surely_spares_anywhere(s, o) {
         return;
     }
-    if is_spared_by_other(x, o, s) {
+    retry_faced(x, o, s, kept);
+}
+
+// The same, with what is watched of the condition.
+fn retry_watched<const K: usize>(
+    x: &AnyIndexical<K>,
+    o: ObjId,
+    s: &State<K>,
+    watched: &mut Watched,
+    kept: &mut [Option<Placed<K>>],
+)
+    requires k { K ≤ MAX_DIMS }
+    requires fits { FitsIn x.now.cond s.now }
+    requires object { o.0 < length s.now }
+    ensures { kept.new ≡ map (retried x.now.cond s.now o.0) kept.old }
+{
+    if x.surely_spares_watched(s, o, watched) {
         return;
     }
-    retry(kept, s, o, x);
+    retry_faced(x, o, s, kept);
 }
 
 // Whether one of the objects is marked.
@@ -106,6 +140,7 @@ fn retry_marked<const K: usize>(
     marks: &[bool],
     o: ObjId,
     s: &State<K>,
+    watched: &mut Watched,
     kept: &mut [Option<Placed<K>>],
 )
     requires k { K ≤ MAX_DIMS }
@@ -116,7 +151,7 @@ fn retry_marked<const K: usize>(
     ensures { RetriesMarked x.now.cond s.now o.0 marks.now kept.old kept.new }
 {
     if is_any_marked(named, marks) {
-        retry_object(x, o, s, kept);
+        retry_watched(x, o, s, watched, kept);
     }
 }
 
@@ -128,6 +163,7 @@ fn retry_number<const K: usize>(
     s: &State<K>,
     marks: &[bool],
     number: u32,
+    watched: &mut [Watched],
     kept: &mut [Option<Placed<K>>],
 )
     requires k { K ≤ MAX_DIMS }
@@ -135,11 +171,20 @@ fn retry_number<const K: usize>(
     requires links { AreLinks (map (λ x. x.cond) list.now) (length s.now) links.now }
     requires object { (o.0 < length s.now) × (length marks.now ≡ length s.now) }
     requires number { (0 < number) × (number - 1 < length list.now) }
+    requires watched { length watched.old ≡ length list.now }
     ensures { RetriesThose (map (λ x. x.cond) list.now) s.now o.0 marks.now
         (λ i. i ≡ number) kept.old kept.new }
 {
     let i = number as usize - 1;
-    retry_marked(&list[i], &links.named[i], marks, o, s, kept);
+    retry_marked(
+        &list[i],
+        &links.named[i],
+        marks,
+        o,
+        s,
+        &mut watched[i],
+        kept,
+    );
 }
 
 // Asks the conditions of a run again at what is kept of the object, and forgets where one is refuted.
@@ -207,6 +252,7 @@ fn ask_others<const K: usize>(
     o: ObjId,
     s: &State<K>,
     marks: &[bool],
+    watched: &mut [Watched],
     kept: &mut [Option<Placed<K>>],
 )
     requires k { K ≤ MAX_DIMS }
@@ -214,11 +260,12 @@ fn ask_others<const K: usize>(
     requires links { AreLinks (map (λ x. x.cond) list.now) (length s.now) links.now }
     requires object { (o.0 < length s.now) × (length marks.now ≡ length s.now) }
     requires others { ArePicks (length list.now) others.now }
+    requires watched { length watched.old ≡ length list.now }
     ensures { RetriesThose (map (λ x. x.cond) list.now) s.now o.0 marks.now
         (Contains others.now) kept.old kept.new }
 {
     for k in 0..others.len() {
-        retry_number(list, links, o, s, marks, others[k], kept);
+        retry_number(list, links, o, s, marks, others[k], watched, kept);
     }
 }
 
@@ -230,12 +277,14 @@ fn ask_again<const K: usize>(
     o: usize,
     s: &State<K>,
     marks: &[bool],
+    watched: &mut [Watched],
     kept: &mut [Option<Placed<K>>],
 )
     requires k { K ≤ MAX_DIMS }
     requires fits { AllFit (map (λ x. x.cond) list.now) s.now }
     requires links { AreLinks (map (λ x. x.cond) list.now) (length s.now) links.now }
     requires object { (o < length s.now) × (length marks.now ≡ length s.now) }
+    requires watched { length watched.old ≡ length list.now }
     requires stand { StandBut (map (λ x. x.cond) list.now) s.now o marks.now kept.old }
     ensures { Stand (map (λ x. x.cond) list.now) s.now o kept.new }
 {
@@ -243,7 +292,7 @@ fn ask_again<const K: usize>(
     let object = ObjId(o as u16);
     let pairs = &links.pairs[o];
     ask_pairs(list, pairs, object, s, marks, kept);
-    ask_others(list, links, &pairs.others, object, s, marks, kept);
+    ask_others(list, links, &pairs.others, object, s, marks, watched, kept);
 }
 
 // Takes all marks away.
@@ -262,6 +311,7 @@ pub fn refresh<const K: usize>(
     o: usize,
     s: &State<K>,
     dirty: &mut [Vec<bool>],
+    watched: &mut [Watched],
     kept: &mut [Vec<Option<Placed<K>>>],
 )
     requires k { K ≤ MAX_DIMS }
@@ -269,11 +319,12 @@ pub fn refresh<const K: usize>(
     requires links { AreLinks (map (λ x. x.cond) list.now) (length s.now) links.now }
     requires object { (o < length s.now) × (length kept.old ≡ length s.now) }
     requires square { IsSquare (length s.now) dirty.old }
+    requires watched { length watched.old ≡ length list.now }
     requires stand { AllStand (map (λ x. x.cond) list.now) s.now dirty.old kept.old }
     ensures kept { StandsAlone (map (λ x. x.cond) list.now) s.now o kept.old kept.new }
     ensures cleared { IsCleared o dirty.old dirty.new }
     ensures square { IsSquare (length s.now) dirty.new }
 {
-    ask_again(list, links, o, s, &dirty[o], &mut kept[o]);
+    ask_again(list, links, o, s, &dirty[o], watched, &mut kept[o]);
     clear(&mut dirty[o]);
 }

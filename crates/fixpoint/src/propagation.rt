@@ -28,7 +28,7 @@ use derivation::{Event, Recorder};
 use geo_base::{KBox, MAX_DIMS, Point};
 use geo_conditions::{MAX_OBJECTS, ObjId, State};
 use geo_state::{Propagate, Settled, Trailed};
-use indexical::AnyIndexical;
+use indexical::{AnyIndexical, Watched};
 use object_pruning::{Placed, Pruned, prune_kept};
 use std::alloc::{AllocError, Global};
 
@@ -105,6 +105,7 @@ fn prune_and_wake<const K: usize, R: Recorder>(
     t: &mut Trailed<K>,
     queued: &mut [bool],
     dirty: &mut [Vec<bool>],
+    watched: &mut [Watched],
     kept: &mut [Vec<Option<Placed<K>>>],
     hints: &mut [Option<Placed<K>>],
     rec: &mut R,
@@ -115,6 +116,7 @@ fn prune_and_wake<const K: usize, R: Recorder>(
         × (length queued.old ≡ length t.old.state) }
     requires links { AreLinks (map (λ x. x.cond) list.now) (length t.old.state) links.now }
     requires square { IsSquare (length t.old.state) dirty.old }
+    requires watched { length watched.old ≡ length list.now }
     requires stand { AllStand (map (λ x. x.cond) list.now) t.old.state dirty.old kept.old }
     ensures pruned { IfOk result (λ a.
         Prunes (map (λ x. x.cond) list.now) t.old.state o a t.new.state) }
@@ -130,7 +132,7 @@ fn prune_and_wake<const K: usize, R: Recorder>(
         (R.list rec.old) (R.list rec.new)) }
     ensures grows { Grows R.keeps R.list R.refusals rec.old rec.new result }
 {
-    refresh(list, links, o, t.state(), dirty, kept);
+    refresh(list, links, o, t.state(), dirty, watched, kept);
     let pruned = prune_linked(list, links, o, t, kept, hints, rec);
     match pruned {
         Ok(Pruned::Same) => {}
@@ -147,6 +149,7 @@ fn prune_queued<const K: usize, R: Recorder>(
     queued: &mut [bool],
     dirty: &mut [Vec<bool>],
     t: &mut Trailed<K>,
+    watched: &mut [Watched],
     kept: &mut [Vec<Option<Placed<K>>>],
     hints: &mut [Option<Placed<K>>],
     rec: &mut R,
@@ -159,6 +162,7 @@ fn prune_queued<const K: usize, R: Recorder>(
     requires bare { BarePossible (map (λ x. x.cond) list.now) t.old.state }
     requires fine { RestFine (map (λ x. x.cond) list.now) t.old.state queued.old }
     requires square { IsSquare (length queued.old) dirty.old }
+    requires watched { length watched.old ≡ length list.now }
     requires stand { AllStand (map (λ x. x.cond) list.now) t.old.state dirty.old kept.old }
     ensures settles { SettlesOr (map (λ x. x.cond) list.now) t.old.state result t.new.state }
     ensures levels { (t.new.levels ≡ t.old.levels) × (t.new.restores ≡ t.old.restores) }
@@ -173,7 +177,7 @@ fn prune_queued<const K: usize, R: Recorder>(
     let mut next = 0;
     while let Some(o) = pop(queued, next) {
         next = o + 1;
-        match prune_and_wake(list, links, o, t, queued, dirty, kept, hints, rec) {
+        match prune_and_wake(list, links, o, t, queued, dirty, watched, kept, hints, rec) {
             Ok(Pruned::Same) => {}
             Ok(Pruned::Changed) => {}
             Ok(Pruned::Empty) => {
@@ -197,6 +201,7 @@ fn settle<const K: usize, R: Recorder>(
     last: &mut State<K>,
     queued: &mut [bool],
     dirty: &mut [Vec<bool>],
+    watched: &mut [Watched],
     kept: &mut [Vec<Option<Placed<K>>>],
     hints: &mut [Option<Placed<K>>],
     t: &mut Trailed<K>,
@@ -209,6 +214,7 @@ fn settle<const K: usize, R: Recorder>(
     requires links { AreLinks (map (λ x. x.cond) list.now) (length queued.old) links.now }
     requires fine { RestFine (map (λ x. x.cond) list.now) last.old queued.old }
     requires square { IsSquare (length queued.old) dirty.old }
+    requires watched { length watched.old ≡ length list.now }
     requires stand { AllStand (map (λ x. x.cond) list.now) last.old dirty.old kept.old }
     ensures settles { SettlesOr (map (λ x. x.cond) list.now) t.old.state result t.new.state }
     ensures levels { (t.new.levels ≡ t.old.levels) × (t.new.restores ≡ t.old.restores) }
@@ -230,7 +236,7 @@ fn settle<const K: usize, R: Recorder>(
         };
     }
     queue_changed(list, links, last, t.state(), queued, dirty);
-    let settled = prune_queued(list, links, queued, dirty, t, kept, hints, rec);
+    let settled = prune_queued(list, links, queued, dirty, t, watched, kept, hints, rec);
     last.copy_from(t.state());
     settled
 }
@@ -257,6 +263,7 @@ pub struct Fixpoint<const K: usize> {
     last: State<K>,
     queued: Vec<bool>,
     dirty: Vec<Vec<bool>>,
+    watched: Vec<Watched>,
     kept: Vec<Vec<Option<Placed<K>>>>,
     hints: Vec<Option<Placed<K>>>,
     ghost dims: { (0 < K) × (K ≤ MAX_DIMS) },
@@ -265,6 +272,7 @@ pub struct Fixpoint<const K: usize> {
         × (length kept.items ≡ length queued.items) },
     ghost fine: { ∥ RestFine (map (λ x. x.cond) list.items) last queued.items ∥₁ },
     ghost square: { IsSquare (length queued.items) dirty.items },
+    ghost watching: { length watched.items ≡ length list.items },
     ghost stand: { AllStand (map (λ x. x.cond) list.items) last dirty.items kept.items },
 }
 
@@ -287,6 +295,7 @@ impl<const K: usize> Fixpoint<K> {
         let last = some_state(alloc, objects)?;
         let queued = Vec::from_elem(alloc, true, objects)?;
         let dirty = no_marks(alloc, objects)?;
+        let watched = Vec::from_elem(alloc, Watched::new(), list.len())?;
         let kept = all_blank(alloc, objects)?;
         let hints = blank_slots(alloc)?;
         Ok(Fixpoint {
@@ -295,6 +304,7 @@ impl<const K: usize> Fixpoint<K> {
             last,
             queued,
             dirty,
+            watched,
             kept,
             hints,
         })
@@ -317,6 +327,7 @@ impl<const K: usize> Propagate<K> for Fixpoint<K> {
             &mut self.last,
             &mut self.queued,
             &mut self.dirty,
+            &mut self.watched,
             &mut self.kept,
             &mut self.hints,
             t,

@@ -13,7 +13,7 @@ use Rattle.geo_conditions.specs.Conditions.{possible, how_many_possible, least_t
 use Rattle.geo_conditions.proofs.Points.{reach_other}
 use Rattle.geo_conditions.proofs.Children.{many_possible}
 use Rattle.indexical.specs.Forbidden.{IsOnShape}
-use Rattle.indexical.specs.Free.{Spares}
+use Rattle.indexical.specs.Free.{Spares, SparesAnywhere}
 use Rattle.indexical.specs.Names.{names, any_names}
 use Rattle.indexical.proofs.Children.{first_possible, first_step, first_least, counted_true, possible_at_least, shape_in_any_box}
 
@@ -79,3 +79,8 @@ spare_enough c n children xs S o s i sparing is same enough f p =
     let many = ap (many_possible T) same in
     let few = f p in
     subst (λ (x : Cond). possible x T ≡ true) (sym is) (possible_at_least n children T (omega (arith, ints, least, many, few, enough)))
+
+-- where one is enough, one does
+pub spare_by_one : (c : Cond) (n : ℤ) (children : Conds) (xs : List Cond) (S : State) (o i : ℕ) (x : Cond) → c ≡ AtLeast n children → xs ≡ children.items.items → n ≤ℤ pos 1 → i < length xs → x ≡ get_or xs i x → SparesAnywhere x S o → SparesAnywhere c S o
+spare_by_one c n children xs S o i x is same one h e spares s =
+    spare_enough c n children xs S o s (i + 1) 1 is same one (spare_more xs S o s i 0 x h (λ p. omega arith) (subst (λ (y : Cond). Spares y S o s) e (spares s)))

@@ -17,6 +17,7 @@ use super::point::tree_possible_at;
 use super::spared::{is_named, tree_spares, tree_spares_anywhere};
 use super::tree::forbid_tree;
 use super::two_boxes::two_boxes;
+use super::watched::{Watched, tree_spares_watched};
 use geo_base::{KBox, MAX_DIMS, Point, Steps, Way};
 use geo_conditions::{Cond, MAX_OBJECTS, ObjId, State, refuted};
 use std::sync::ledger::Ledger;
@@ -112,6 +113,15 @@ impl<const K: usize> AnyIndexical<K> {
             Some(_) => false,
             None => tree_spares_anywhere(&self.cond, s, o),
         }
+    }
+
+    /// The same, with what is watched of the condition, which is asked first and may change.
+    pub fn surely_spares_watched(&self, s: &State<K>, o: ObjId, watched: &mut Watched) -> bool
+        requires k { K ≤ MAX_DIMS }
+        requires fits { FitsIn self.now.cond s.now }
+        ensures { IsTrue result → SparesAnywhere self.now.cond s.now o.0 }
+    {
+        !self.has_boxes() && tree_spares_watched(&self.cond, s, o, watched)
     }
 
     /// What the condition asks of places before it can be in the object's way. Of conditions that are met by two boxes, one of

@@ -14,6 +14,7 @@ mod point;
 mod spared;
 mod tree;
 mod two_boxes;
+mod watched;
 
 pub use any::AnyIndexical;
 pub use apart::ApartIndexical;
@@ -22,3 +23,4 @@ pub use facing::Facing;
 pub use indexical::Indexical;
 pub use placed::PlacedBox;
 pub use tree::TreeIndexical;
+pub use watched::Watched;

@@ -52,7 +52,7 @@ fn shape_spares<const K: usize>(c: &Cond, s: &State<K>, o: ObjId, place: u8) -> 
 }
 
 /// Whether a condition is possible and does not name the object.
-fn spares_unnamed<const K: usize>(c: &Cond, s: &State<K>, o: ObjId) -> bool
+pub fn spares_unnamed<const K: usize>(c: &Cond, s: &State<K>, o: ObjId) -> bool
     requires k { K ≤ MAX_DIMS }
     requires fits { FitsIn c.now s.now }
     ensures { IsTrue result → SparesAnywhere c.now s.now o.0 }
@@ -96,7 +96,7 @@ pub fn tree_spares<const K: usize>(c: &Cond, s: &State<K>, o: ObjId, place: u8) 
 }
 
 /// From so many parts on a condition that asks for all of them is not asked whether it spares an object.
-const MANY_PARTS: usize = 8;
+pub const MANY_PARTS: usize = 8;
 
 /// Whether enough parts of the condition spare the object at any place: a literal or a form that does not name the object and is
 /// possible. No further part is asked where too few are left. A condition that asks for all of many parts is not gone into, since

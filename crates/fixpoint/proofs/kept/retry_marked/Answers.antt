@@ -3,7 +3,7 @@ use Rattle.fixpoint.proofs.Standing.{retries_asked, retries_skipped}
 use Rattle.fixpoint.proofs.kept.retry_marked.Goals as goal
 
 pub returns-then-is_any_marked : goal.returns-then-is_any_marked
-returns-then-is_any_marked g c = retries_asked c.args.x.now.cond c.args.s.now c.args.o.0 c.args.marks.now c.args.kept.now c.retry_object.new.kept c.retry_object.ensures
+returns-then-is_any_marked g c = retries_asked c.args.x.now.cond c.args.s.now c.args.o.0 c.args.marks.now c.args.kept.now c.retry_watched.new.kept c.retry_watched.ensures
 
 pub returns-else-is_any_marked : goal.returns-else-is_any_marked
 returns-else-is_any_marked g c = retries_skipped c.args.x.now.cond c.args.s.now c.args.o.0 c.args.marks.now c.args.named.now c.args.kept.now c.requires.named c.requires.marks (sym c.is_any_marked.ensures ∙ c.if-is_any_marked.false)

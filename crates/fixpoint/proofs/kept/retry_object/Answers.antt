@@ -4,6 +4,3 @@ use Rattle.fixpoint.proofs.kept.retry_object.Goals as goal
 
 pub returns-then-surely_spares_anywhere : goal.returns-then-surely_spares_anywhere
 returns-then-surely_spares_anywhere g c = sym (retried_anywhere c.args.x.now.cond c.args.s.now c.args.o.0 (c.surely_spares_anywhere.ensures c.if-surely_spares_anywhere.true) c.args.kept.now)
-
-pub returns-then-is_spared_by_other : goal.returns-then-is_spared_by_other
-returns-then-is_spared_by_other g c = sym (retried_anywhere c.args.x.now.cond c.args.s.now c.args.o.0 (c.is_spared_by_other.ensures c.if-is_spared_by_other.true) c.args.kept.now)

@@ -27,5 +27,6 @@ invariant_of-result g c =
       objects = (c.in_ok-last.ensures ∙ sym long, c.in_ok-kept.ensures.0 ∙ sym long);
       fine = ∣ fine ∣₁;
       square = subst (λ (m : ℕ). IsSquare m c.in_ok-dirty.dirty.items) (sym long) c.in_ok-dirty.ensures;
+      watching = omega (arith, c.in_ok-watched.ensures.len, c.len.ensures, c.in_ok-watched.watched.ok.0);
       stand = blank_stands cs last c.in_ok-dirty.dirty.items c.in_ok-kept.kept.items c.in_ok-kept.ensures.1;
     }
