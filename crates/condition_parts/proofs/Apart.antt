@@ -190,7 +190,7 @@ apart_none = record {
   bare = λ k c e b. e;
 }
 
-number_same : (r : Renumbering) (i : ℕ) → i ≤ r.same → number_for r i ≡ i
+pub number_same : (r : Renumbering) (i : ℕ) → i ≤ r.same → number_for r i ≡ i
 number_same r i h = ap (λ (b : Bool). cond b i (get_or r.others.items (i - r.same - 1) i)) (le-leb i r.same h)
 
 number_other : (r : Renumbering) (i : ℕ) → r.same < i → number_for r i ≡ get_or r.others.items (i - r.same - 1) i
@@ -220,22 +220,13 @@ module _ (cs fronts rest : List Cond) (ws : List (Option Cond)) (r : Renumbering
     | inr k ↦ let e = number_same r i k in omega (arith, e, k, same)
   ]
 
-  -- the number 1 stands for itself, where there are conditions, and where there are none
-  first_within : (i : ℕ) → i ≡ 1 → IsNumber (length cs) (number_for r i)
-  first_within i e = elim (cases_lt (length cs) 1) [
-    | inl none ↦ elim (cases_lt (i - r.same - 1) (length r.others.items)) [
-      | inl there ↦ let w = a.listed (i - r.same - 1) there in
-          let f : number_for r i ≡ slice_index r.others.items (i - r.same - 1) = number_other r i (omega (arith, e, none, same)) ∙ any_default r.others.items (i - r.same - 1) i 0 there in
-          inl (omega (arith, f, w))
-      | inr past ↦ inr (number_other r i (omega (arith, e, none, same)) ∙ get_or_past r.others.items (i - r.same - 1) i past ∙ e)
-    ]
-    | inr some ↦ inr (number_same r i (omega (arith, e, some, same)) ∙ e)
-  ]
-
   pub stands_all : StandsFor r (fronts ++ rest) cs
   stands_all = record {
     refuted = refuted_all;
-    within = λ i h. elim h [ inl k ↦ inl (number_within i k) | inr k ↦ first_within i k ];
+    listed = number_within;
+    first = λ none.
+        let all = length-append fronts rest in
+        number_other r 1 (omega (arith, none, all, same, a.long)) ∙ get_or_past r.others.items (1 - r.same - 1) 1 (omega (arith, none, all, a.many));
   }
 
   -- more behind the fronts are not seen
@@ -244,9 +235,11 @@ module _ (cs fronts rest : List Cond) (ws : List (Option Cond)) (r : Renumbering
   wholes_front (v ∷ vs) [] qs e = absurd (omega (arith, e))
   wholes_front (v ∷ vs) (p ∷ ps) qs e = ap (λ (ds : List Cond). whole_or v p ∷ ds) (wholes_front vs ps qs (omega (arith, e)))
 
-  pub apart_all : IsTakenApart cs (fronts ++ rest) ws r
+  pub back_all : wholes_of ws (fronts ++ rest) ≡ cs
+  back_all = wholes_front ws fronts rest (a.wide ∙ sym a.long) ∙ a.back
+
+  pub apart_all : IsTakenApart cs (fronts ++ rest) r
   apart_all = record {
-    back = wholes_front ws fronts rest (a.wide ∙ sym a.long) ∙ a.back;
     same = same;
     stands = stands_all;
     enough = λ S h. a.enough S (all_left (λ c. possible c S ≡ true) fronts rest h) (all_right (λ c. possible c S ≡ true) fronts rest h);

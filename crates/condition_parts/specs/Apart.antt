@@ -37,8 +37,7 @@ pub record IsApart (cs fronts rest : List Cond) (wholes : List (Option Cond)) (n
   pub bare : (k : ℕ) (c : Cond) → slice_get cs k ≡ Some c → IsBare c → slice_get fronts k ≡ Some c
 
 -- the parts say together what the conditions say, and each number stands for the condition whose part it names
-pub record IsTakenApart (cs parts : List Cond) (wholes : List (Option Cond)) (r : Renumbering) : Type 0 where
-  pub back : wholes_of wholes parts ≡ cs
+pub record IsTakenApart (cs parts : List Cond) (r : Renumbering) : Type 0 where
   pub same : r.same ≡ length cs
   pub stands : StandsFor r parts cs
   pub enough : (S : State) → NoneRefuted parts S → NoneRefuted cs S

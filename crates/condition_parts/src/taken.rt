@@ -4,7 +4,7 @@ ghost use Rattle.std.specs.Prelude.{◌≡◌, ◌+◌, ◌≤◌, ◌++◌, ◌
 ghost use Rattle.geo_conditions.specs.declared.cond.Cond.{Cond};
 ghost use Rattle.geo_state.specs.Settle.{IsBare};
 ghost use Rattle.condition_parts.specs.Parts.{IsAllOf};
-ghost use Rattle.condition_parts.specs.Apart.{IsTakenApart};
+ghost use Rattle.condition_parts.specs.Apart.{IsTakenApart, wholes_of};
 ghost use Rattle.condition_parts.specs.Made.{HasMade, AddsMade};
 
 use super::names::names_some;
@@ -178,7 +178,9 @@ pub fn take_apart<const K: usize>(
 ) -> Result<TakenApart<K>, AllocError>
     requires { length list.items ≤ 1000000000 }
     ensures apart { IfOk result (λ t. IsTakenApart (map (λ x. x.cond) list.entry.items)
-        (map (λ x. x.cond) t.list.items) t.wholes.items t.numbers) }
+        (map (λ x. x.cond) t.list.items) t.numbers) }
+    ensures back { IfOk result (λ t. wholes_of t.wholes.items (map (λ x. x.cond) t.list.items)
+        ≡ map (λ x. x.cond) list.entry.items) }
     ensures few { IfOk result (λ t. length t.list.items ≤ 1000000000) }
 {
     let count = list.len();

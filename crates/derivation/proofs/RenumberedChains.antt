@@ -1,7 +1,7 @@
 -- A derivation from some conditions is one from others, where each number stands for a condition that is refuted with its own.
-use Rattle.std.proofs.Common.{◌≡◌, ℕ, ◌+◌, Bool, true, false, ◌&&◌, List, [], ◌∷◌, ◌++◌, length, map, refl, sym, ap, ◌∙◌, subst, inl, inr}
+use Rattle.std.proofs.Common.{◌≡◌, ℕ, ◌+◌, Bool, true, false, ◌&&◌, List, [], ◌∷◌, ◌++◌, length, map, refl, sym, ap, ◌∙◌, subst, inl, inr, arith, ◌<◌}
 use Rattle.std.proofs.lemmas.List.{map-append}
-use Rattle.std.proofs.lemmas.Bool.{or_cases, or_left, or_right, and_parts}
+use Rattle.std.proofs.lemmas.Bool.{cases_lt, or_cases, or_left, or_right, and_parts}
 use Rattle.geo_conditions.specs.declared.cond.Cond.{Cond}
 use Rattle.geo_conditions.specs.Reach.{State, Region, reach, with_at, dims}
 use Rattle.derivation.specs.declared.event.Event.{Event}
@@ -107,9 +107,16 @@ module _ (r : Renumbering) where
             (both (covers cs S o s (near side b) (tree_with x)) (covers cs S o s (far side b) (tree_with y)) (covered S o s (near side b) x parts.0) (covered S o s (far side b) y parts.1))
     ]
 
+    within : (i : ℕ) → IsNumber (length ps) i → IsNumber (length cs) (number_for r i)
+    within i (inl k) = inl (f.listed i k)
+    within i (inr e) = elim (cases_lt 0 (length ps)) [
+      | inl some ↦ inl (f.listed i (omega (arith, e, some)))
+      | inr none ↦ inr (ap (number_for r) e ∙ f.first (omega (arith, none)))
+    ]
+
     numbered : (k : ℕ) (t : CoverTree) → HasNumbersIn k (length ps) t → HasNumbersIn k (length cs) (tree_with t)
     unfolding tree_with
-    numbered k (Leaf i) h = f.within i h
+    numbered k (Leaf i) h = within i h
     numbered k (Fork side x y) h = (h.0, numbered k x h.1, numbered k y h.2)
 
     all_covered : (S : State) (o : ℕ) (b : Region) (n : ℕ) (list : List PlaceCover) → all_cover ps S o b n list ≡ true → all_cover cs S o b n (covers_with list) ≡ true

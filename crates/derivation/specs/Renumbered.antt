@@ -1,11 +1,11 @@
 -- Numbers of conditions that stand for others, in events.
-use Rattle.std.specs.Prelude.{◌≡◌, ℕ, ◌-◌, nat_le, if◌then◌else◌, true, List, length, slice_index_or}
+use Rattle.std.specs.Prelude.{◌≡◌, ℕ, ◌-◌, ◌≤◌, nat_le, if◌then◌else◌, true, List, length, slice_index_or}
 use Rattle.geo_conditions.specs.declared.cond.Cond.{Cond}
 use Rattle.geo_conditions.specs.Reach.{State}
 use Rattle.derivation.specs.declared.event.Event.{Event}
 use Rattle.derivation.specs.declared.event.Event.TheVariants.{By, Dead}
 use Rattle.derivation.specs.declared.renumbering.Renumbering.{Renumbering}
-use Rattle.derivation.specs.Covers.{refutes, IsNumber}
+use Rattle.derivation.specs.Covers.{refutes}
 
 -- what the number stands for: itself, or behind the last of those the one of the list
 abbrev pub number_for : Renumbering → ℕ → ℕ
@@ -20,4 +20,6 @@ renumbered r e = e
 -- each number of the first conditions stands for one of the second, which is refuted where its own is
 pub record StandsFor (r : Renumbering) (ps cs : List Cond) : Type 0 where
   pub refuted : (i : ℕ) (S : State) → refutes ps i S ≡ true → refutes cs (number_for r i) S ≡ true
-  pub within : (i : ℕ) → IsNumber (length ps) i → IsNumber (length cs) (number_for r i)
+  pub listed : (i : ℕ) → i ≤ length ps → number_for r i ≤ length cs
+  -- over an empty box the number 1 may stand where there are no conditions
+  pub first : length ps ≡ 0 → number_for r 1 ≡ 1

@@ -10,3 +10,4 @@ pub mod Woken
 pub mod Standing
 pub mod Record
 pub mod Blaming
+pub mod TakenApart

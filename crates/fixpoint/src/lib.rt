@@ -1,6 +1,7 @@
 //! Propagation to the greatest supported state by a queue of objects, each pruned by sweeps.
 #![tactic(auto)]
 
+mod apart;
 mod differences;
 mod kept;
 mod links;
@@ -9,4 +10,4 @@ mod propagation;
 mod queue;
 mod waking;
 
-pub use propagation::Fixpoint;
+pub use apart::Fixpoint;

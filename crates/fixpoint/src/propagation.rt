@@ -257,11 +257,11 @@ fn some_state<const K: usize>(alloc: Global, objects: usize) -> Result<State<K>,
 /// Propagation by a queue of objects, each pruned by sweeps for its places and for the ends of its intervals. All memory but
 /// that of the record is taken at the start.
 #[derive(Drop)]
-pub struct Fixpoint<const K: usize> {
-    list: Vec<AnyIndexical<K>>,
+pub struct QueueFixpoint<const K: usize> {
+    pub list: Vec<AnyIndexical<K>>,
     links: Links,
     last: State<K>,
-    queued: Vec<bool>,
+    pub queued: Vec<bool>,
     dirty: Vec<Vec<bool>>,
     watched: Vec<Watched>,
     kept: Vec<Vec<Option<Placed<K>>>>,
@@ -276,20 +276,20 @@ pub struct Fixpoint<const K: usize> {
     ghost stand: { AllStand (map (λ x. x.cond) list.items) last dirty.items kept.items },
 }
 
-impl<const K: usize> Fixpoint<K> {
+impl<const K: usize> QueueFixpoint<K> {
     /// Propagates that list of conditions on that number of objects.
     pub fn start(
         alloc: Global,
         list: Vec<AnyIndexical<K>>,
         objects: usize,
-    ) -> Result<Fixpoint<K>, AllocError>
+    ) -> Result<QueueFixpoint<K>, AllocError>
         requires k { (0 < K) × (K ≤ MAX_DIMS) }
         requires list { length list.items ≤ 1000000000 }
         requires objects { objects ≤ MAX_OBJECTS }
         ensures conditions { IfOk result (λ p.
-            ⟦<Fixpoint<K> as Propagate<K>>⟧.conditions p ≡ map (λ x. x.cond) list.entry.items) }
+            ⟦<QueueFixpoint<K> as Propagate<K>>⟧.conditions p ≡ map (λ x. x.cond) list.entry.items) }
         ensures objects { IfOk result (λ p.
-            ⟦<Fixpoint<K> as Propagate<K>>⟧.objects p ≡ objects) }
+            ⟦<QueueFixpoint<K> as Propagate<K>>⟧.objects p ≡ objects) }
     {
         let links = links_of(alloc, &list, objects)?;
         let last = some_state(alloc, objects)?;
@@ -298,7 +298,7 @@ impl<const K: usize> Fixpoint<K> {
         let watched = Vec::from_elem(alloc, Watched::new(), list.len())?;
         let kept = all_blank(alloc, objects)?;
         let hints = blank_slots(alloc)?;
-        Ok(Fixpoint {
+        Ok(QueueFixpoint {
             list,
             links,
             last,
@@ -311,7 +311,7 @@ impl<const K: usize> Fixpoint<K> {
     }
 }
 
-impl<const K: usize> Propagate<K> for Fixpoint<K> {
+impl<const K: usize> Propagate<K> for QueueFixpoint<K> {
     ghost conditions = { λ p. map (λ x. x.cond) p.list.items };
 
     ghost objects = { λ p. length p.queued.items };

@@ -7,7 +7,7 @@ use Rattle.fixpoint.specs.Links.{AreLinks}
 use Rattle.fixpoint.specs.Marks.{IsSquare}
 use Rattle.fixpoint.specs.Queue.{RestFine}
 use Rattle.fixpoint.proofs.Standing.{blank_stands}
-use Rattle.fixpoint.proofs.propagation.Fixpoint.start.Goals as goal
+use Rattle.fixpoint.proofs.propagation.QueueFixpoint.start.Goals as goal
 
 pub invariant_of-result : goal.invariant_of-result
 invariant_of-result g c =

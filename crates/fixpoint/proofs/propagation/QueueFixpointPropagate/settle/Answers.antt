@@ -12,7 +12,7 @@ use Rattle.fixpoint.specs.Marks.{MarkRows, IsSquare}
 use Rattle.fixpoint.specs.Queue.{RestFine}
 use Rattle.fixpoint.proofs.Stable.{rest_of}
 use Rattle.fixpoint.proofs.StableRows.{links_taken}
-use Rattle.fixpoint.proofs.propagation.FixpointPropagate.settle.Goals as goal
+use Rattle.fixpoint.proofs.propagation.QueueFixpointPropagate.settle.Goals as goal
 
 pub settle-requires : goal.settle-requires
 settle-requires g c =
