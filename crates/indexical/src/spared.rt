@@ -95,7 +95,8 @@ pub fn tree_spares<const K: usize>(c: &Cond, s: &State<K>, o: ObjId, place: u8) 
     }
 }
 
-/// From so many parts on a condition that asks for all of them is not asked whether it spares an object.
+/// So many parts are many: a condition that asks for all of them is not asked whether it spares an object, and of one that asks for
+/// one of them the parts are watched.
 pub const MANY_PARTS: usize = 8;
 
 /// Whether enough parts of the condition spare the object at any place: a literal or a form that does not name the object and is
