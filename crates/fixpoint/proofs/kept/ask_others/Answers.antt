@@ -1,4 +1,4 @@
-use Rattle.std.proofs.Common.{◌≡◌, ◌+◌, ◌-◌, length, map, arith, rules, slice_index}
+use Rattle.std.proofs.Common.{◌≡◌, ◌+◌, length, map, arith, rules, slice_index}
 use Rattle.std.specs.Prelude.{Contains}
 use Rattle.indexical.specs.declared.any.AnyIndexical.{AnyIndexical}
 use Rattle.sweep.proofs.PickedConditions.{pick_in}
