@@ -98,6 +98,7 @@ stable_group cs o picks r g h = record {
   listed = λ i b. stable _ (decide_contains picks i) (∥∥₁_map h (λ a. a.listed i b));
   faces = λ i x b e. record {
     place = λ ne S t f low other p. ∥∥₁_elim h (hlevel props) (λ a. (a.faces i x b e).place ne S t f low other p);
+    alone = λ ne S f low only v t p other named. ∥∥₁_elim h (hlevel props) (λ a. (a.faces i x b e).alone ne S f low only v t p other named);
     other = stable_other x o g.other g.other_place (∥∥₁_map h (λ a. (a.faces i x b e).other));
   };
 }

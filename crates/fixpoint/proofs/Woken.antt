@@ -2,20 +2,23 @@
 use Rattle.std.proofs.Common.{◌≡◌, ◌≢◌, ◌⊎◌, ℕ, ◌+◌, ◌-◌, ◌<◌, ◌≤◌, Bool, true, false, List, [], ◌∷◌, ◌++◌, length, set, get_or, refl, sym, ap, ◌∙◌, subst, inl, inr, arith, Vec, Global}
 use Rattle.std.proofs.lemmas.Bool.{false≢true, cases_eq}
 use Rattle.std.proofs.lemmas.List.{get_or-set_same, get_or-set_other}
-use Rattle.std.proofs.lemmas.Option.{same_Some, slice_get-get_or}
-use Rattle.std.specs.Prelude.{slice_get, slice_index, Contains, Some}
+use Rattle.std.proofs.lemmas.Option.{same_Some, slice_get-get_or, slice_get_within}
+use Rattle.std.specs.Prelude.{slice_get, slice_index, Some}
 use Rattle.sweep.proofs.PickedConditions.{pick_in}
 use Rattle.std.proofs.Math.ListN.{length-set}
 use Rattle.geo_conditions.specs.declared.cond.Cond.{Cond}
-use Rattle.geo_conditions.specs.Reach.{State, reach}
+use Rattle.geo_conditions.specs.Conditions.{AllFit}
+use Rattle.geo_conditions.specs.Reach.{State, reach, is_only}
+use Rattle.object_pruning.specs.declared.rows.Group.{Group}
+use Rattle.object_pruning.specs.declared.rows.Rows.{Rows}
+use Rattle.object_pruning.specs.InRows.{HaveNumber, IsInGroup}
+use Rattle.object_pruning.proofs.LivePicks.{HaveBelow, fit}
 use Rattle.fixpoint.specs.declared.links.Links.{Links}
-use Rattle.fixpoint.specs.declared.pairs.Pairs.{Pairs}
-use Rattle.fixpoint.specs.declared.pairs.Run.{Run}
 use Rattle.geo_conditions.specs.declared.object.ObjId.{ObjId}
-use Rattle.fixpoint.specs.Links.{AreLinks, row, is_among}
+use Rattle.fixpoint.specs.Links.{AreLinks, AreSomeRows, IsByPlace, row, is_among}
 use Rattle.fixpoint.specs.Marks.{MarkRows, is_marked, IsSquare, MarksAt, NotesChanges}
 use Rattle.fixpoint.specs.Near.{Unhinders, Unhindered, UnhinderedBy}
-use Rattle.fixpoint.specs.Pairs.{IsInRun, IsPair, IsSomewhere}
+use Rattle.fixpoint.specs.Pairs.{IsPair}
 use Rattle.fixpoint.specs.Queue.{Queues, CatchesUp}
 use Rattle.fixpoint.proofs.Linking.{row_set_same, row_set_other, row_before, row_last, length_more, nth, each_named, among_not}
 
@@ -142,8 +145,8 @@ pub marks_stay : (Free : ℕ → Type 0) (u : ℕ) (marks : MarkRows) → ((o : 
 marks_stay Free u marks f = record { stay = λ o v e. e; fresh = λ o n h e. f o n e }
 
 -- conditions of u and v leave each third object free
-pub by_pair : (cs : List Cond) (S : State) (run : Run) (u v : ℕ) → ((i : ℕ) (x : Cond) → IsInRun run i → slice_get cs (i - 1) ≡ Some x → IsPair x u v) → (o : ℕ) → o ≢ u → o ≢ v → UnhinderedBy cs S (IsInRun run) o
-by_pair cs S run u v pair o first second i x b e n = elim ((pair i x b e).named o n) [ inl s ↦ absurd (first s) | inr s ↦ absurd (second s) ]
+pub by_pair : (cs : List Cond) (S : State) (Those : ℕ → Type 0) (u v : ℕ) → ((i : ℕ) (x : Cond) → Those i → slice_get cs (i - 1) ≡ Some x → IsPair x u v) → (o : ℕ) → o ≢ u → o ≢ v → UnhinderedBy cs S Those o
+by_pair cs S Those u v pair o first second i x b e n = elim ((pair i x b e).named o n) [ inl s ↦ absurd (first s) | inr s ↦ absurd (second s) ]
 
 module _ (cs : List Cond) (S : State) (o : ℕ) where
   pub free_both : (P Q R : ℕ → Type 0) → ((i : ℕ) → R i → P i ⊎ Q i) → UnhinderedBy cs S P o → UnhinderedBy cs S Q o → UnhinderedBy cs S R o
@@ -152,17 +155,39 @@ module _ (cs : List Cond) (S : State) (o : ℕ) where
   pub free_one : (number : ℕ) (c : Cond) → slice_get cs (number - 1) ≡ Some c → Unhinders c S o → UnhinderedBy cs S (λ i. i ≡ number) o
   free_one number c at h i x s e = subst (λ (y : Cond). Unhinders y S o) (same_Some _ _ (sym at ∙ subst (λ (m : ℕ). slice_get cs (m - 1) ≡ Some x) s e)) h
 
-  -- both kinds of numbers have all that name u
-  pub free_end : (n u : ℕ) (l : Links) (d : Pairs) → AreLinks cs n l → u < n → UnhinderedBy cs S (IsSomewhere (get_or l.pairs.items u d).runs.items) o → UnhinderedBy cs S (Contains (get_or l.pairs.items u d).others.items) o → Unhindered cs S u o
+  -- the first row and the others have all that name u
+  pub free_end : (n u : ℕ) (l : Links) (d : Rows) → AreLinks cs n l → u < n → UnhinderedBy cs S (HaveNumber (row (get_or l.rows.items u d).rows.items 0)) o → UnhinderedBy cs S (IsByPlace (get_or l.rows.items u d)) o → Unhindered cs S u o
   free_end n u l d a h f g =
-      let pairs = get_or l.pairs.items u d in
+      let rows = (get_or l.rows.items u d).rows.items in
       let picks = row l.picks.items u in
-      let are = a.pairs.each u d h in
-      let all = free_both (IsSomewhere pairs.runs.items) (Contains pairs.others.items) (λ j. IsSomewhere pairs.runs.items j ⊎ Contains pairs.others.items j) (λ j p. p) f g in
+      let are = a.rows.each u d h in
       let each : (j : ℕ) (y : Cond) → j < length picks → Unhinders (get_or cs (nth l u j) y) S o = λ j y b.
       let k = pick_in (length cs) picks j (a.picks u h).within b in
-      all (slice_index picks j) (get_or cs (nth l u j) y) (are.picks.each j b) (slice_get-get_or cs (nth l u j) y k.1) in
+      let w = are.each j b in
+      let i = slice_index picks j in
+      let at = slice_get-get_or cs (nth l u j) y k.1 in
+      elim (cases_eq w.0 0) [
+        | inl z ↦ f i (get_or cs (nth l u j) y) (subst (λ (r : ℕ). HaveNumber (row rows r) i) z w.1) at
+        | inr nz ↦ g i (get_or cs (nth l u j) y) (w.0, nz, w.1) at
+      ] in
       each_named (λ c. Unhinders c S o) cs n u l a h each
+
+  -- where u has not the place of a row alone, its conditions leave the others free
+  pub free_by_place : (u : ℕ) (rows : Rows) → AllFit cs S → u < length S → o ≢ u → AreSomeRows cs u rows → ((r : ℕ) → (is_only (reach S u).places r ≡ false) ⊎ UnhinderedBy cs S (HaveNumber (row rows.rows.items r)) o) → UnhinderedBy cs S (IsByPlace rows) o
+  free_by_place u rows fits there other a either i x w e n = elim (either w.0) [
+    | inl not_only ↦ λ s p. ((a.2.groups w.0 w.2.0 w.2.1 w.2.2).faces i x w.2.3 e).alone w.1 S (fit cs S u fits there i x e) there not_only o s p other n
+    | inr f ↦ f i x w.2 e n
+  ]
+
+  -- of the groups of a row, one after another
+  pub free_group : (gs : List Group) (k : ℕ) (d : Group) → k < length gs → UnhinderedBy cs S (HaveBelow gs k) o → UnhinderedBy cs S (IsInGroup (get_or gs k d)) o → UnhinderedBy cs S (HaveBelow gs (k + 1)) o
+  free_group gs k d h = free_both (HaveBelow gs k) (IsInGroup (get_or gs k d)) (HaveBelow gs (k + 1)) (λ i r. elim (cases_eq r.0 k) [
+    | inl e ↦ inr (subst (λ (x : Group). IsInGroup x i) (same_Some _ _ (sym r.3 ∙ ap (slice_get gs) e ∙ slice_get-get_or gs k d h)) r.4)
+    | inr ne ↦ inl (r.0, r.1, omega (arith, r.2, ne), r.3, r.4)
+  ])
+
+  pub free_groups : (gs : List Group) (k : ℕ) → length gs ≤ k → UnhinderedBy cs S (HaveBelow gs k) o → UnhinderedBy cs S (HaveNumber gs) o
+  free_groups gs k h f i x q = f i x (q.0, q.1, omega (arith, h, slice_get_within gs q.0 q.1 q.2), q.2, q.3)
 
 -- ---- the loop over what differs
 

@@ -1,5 +1,5 @@
 -- Which objects the conditions name, and which conditions name an object, as lists.
-use Rattle.std.specs.Prelude.{◌≡◌, ◌==◌, ◌&&◌, ℕ, zero, suc, nat_eq, ◌<◌, not, Bool, true, false, List, [], ◌∷◌, ◌++◌, length, slice_index_or}
+use Rattle.std.specs.Prelude.{◌≡◌, ◌≢◌, ◌==◌, ◌&&◌, ℕ, zero, suc, nat_eq, ◌<◌, not, Bool, true, false, List, [], ◌∷◌, ◌++◌, length, slice_index_or}
 use Rattle.std.specs.List.{All, AllPairs, list_any}
 use Rattle.std.specs.declared.vec.Vec.{Vec}
 use Rattle.std.specs.declared.alloc.Global.{Global}
@@ -8,7 +8,7 @@ use Rattle.geo_conditions.specs.declared.object.ObjId.{ObjId}
 use Rattle.indexical.specs.Names.{names}
 use Rattle.sweep.specs.Picks.{ArePicks}
 use Rattle.object_pruning.specs.declared.rows.Rows.{Rows}
-use Rattle.object_pruning.specs.InRows.{AreRows}
+use Rattle.object_pruning.specs.InRows.{AreRows, HaveNumber}
 pub use Rattle.object_pruning.specs.InRows.{row}
 use Rattle.fixpoint.specs.declared.links.Links.{Links}
 use Rattle.fixpoint.specs.declared.pairs.Pairs.{Pairs}
@@ -41,6 +41,14 @@ is_among o list = list_any (λ u. u.0 == o) list
 pub record NamedBy (c : Cond) (n : ℕ) (list : List ObjId) : Type 0 where
   pub below : All (λ u. u.0 < n) list
   pub each : (o : ℕ) → o < n → is_among o list ≡ names o c
+
+-- the rows of the object o by picks of conditions
+abbrev pub AreSomeRows : List Cond → ℕ → Rows → Type 0
+AreSomeRows cs o rows = (picks : List ℕ) × ArePicks (length cs) picks × AreRows cs o picks rows
+
+-- another row than the first has the number: its condition asks for a place
+abbrev pub IsByPlace : Rows → ℕ → Type 0
+IsByPlace rows i = (r : ℕ) × (r ≢ 0) × HaveNumber (row rows.rows.items r) i
 
 -- there are rows for each of n objects, and they have its picks
 pub record HaveRows (cs : List Cond) (picks : List (Vec ℕ Global)) (n : ℕ) (rows : List Rows) : Type 0 where

@@ -1,21 +1,23 @@
 //! Waking the neighbours of an object that changed: each is queued, and the changed object is marked in its row of marks.
 
-ghost use Rattle.std.specs.Prelude.{◌≡◌, ◌≢◌, ℕ, ◌-◌, ◌<◌, ◌≤◌, false, true, length, map, slice_get, slice_index_or, slice_set, Contains, IfOk, IsTrue, Some};
+ghost use Rattle.std.specs.Prelude.{◌≡◌, ◌≢◌, ℕ, ◌-◌, ◌<◌, ◌≤◌, false, ◌+◌, true, length, map, slice_get, slice_index_or, slice_set, IfOk, IsTrue, Some};
 ghost use Rattle.std.specs.List.{All};
 ghost use Rattle.geo_conditions.specs.declared.cond.Cond.{Cond};
 ghost use Rattle.geo_conditions.specs.Conditions.{AllFit, FitsIn};
-ghost use Rattle.sweep.specs.Picks.{ArePicks};
-ghost use Rattle.fixpoint.specs.Links.{AreLinks, NamedBy, is_among};
+ghost use Rattle.geo_conditions.specs.Reach.{reach, is_only};
+ghost use Rattle.object_pruning.specs.declared.rows.Group.{Group};
+ghost use Rattle.object_pruning.specs.InRows.{HaveNumber, IsInGroup, IsSomeGroup};
+ghost use Rattle.fixpoint.specs.Links.{AreLinks, AreSomeRows, IsByPlace, NamedBy, is_among};
 ghost use Rattle.fixpoint.specs.Marks.{IsSquare, MarksAt, is_marked};
 ghost use Rattle.fixpoint.specs.Near.{Unhindered, UnhinderedBy, Unhinders};
-ghost use Rattle.fixpoint.specs.Pairs.{IsInRun, IsPair, IsSomewhere, NamePairs};
+ghost use Rattle.fixpoint.specs.Pairs.{IsPair};
 ghost use Rattle.fixpoint.specs.Queue.{Queues};
 
 use super::links::Links;
-use super::pairs::{Pairs, Run};
 use geo_base::MAX_DIMS;
-use geo_conditions::{ObjId, State};
+use geo_conditions::{MAX_SHAPES, ObjId, State};
 use indexical::AnyIndexical;
+use object_pruning::{Group, Rows};
 use std::alloc::{AllocError, Global};
 
 /// A row of marks for each of that number of objects, with no object marked. The answer is an error where memory is short.
@@ -90,11 +92,11 @@ fn wake_named<const K: usize>(
     mark(named, u.0 as usize, queued, dirty);
 }
 
-// Queues the objects that a condition of the numbers names with u, and marks u at each; but not those that u leaves free.
+// Queues the objects that a condition of the group names with u, and marks u at each; but not those that u leaves free.
 fn wake_others<const K: usize>(
     list: &[AnyIndexical<K>],
     links: &Links,
-    others: &[u32],
+    group: &Group,
     u: ObjId,
     s: &State<K>,
     queued: &mut [bool],
@@ -102,30 +104,36 @@ fn wake_others<const K: usize>(
 )
     requires fits { AllFit (map (λ x. x.cond) list.now) s.now }
     requires links { AreLinks (map (λ x. x.cond) list.now) (length queued.old) links.now }
-    requires others { ArePicks (length list.now) others.now }
+    requires numbers { (i : ℕ) → IsInGroup group.now i → (0 < i) × (i - 1 < length list.now) }
     requires object { u.0 < length queued.old }
     requires square { IsSquare (length queued.old) dirty.old }
-    ensures queued { Queues (UnhinderedBy (map (λ x. x.cond) list.now) s.now (Contains others.now))
+    ensures queued { Queues (UnhinderedBy (map (λ x. x.cond) list.now) s.now (IsInGroup group.now))
         u.0 queued.old queued.new }
-    ensures marked { MarksAt (UnhinderedBy (map (λ x. x.cond) list.now) s.now (Contains others.now))
+    ensures marked { MarksAt (UnhinderedBy (map (λ x. x.cond) list.now) s.now (IsInGroup group.now))
         u.0 dirty.old dirty.new }
     ensures square { IsSquare (length queued.old) dirty.new }
 {
-    for k in 0..others.len() {
-        let i = others[k] as usize - 1;
-        wake_named(&list[i], &links.named[i], u, s, queued, dirty);
+    let first = group.first as usize;
+    let end = group.last as usize + 1;
+    for i in first..end {
+        wake_named(&list[i - 1], &links.named[i - 1], u, s, queued, dirty);
     }
 }
 
-// Whether u, as the state has it, may hinder another object by a condition of the run.
-fn may_hinder<const K: usize>(list: &[AnyIndexical<K>], run: &Run, u: ObjId, s: &State<K>) -> bool
+// Whether u, as the state has it, may hinder another object by a condition of the group.
+fn may_hinder<const K: usize>(
+    list: &[AnyIndexical<K>],
+    group: &Group,
+    u: ObjId,
+    s: &State<K>,
+) -> bool
     requires fits { AllFit (map (λ x. x.cond) list.now) s.now }
-    requires numbers { (i : ℕ) → IsInRun run.now i → (0 < i) × (i - 1 < length list.now) }
+    requires numbers { (i : ℕ) → IsInGroup group.now i → (0 < i) × (i - 1 < length list.now) }
     ensures { result ≡ false → (o : ℕ) → o ≢ u.0
-        → UnhinderedBy (map (λ x. x.cond) list.now) s.now (IsInRun run.now) o }
+        → UnhinderedBy (map (λ x. x.cond) list.now) s.now (IsInGroup group.now) o }
 {
-    let first = run.first as usize;
-    let end = first + run.count as usize;
+    let first = group.first as usize;
+    let end = group.last as usize + 1;
     for i in first..end {
         if !list[i - 1].surely_leaves_free(s, u) {
             return true;
@@ -144,10 +152,10 @@ fn is_woken(queued: &[bool], dirty: &[Vec<bool>], u: usize, v: usize) -> bool
     queued[v] && dirty[v][u]
 }
 
-// Queues v and marks u at it, where u may hinder it by a condition of the run, and the conditions of the run name no third object.
+// Queues v and marks u at it, where u may hinder it by a condition of the group, and its conditions name no third object.
 fn wake_one<const K: usize>(
     list: &[AnyIndexical<K>],
-    run: &Run,
+    group: &Group,
     u: ObjId,
     v: usize,
     s: &State<K>,
@@ -155,14 +163,14 @@ fn wake_one<const K: usize>(
     dirty: &mut [Vec<bool>],
 )
     requires fits { AllFit (map (λ x. x.cond) list.now) s.now }
-    requires numbers { (i : ℕ) → IsInRun run.now i → (0 < i) × (i - 1 < length list.now) }
-    requires pair { (i : ℕ) (x : Cond) → IsInRun run.now i
+    requires numbers { (i : ℕ) → IsInGroup group.now i → (0 < i) × (i - 1 < length list.now) }
+    requires pair { (i : ℕ) (x : Cond) → IsInGroup group.now i
         → slice_get (map (λ x. x.cond) list.now) (i - 1) ≡ Some x → IsPair x u.0 v }
     requires objects { (u.0 < length queued.old) × (v < length queued.old) }
     requires square { IsSquare (length queued.old) dirty.old }
-    ensures queued { Queues (UnhinderedBy (map (λ x. x.cond) list.now) s.now (IsInRun run.now))
+    ensures queued { Queues (UnhinderedBy (map (λ x. x.cond) list.now) s.now (IsInGroup group.now))
         u.0 queued.old queued.new }
-    ensures marked { MarksAt (UnhinderedBy (map (λ x. x.cond) list.now) s.now (IsInRun run.now))
+    ensures marked { MarksAt (UnhinderedBy (map (λ x. x.cond) list.now) s.now (IsInGroup group.now))
         u.0 dirty.old dirty.new }
     ensures square { IsSquare (length queued.old) dirty.new }
 {
@@ -173,35 +181,110 @@ fn wake_one<const K: usize>(
     if is_woken(queued, dirty, changed, v) {
         return;
     }
-    if may_hinder(list, run, u, s) {
+    if may_hinder(list, group, u, s) {
         wake_at(changed, v, queued, dirty);
     }
 }
 
-// The same for the run of each object.
-fn wake_pairs<const K: usize>(
+// The same for a group of any kind.
+fn wake_group<const K: usize>(
     list: &[AnyIndexical<K>],
-    pairs: &Pairs,
+    links: &Links,
+    group: &Group,
     u: ObjId,
     s: &State<K>,
     queued: &mut [bool],
     dirty: &mut [Vec<bool>],
 )
     requires fits { AllFit (map (λ x. x.cond) list.now) s.now }
-    requires runs { length pairs.now.runs.items ≡ length queued.old }
-    requires pairs { NamePairs (map (λ x. x.cond) list.now) u.0
-        pairs.now.runs.items pairs.now.others.items }
-    requires object { u.0 < length queued.old }
+    requires links { AreLinks (map (λ x. x.cond) list.now) (length queued.old) links.now }
+    requires group { IsSomeGroup (map (λ x. x.cond) list.now) u.0 group.now }
+    requires object { (u.0 < length queued.old) × (length queued.old ≡ length s.now) }
     requires square { IsSquare (length queued.old) dirty.old }
-    ensures queued { Queues (UnhinderedBy (map (λ x. x.cond) list.now) s.now
-        (IsSomewhere pairs.now.runs.items)) u.0 queued.old queued.new }
-    ensures marked { MarksAt (UnhinderedBy (map (λ x. x.cond) list.now) s.now
-        (IsSomewhere pairs.now.runs.items)) u.0 dirty.old dirty.new }
+    ensures queued { Queues (UnhinderedBy (map (λ x. x.cond) list.now) s.now (IsInGroup group.now))
+        u.0 queued.old queued.new }
+    ensures marked { MarksAt (UnhinderedBy (map (λ x. x.cond) list.now) s.now (IsInGroup group.now))
+        u.0 dirty.old dirty.new }
     ensures square { IsSquare (length queued.old) dirty.new }
 {
-    let runs = pairs.runs.as_slice();
-    for v in 0..runs.len() {
-        wake_one(list, &runs[v], u, v, s, queued, dirty);
+    match group.other {
+        Some(v) => wake_one(list, group, u, v.0 as usize, s, queued, dirty),
+        None => wake_others(list, links, group, u, s, queued, dirty),
+    }
+}
+
+// The same for each group of a row.
+fn wake_row<const K: usize>(
+    list: &[AnyIndexical<K>],
+    links: &Links,
+    groups: &[Group],
+    u: ObjId,
+    s: &State<K>,
+    queued: &mut [bool],
+    dirty: &mut [Vec<bool>],
+)
+    requires fits { AllFit (map (λ x. x.cond) list.now) s.now }
+    requires links { AreLinks (map (λ x. x.cond) list.now) (length queued.old) links.now }
+    requires groups { (k : ℕ) (g : Group) → slice_get groups.now k ≡ Some g
+        → IsSomeGroup (map (λ x. x.cond) list.now) u.0 g }
+    requires object { (u.0 < length queued.old) × (length queued.old ≡ length s.now) }
+    requires square { IsSquare (length queued.old) dirty.old }
+    ensures queued { Queues (UnhinderedBy (map (λ x. x.cond) list.now) s.now
+        (HaveNumber groups.now)) u.0 queued.old queued.new }
+    ensures marked { MarksAt (UnhinderedBy (map (λ x. x.cond) list.now) s.now
+        (HaveNumber groups.now)) u.0 dirty.old dirty.new }
+    ensures square { IsSquare (length queued.old) dirty.new }
+{
+    for k in 0..groups.len() {
+        wake_group(list, links, &groups[k], u, s, queued, dirty);
+    }
+}
+
+// The place that the object has alone, if there is one.
+fn only_place<const K: usize>(s: &State<K>, u: ObjId) -> Option<u8>
+    requires k { K ≤ MAX_DIMS }
+    requires object { u.0 < length s.now }
+    ensures { (r : ℕ) → is_only (reach s.now u.0).places r ≡ true → result ≡ Some r }
+{
+    let places = s.places(u);
+    for i in 0..MAX_SHAPES {
+        let place = i as u8 + 1;
+        if places.has(place) {
+            return if places.is_only(place) {
+                Some(place)
+            } else {
+                None
+            };
+        }
+    }
+    None
+}
+
+// The same for the conditions that ask for a place of u: where u has not that place alone, they leave the others free.
+fn wake_by_place<const K: usize>(
+    list: &[AnyIndexical<K>],
+    links: &Links,
+    rows: &Rows,
+    u: ObjId,
+    s: &State<K>,
+    queued: &mut [bool],
+    dirty: &mut [Vec<bool>],
+)
+    requires k { K ≤ MAX_DIMS }
+    requires fits { AllFit (map (λ x. x.cond) list.now) s.now }
+    requires links { AreLinks (map (λ x. x.cond) list.now) (length queued.old) links.now }
+    requires rows { AreSomeRows (map (λ x. x.cond) list.now) u.0 rows.now }
+    requires object { (u.0 < length queued.old) × (length queued.old ≡ length s.now) }
+    requires square { IsSquare (length queued.old) dirty.old }
+    ensures queued { Queues (UnhinderedBy (map (λ x. x.cond) list.now) s.now
+        (IsByPlace rows.now)) u.0 queued.old queued.new }
+    ensures marked { MarksAt (UnhinderedBy (map (λ x. x.cond) list.now) s.now
+        (IsByPlace rows.now)) u.0 dirty.old dirty.new }
+    ensures square { IsSquare (length queued.old) dirty.new }
+{
+    if let Some(place) = only_place(s, u) {
+        let groups = rows.row(usize::from(place));
+        wake_row(list, links, groups, u, s, queued, dirty);
     }
 }
 
@@ -227,7 +310,7 @@ pub fn wake<const K: usize>(
 {
     let _objects = s.objects();
     let changed = ObjId(u as u16);
-    let pairs = &links.pairs[u];
-    wake_pairs(list, pairs, changed, s, queued, dirty);
-    wake_others(list, links, &pairs.others, changed, s, queued, dirty);
+    let rows = &links.rows[u];
+    wake_row(list, links, rows.row(0), changed, s, queued, dirty);
+    wake_by_place(list, links, rows, changed, s, queued, dirty);
 }

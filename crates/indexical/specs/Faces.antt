@@ -4,12 +4,16 @@ use Rattle.geo_conditions.specs.declared.cond.Cond.{Cond}
 use Rattle.geo_conditions.specs.Reach.{State, reach, is_only}
 use Rattle.geo_conditions.specs.Conditions.{FitsIn}
 use Rattle.indexical.specs.declared.facing.Facing.{Facing}
-use Rattle.indexical.specs.Free.{Spares, SparesAnywhere}
+use Rattle.indexical.specs.Free.{LeavesFree, Spares, SparesAnywhere}
 use Rattle.indexical.specs.Names.{names}
 
 -- at another place than s the object o is spared
 abbrev pub SparesElsewhere : Cond → ℕ → ℕ → Type 0
 SparesElsewhere c o s = (S : State) (t : ℕ) → FitsIn c S → o < length S → t ≢ s → Spares c S o t
+
+-- where the object o has not the place s alone, it leaves the others free
+abbrev pub LeavesFreeUnless : Cond → ℕ → ℕ → Type 0
+LeavesFreeUnless c o s = (S : State) → FitsIn c S → o < length S → is_only (reach S o).places s ≡ false → LeavesFree c S o
 
 -- where the object u has not the place s alone, the object o is spared
 abbrev pub SparesUnless : Cond → ℕ → ℕ → ℕ → Type 0
@@ -25,4 +29,5 @@ pub record IsBeside (c : Cond) (o u s : ℕ) : Type 0 where
 -- the condition asks for these places before it can be in the way of the object o
 pub record Faces (c : Cond) (o : ℕ) (f : Facing) : Type 0 where
   pub place : f.place ≢ 0 → SparesElsewhere c o f.place
+  pub alone : f.place ≢ 0 → LeavesFreeUnless c o f.place
   pub other : IfSome f.other (λ u. IsBeside c o u.0 f.other_place)

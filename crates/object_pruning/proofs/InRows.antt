@@ -11,7 +11,7 @@ use Rattle.geo_conditions.specs.declared.object.ObjId.{ObjId}
 use Rattle.geo_conditions.specs.declared.object.TheConstants.{MAX_SHAPES}
 use Rattle.geo_conditions.specs.declared.cond.Cond.{Cond}
 use Rattle.indexical.specs.declared.facing.Facing.{Facing}
-use Rattle.indexical.specs.Faces.{Faces, SparesElsewhere}
+use Rattle.indexical.specs.Faces.{Faces, LeavesFreeUnless, SparesElsewhere}
 use Rattle.object_pruning.specs.declared.rows.Group.{Group}
 use Rattle.object_pruning.specs.InRows.{row, IsInGroup, HaveNumber, IsGroup, AreGroups, AreRowsBelow, group_of, longer, PutsNumber}
 
@@ -94,7 +94,11 @@ module _ (cs : List Cond) (o : ℕ) (picks : List ℕ) (r : ℕ) where
     faces = λ j x b p.
         let e : j ≡ i = omega (arith, b.0, b.1) in
         let y = faces x (subst (λ (n : ℕ). slice_get cs (n - 1) ≡ Some x) e p) in
-        record { place = λ ne. subst (SparesElsewhere x o) (sym (place ne)) (y.place (λ z. ne (place ne ∙ z))); other = y.other };
+        record {
+          place = λ ne. subst (SparesElsewhere x o) (sym (place ne)) (y.place (λ z. ne (place ne ∙ z)));
+          alone = λ ne. subst (LeavesFreeUnless x o) (sym (place ne)) (y.alone (λ z. ne (place ne ∙ z)));
+          other = y.other;
+        };
   }
 
   abbrev facing_at : Option ObjId → ℕ → Facing

@@ -1,4 +1,4 @@
-use Rattle.std.proofs.Common.{◌-◌, length, map, sym, subst, slice_index}
+use Rattle.std.proofs.Common.{length, map, sym, subst, slice_index}
 use Rattle.indexical.specs.declared.any.AnyIndexical.{AnyIndexical}
 use Rattle.sweep.specs.Picks.{ArePicks, PicksAt}
 use Rattle.sweep.proofs.PickedConditions.{picks-map}

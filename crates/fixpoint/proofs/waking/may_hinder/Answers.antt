@@ -5,7 +5,7 @@ use Rattle.geo_conditions.specs.declared.cond.Cond.{Cond}
 use Rattle.geo_conditions.specs.Conditions.{FitsIn}
 use Rattle.indexical.specs.declared.any.AnyIndexical.{AnyIndexical}
 use Rattle.object_pruning.proofs.LivePicks.{at_number}
-use Rattle.fixpoint.specs.Pairs.{IsInRun}
+use Rattle.object_pruning.specs.InRows.{IsInGroup}
 use Rattle.fixpoint.proofs.Woken.{free_both, free_one}
 use Rattle.fixpoint.proofs.waking.may_hinder.Goals as goal
 
@@ -30,12 +30,12 @@ pub loop-i-preserved : goal.loop-i-preserved
 loop-i-preserved g c = λ o ne.
     let f = λ (x : AnyIndexical g.row.K). x.cond in
     let cs = map f c.args.list.now in
-    let run = c.args.run.now in
+    let group = c.args.group.now in
     let k = c.loop-i.i in
     let i = k - 1 in
     let m : i < length c.args.list.now = (c.requires.numbers k (omega arith, omega arith)).1 in
     let x = c.index-list-i.result in
-    free_both cs c.args.s.now o (λ i. IsInRun run i × (i < k)) (λ i. i ≡ k) (λ i. IsInRun run i × (i < k + 1))
+    free_both cs c.args.s.now o (λ i. IsInGroup group i × (i < k)) (λ i. i ≡ k) (λ i. IsInGroup group i × (i < k + 1))
     (λ i r. elim (cases_eq i k) [ inl e ↦ inr e | inr other ↦ inl (r.0, omega (arith, r.1, other)) ])
     (c.loop-i.invariant o ne)
     (free_one cs c.args.s.now o k x.cond (at_number f c.args.list.now i x m c.index-list-i.is) (λ n s p. (c.surely_leaves_free.ensures c.if-not-surely_leaves_free.false) o s p ne n))

@@ -1,45 +1,43 @@
-use Rattle.std.proofs.Common.{◌≡◌, ◌<◌, ℕ, List, length, map, sym, subst, arith, rules}
-use Rattle.std.specs.Prelude.{Contains}
-use Rattle.std.proofs.lemmas.List.{length-map}
+use Rattle.std.proofs.Common.{◌≡◌, ◌<◌, ◌∙◌, ℕ, List, length, map, sym, subst, arith, rules, Some}
+use Rattle.std.specs.Prelude.{slice_get}
 use Rattle.indexical.specs.declared.any.AnyIndexical.{AnyIndexical}
-use Rattle.sweep.specs.Picks.{ArePicks}
-use Rattle.fixpoint.specs.declared.pairs.Pairs.{Pairs}
-use Rattle.fixpoint.specs.Links.{AreLinks, row}
+use Rattle.object_pruning.specs.declared.rows.Group.{Group}
+use Rattle.object_pruning.specs.declared.rows.Rows.{Rows}
+use Rattle.object_pruning.specs.InRows.{AreRows, HaveNumber, IsSomeGroup}
+use Rattle.object_pruning.proofs.LivePicks.{rows_some}
+use Rattle.fixpoint.specs.Links.{AreLinks, AreSomeRows, IsByPlace, row}
 use Rattle.fixpoint.specs.Marks.{IsSquare, MarksAt}
 use Rattle.fixpoint.specs.Near.{UnhinderedBy}
-use Rattle.fixpoint.specs.Pairs.{ArePairs, IsSomewhere, NamePairs}
 use Rattle.fixpoint.specs.Queue.{Queues}
 use Rattle.fixpoint.proofs.Woken.{queues_both, marks_both, free_end}
 use Rattle.fixpoint.proofs.waking.wake.Goals as goal
 
-pub wake_pairs-requires : goal.wake_pairs-requires
-wake_pairs-requires g c =
+pub wake_row-requires : goal.wake_row-requires
+wake_row-requires g c =
+    let cs = map (λ (x : AnyIndexical g.row.K). x.cond) c.args.list.now in
+    let u = c.args.u in
+    let l = c.args.links.now in
+    let own = c.index-rows.result.now in
+    let are : AreRows cs u (row l.picks.items u) own = subst (AreRows cs u (row l.picks.items u)) (sym c.index-rows.ensures) (c.requires.links.rows.each u own c.requires.object.0) in
+    let there : u < length c.args.s.now = omega (arith, c.requires.object.0, c.requires.object.1) in
+    let some : (k : ℕ) (h : Group) → slice_get c.row.result.now k ≡ Some h → IsSomeGroup cs u h = rows_some cs c.args.s.now u c.requires.fits there (row l.picks.items u) own are (c.requires.links.picks u c.requires.object.0).within 0 c.row.result.now c.row.ensures in
+    search rules
+
+pub wake_by_place-requires : goal.wake_by_place-requires
+wake_by_place-requires g c =
     let cs = map (λ (x : AnyIndexical g.row.K). x.cond) c.args.list.now in
     let n = length c.args.queued.now in
     let u = c.args.u in
     let l = c.args.links.now in
-    let own = c.index-pairs.result.now in
-    let are : ArePairs cs u (row l.picks.items u) n own = subst (ArePairs cs u (row l.picks.items u) n) (sym c.index-pairs.ensures) (c.requires.links.pairs.each u own c.requires.object.0) in
-    let runs : length own.runs.items ≡ n = are.objects in
-    let named : NamePairs cs u own.runs.items own.others.items = are.picks.named in
-    search rules
-
-pub wake_others-requires : goal.wake_others-requires
-wake_others-requires g c =
-    let f = λ (x : AnyIndexical g.row.K). x.cond in
-    let cs = map f c.args.list.now in
-    let n = length c.args.queued.now in
-    let u = c.args.u in
-    let l = c.args.links.now in
-    let own = c.index-pairs.result.now in
-    let q = c.wake_pairs.new.queued in
-    let dirty = c.wake_pairs.new.dirty in
-    let are : ArePairs cs u (row l.picks.items u) n own = subst (ArePairs cs u (row l.picks.items u) n) (sym c.index-pairs.ensures) (c.requires.links.pairs.each u own c.requires.object.0) in
-    let within : ArePicks (length c.args.list.now) c.deref.result.now = subst (λ (m : ℕ). ArePicks m c.deref.result.now) (length-map c.args.list.now f) (subst (ArePicks (length cs)) (sym c.deref.ensures.value) are.picks.named.others) in
-    let long : length q ≡ n = c.wake_pairs.auto.queued in
+    let own = c.index-rows.result.now in
+    let q = c.wake_row.new.queued in
+    let dirty = c.wake_row.new.dirty in
+    let are : AreRows cs u (row l.picks.items u) own = subst (AreRows cs u (row l.picks.items u)) (sym c.index-rows.ensures) (c.requires.links.rows.each u own c.requires.object.0) in
+    let some : AreSomeRows cs u own = (row l.picks.items u, (c.requires.links.picks u c.requires.object.0).within, are) in
+    let long : length q ≡ n = c.wake_row.auto.queued in
     let links : AreLinks cs (length q) l = subst (λ (m : ℕ). AreLinks cs m l) (sym long) c.requires.links in
-    let square : IsSquare (length q) dirty = subst (λ (m : ℕ). IsSquare m dirty) (sym long) c.wake_pairs.ensures.square in
-    let there : u < length q = omega (arith, long, c.requires.object.0) in
+    let square : IsSquare (length q) dirty = subst (λ (m : ℕ). IsSquare m dirty) (sym long) c.wake_row.ensures.square in
+    let there : (u < length q) × (length q ≡ length c.args.s.now) = (omega (arith, long, c.requires.object.0), long ∙ c.requires.object.1) in
     search rules
 
 pub returns-clause-queued : goal.returns-clause-queued
@@ -49,13 +47,13 @@ returns-clause-queued g c =
     let n = length c.args.queued.now in
     let u = c.args.u in
     let l = c.args.links.now in
-    let own = c.index-pairs.result.now in
+    let own = c.index-rows.result.now in
     let old = c.args.queued.now in
-    let mid = c.wake_pairs.new.queued in
-    let new = c.wake_others.new.queued in
-    let first = subst (λ (p : Pairs). Queues (UnhinderedBy cs S (IsSomewhere p.runs.items)) u old mid) c.index-pairs.ensures c.wake_pairs.ensures.queued in
-    let others = subst (λ (ns : List ℕ). Queues (UnhinderedBy cs S (Contains ns)) u mid new) c.deref.ensures.value c.wake_others.ensures.queued in
-    let second = subst (λ (p : Pairs). Queues (UnhinderedBy cs S (Contains p.others.items)) u mid new) c.index-pairs.ensures others in
+    let mid = c.wake_row.new.queued in
+    let new = c.wake_by_place.new.queued in
+    let row_first = subst (λ (gs : List Group). Queues (UnhinderedBy cs S (HaveNumber gs)) u old mid) c.row.ensures c.wake_row.ensures.queued in
+    let first = subst (λ (r : Rows). Queues (UnhinderedBy cs S (HaveNumber (row r.rows.items 0))) u old mid) c.index-rows.ensures row_first in
+    let second = subst (λ (r : Rows). Queues (UnhinderedBy cs S (IsByPlace r)) u mid new) c.index-rows.ensures c.wake_by_place.ensures.queued in
     queues_both _ _ _ u old mid new (λ o. free_end cs S o n u l own c.requires.links c.requires.object.0) first second
 
 pub returns-clause-marked : goal.returns-clause-marked
@@ -65,11 +63,11 @@ returns-clause-marked g c =
     let n = length c.args.queued.now in
     let u = c.args.u in
     let l = c.args.links.now in
-    let own = c.index-pairs.result.now in
+    let own = c.index-rows.result.now in
     let old = c.args.dirty.now in
-    let mid = c.wake_pairs.new.dirty in
-    let new = c.wake_others.new.dirty in
-    let first = subst (λ (p : Pairs). MarksAt (UnhinderedBy cs S (IsSomewhere p.runs.items)) u old mid) c.index-pairs.ensures c.wake_pairs.ensures.marked in
-    let others = subst (λ (ns : List ℕ). MarksAt (UnhinderedBy cs S (Contains ns)) u mid new) c.deref.ensures.value c.wake_others.ensures.marked in
-    let second = subst (λ (p : Pairs). MarksAt (UnhinderedBy cs S (Contains p.others.items)) u mid new) c.index-pairs.ensures others in
-    marks_both _ _ _ u old mid new c.wake_pairs.auto.dirty (λ o. free_end cs S o n u l own c.requires.links c.requires.object.0) first second
+    let mid = c.wake_row.new.dirty in
+    let new = c.wake_by_place.new.dirty in
+    let row_first = subst (λ (gs : List Group). MarksAt (UnhinderedBy cs S (HaveNumber gs)) u old mid) c.row.ensures c.wake_row.ensures.marked in
+    let first = subst (λ (r : Rows). MarksAt (UnhinderedBy cs S (HaveNumber (row r.rows.items 0))) u old mid) c.index-rows.ensures row_first in
+    let second = subst (λ (r : Rows). MarksAt (UnhinderedBy cs S (IsByPlace r)) u mid new) c.index-rows.ensures c.wake_by_place.ensures.marked in
+    marks_both _ _ _ u old mid new c.wake_row.auto.dirty (λ o. free_end cs S o n u l own c.requires.links c.requires.object.0) first second
