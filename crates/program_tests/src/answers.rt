@@ -1,8 +1,18 @@
 // What words and an input are answered with, against texts that were worked out by hand.
+use crate::listing::{COUNTS, PAGES, TOKENS};
+use crate::making::{BUDGET, FORMS, SEEDS};
 use geo_chan::{CleanSink, CleanSource, Source};
 use geost_run::{Status, run};
 use std::alloc::{AllocError, Global};
 use std::test::Fail;
+
+// Words and an input, with the status and the text.
+pub type Row = (
+    &'static [&'static str],
+    &'static [u8],
+    Status,
+    &'static [u8],
+);
 
 // Two boxes of size 2 on the cells 0 to 4.
 pub const TWO_BOXES: &[u8] =
@@ -28,7 +38,7 @@ pub fn asked(alloc: Global, list: &[&str], input: &[u8]) -> Result<(Status, Vec<
 }
 
 // Whether the words have that status and that text for an input, and leave so many of its first 200 bytes, where that is asked.
-pub fn answers(
+fn answers(
     alloc: Global,
     (list, input): (&[&str], &[u8]),
     (status, text): (Status, &[u8]),
@@ -73,92 +83,134 @@ const KIND: &[u8] =
 const PRODUCT: &[u8] =
     b"geost 1 dims 1 shape s box 0 size 1 ; object a as s at 0..9 ; rule r : a.x1 * 0 * a.x1 <= 4 ; end";
 
-#[test]
-fn words_have_their_answers(rt: HostRuntime) -> Result<(), Fail> {
-    let rows: &[(&[&str], &[u8], Status, &[u8])] = &[
-        (
-            &["first", "4"],
-            TWO_BOXES,
-            Status::Answered,
-            FIRST_OF_TWO_BOXES,
-        ),
-        (&["first", "3"], TWO_BOXES, Status::Budget, b"budget 3\n"),
-        (&["first", "1"], b"", Status::Refused, b"refused 0 syntax\n"),
-        (
-            &["first", "3"],
-            TWO_SHAPES,
-            Status::Answered,
-            b"layout\na as tall at 0 0\ntoken 2,0,0\n",
-        ),
-        (
-            &["first", "4"],
-            FROM_ABOVE,
-            Status::Answered,
-            b"layout\na as s at 3\nb as s at 1\ntoken 1,3/1,1\n",
-        ),
-        (&["first", "1"], FORMULA, Status::Budget, b"budget 1\n"),
-        (
-            &["first", "2"],
-            FORMULA,
-            Status::Answered,
-            b"layout\na as s at 4\ntoken 1,4\n",
-        ),
-        (
-            &["show"],
-            TWO_BOXES,
-            Status::Answered,
-            b"geost 1 dims 1\nshape s box 0 size 2 ;\nobject a as s at 0..3 ;\nobject b as s at 0..3 ;\nrule r : apart ;\nend\n",
-        ),
-        (&["judge"], FITTING, Status::Answered, b"good\n"),
-        (&["judge"], OVERLAPPING, Status::No, b"broken r\n"),
-        (&["judge"], OUTSIDE, Status::Refused, b"refused 136 range\n"),
-        (&["draw"], FITTING, Status::Answered, b"box 0..3\naabb\n"),
-        (&["draw"], OVERLAPPING, Status::Answered, b"box 0..2\na#b\n"),
-        (
-            &["draw"],
-            LAYERS,
-            Status::Answered,
-            b"box 0..1 0..1 -1..1\nlayer -1\na.\n..\nlayer 0\n..\nbb\nlayer 1\n..\nbb\n",
-        ),
-        (&["draw"], FAR, Status::No, b"large\n"),
-        (&["draw"], OUTSIDE, Status::Refused, b"refused 136 range\n"),
-    ];
-    for (list, input, status, text) in rows {
-        let is_right = answers(rt.alloc(), (list, input), (*status, text), None)?;
-        assert!(rt; is_right, "{text:?}");
-    }
-    Ok(())
-}
+const ROWS: &[Row] = &[
+    (
+        &["first", "4"],
+        TWO_BOXES,
+        Status::Answered,
+        FIRST_OF_TWO_BOXES,
+    ),
+    (&["first", "3"], TWO_BOXES, Status::Budget, b"budget 3\n"),
+    (&["first", "1"], b"", Status::Refused, b"refused 0 syntax\n"),
+    (
+        &["first", "3"],
+        TWO_SHAPES,
+        Status::Answered,
+        b"layout\na as tall at 0 0\ntoken 2,0,0\n",
+    ),
+    (
+        &["first", "4"],
+        FROM_ABOVE,
+        Status::Answered,
+        b"layout\na as s at 3\nb as s at 1\ntoken 1,3/1,1\n",
+    ),
+    (&["first", "1"], FORMULA, Status::Budget, b"budget 1\n"),
+    (
+        &["first", "2"],
+        FORMULA,
+        Status::Answered,
+        b"layout\na as s at 4\ntoken 1,4\n",
+    ),
+    (
+        &["show"],
+        TWO_BOXES,
+        Status::Answered,
+        b"geost 1 dims 1\nshape s box 0 size 2 ;\nobject a as s at 0..3 ;\nobject b as s at 0..3 ;\nrule r : apart ;\nend\n",
+    ),
+    (&["judge"], FITTING, Status::Answered, b"good\n"),
+    (&["judge"], OVERLAPPING, Status::No, b"broken r\n"),
+    (&["judge"], OUTSIDE, Status::Refused, b"refused 136 range\n"),
+    (&["draw"], FITTING, Status::Answered, b"box 0..3\naabb\n"),
+    (&["draw"], OVERLAPPING, Status::Answered, b"box 0..2\na#b\n"),
+    (
+        &["draw"],
+        LAYERS,
+        Status::Answered,
+        b"box 0..1 0..1 -1..1\nlayer -1\na.\n..\nlayer 0\n..\nbb\nlayer 1\n..\nbb\n",
+    ),
+    (&["draw"], FAR, Status::No, b"large\n"),
+    (&["draw"], OUTSIDE, Status::Refused, b"refused 136 range\n"),
+];
 
-#[test]
-fn wrong_rules_are_refused_by_every_command(rt: HostRuntime) -> Result<(), Fail> {
-    let commands: &[&[&str]] = &[&["first", "1"], &["show"], &["judge"], &["draw"]];
-    let rows: &[(&[u8], &[u8])] = &[
-        (KIND, b"refused 75 kind\n"),
-        (PRODUCT, b"refused 67 product\n"),
-    ];
-    for command in commands {
-        for (input, text) in rows {
-            let refused = (Status::Refused, *text);
-            assert!(rt; answers(rt.alloc(), (command, input), refused, None)?);
+// Each command refuses a wrong rule.
+const WRONG_RULES: &[Row] = &[
+    (&["first", "1"], KIND, Status::Refused, b"refused 75 kind\n"),
+    (
+        &["first", "1"],
+        PRODUCT,
+        Status::Refused,
+        b"refused 67 product\n",
+    ),
+    (&["show"], KIND, Status::Refused, b"refused 75 kind\n"),
+    (&["show"], PRODUCT, Status::Refused, b"refused 67 product\n"),
+    (&["judge"], KIND, Status::Refused, b"refused 75 kind\n"),
+    (
+        &["judge"],
+        PRODUCT,
+        Status::Refused,
+        b"refused 67 product\n",
+    ),
+    (&["draw"], KIND, Status::Refused, b"refused 75 kind\n"),
+    (&["draw"], PRODUCT, Status::Refused, b"refused 67 product\n"),
+];
+
+const BAD_WORDS: &[&[&str]] = &[
+    &["first", "0"],
+    &["first", "01"],
+    &["first", "x"],
+    &["first"],
+    &[],
+];
+
+// The first words that have another answer than their row says.
+fn wrong_words(
+    alloc: Global,
+    rows: &'static [Row],
+) -> Result<Option<&'static [&'static str]>, AllocError> {
+    for (list, input, status, text) in rows {
+        if !answers(alloc, (list, input), (*status, text), None)? {
+            return Ok(Some(list));
         }
     }
+    Ok(None)
+}
+
+// The first words that have another answer than this one, or for which something of the input is taken.
+fn wrong_list(
+    alloc: Global,
+    lists: &'static [&'static [&'static str]],
+    (status, text): (Status, &[u8]),
+) -> Result<Option<&'static [&'static str]>, AllocError> {
+    let left = Some(TWO_BOXES.len());
+    for list in lists {
+        if !answers(alloc, (list, TWO_BOXES), (status, text), left)? {
+            return Ok(Some(list));
+        }
+    }
+    Ok(None)
+}
+
+#[test]
+fn words_have_their_answers(rt: HostRuntime) -> Result<(), Fail> {
+    for rows in [ROWS, WRONG_RULES, PAGES, TOKENS] {
+        let wrong = wrong_words(rt.alloc(), rows)?;
+        assert!(rt; wrong.is_none(), "{wrong:?}");
+    }
     Ok(())
 }
 
 #[test]
-fn bad_words_take_nothing(rt: HostRuntime) -> Result<(), Fail> {
-    let rows: &[&[&str]] = &[
-        &["first", "0"],
-        &["first", "01"],
-        &["first", "x"],
-        &["first"],
-        &[],
-    ];
-    for list in rows {
-        let bad = (Status::BadWords, b"bad words\n".as_slice());
-        let left = Some(TWO_BOXES.len());
-        assert!(rt; answers(rt.alloc(), (list, TWO_BOXES), bad, left)?);
+fn nothing_is_taken_for_words_of_no_form_and_by_make(rt: HostRuntime) -> Result<(), Fail> {
+    let bad: (Status, &[u8]) = (Status::BadWords, b"bad words\n");
+    let budget: (Status, &[u8]) = (Status::Budget, BUDGET);
+    for (lists, answer) in [
+        (BAD_WORDS, bad),
+        (COUNTS, bad),
+        (FORMS, bad),
+        (SEEDS, budget),
+    ] {
+        let wrong = wrong_list(rt.alloc(), lists, answer)?;
+        assert!(rt; wrong.is_none(), "{wrong:?}");
     }
     Ok(())
 }

@@ -1,12 +1,9 @@
 // What `check` answers to problems with derivations behind them, which were worked out by hand.
-use crate::answers::{TWO_BOXES, words};
-use geo_chan::{MemSink, MemSource};
-use geost_run::{Status, run};
+use crate::answers::TWO_BOXES;
+use crate::ends::{Outside, ends};
+use geost_run::Status;
 use std::alloc::{AllocError, Global};
 use std::test::Fail;
-
-// What is asked of a run: the greatest piece and the calls that fail, of the source and of the sink.
-type Outside<'a> = ((usize, &'a [u64]), (usize, &'a [u64]));
 
 const CLEAN: Outside<'_> = ((4096, &[]), (4096, &[]));
 
@@ -14,16 +11,12 @@ const CLEAN: Outside<'_> = ((4096, &[]), (4096, &[]));
 fn checks(
     alloc: Global,
     (problem, derivation): (&[u8], &[u8]),
-    (from, to): Outside<'_>,
-    (status, text): (Status, &[u8]),
+    outside: Outside<'_>,
+    answer: (Status, &[u8]),
 ) -> Result<bool, AllocError> {
-    let words = words(alloc, &["check"])?;
     let mut input = Vec::from_slice(alloc, problem)?;
     input.extend_from_slice(derivation)?;
-    let mut source = MemSource::new(input, from.0.max(1), Vec::from_slice(alloc, from.1)?);
-    let mut sink = MemSink::new(alloc, to.0.max(1), Vec::from_slice(alloc, to.1)?);
-    let ended = run(alloc, &words, &mut source, &mut sink);
-    Ok(ended == status && sink.bytes() == text)
+    ends(alloc, (&["check"], input.as_slice()), outside, answer)
 }
 
 // Two boxes of size 2 on the cells 0 to 2.

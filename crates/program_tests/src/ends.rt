@@ -6,48 +6,63 @@ use std::alloc::{AllocError, Global};
 use std::test::Fail;
 
 // What is asked of a run: the greatest piece and the calls that fail, of the source and of the sink.
-type Outside<'a> = ((usize, &'a [u64]), (usize, &'a [u64]));
+pub type Outside<'a> = ((usize, &'a [u64]), (usize, &'a [u64]));
 
-// Whether the first layout of two boxes, sought within four members, ends so and has this text written.
-fn ends(
+// Whether the words end so for an input and have this text written.
+pub fn ends(
     alloc: Global,
+    (list, input): (&[&str], &[u8]),
     (from, to): Outside<'_>,
-    status: Status,
-    text: &[u8],
+    (status, text): (Status, &[u8]),
 ) -> Result<bool, AllocError> {
-    let words = words(alloc, &["first", "4"])?;
-    let input = Vec::from_slice(alloc, TWO_BOXES)?;
+    let words = words(alloc, list)?;
+    let input = Vec::from_slice(alloc, input)?;
     let mut source = MemSource::new(input, from.0.max(1), Vec::from_slice(alloc, from.1)?);
     let mut sink = MemSink::new(alloc, to.0.max(1), Vec::from_slice(alloc, to.1)?);
     let ended = run(alloc, &words, &mut source, &mut sink);
     Ok(ended == status && sink.bytes() == text)
 }
 
-// The second call of the source fails.
-#[test]
-fn a_source_that_fails_is_a_read_fault(rt: HostRuntime) -> Result<(), Fail> {
-    for piece in [50, 100] {
-        let outside: Outside<'_> = ((piece, &[2]), (4096, &[]));
-        assert!(rt; ends(rt.alloc(), outside, Status::ReadFault, b"")?);
-    }
-    Ok(())
-}
+// The second call of the source fails; the third or the first call of a sink that takes a byte at a time; and no call, with pieces of
+// every size on both sides.
+const ROWS: &[(Outside<'_>, Status, &[u8])] = &[
+    (((50, &[2]), (4096, &[])), Status::ReadFault, b""),
+    (((100, &[2]), (4096, &[])), Status::ReadFault, b""),
+    (((4096, &[]), (1, &[3])), Status::WriteFault, b"la"),
+    (((4096, &[]), (1, &[1])), Status::WriteFault, b""),
+    (((1, &[]), (1, &[])), Status::Answered, FIRST_OF_TWO_BOXES),
+    (((2, &[]), (2, &[])), Status::Answered, FIRST_OF_TWO_BOXES),
+    (((3, &[]), (3, &[])), Status::Answered, FIRST_OF_TWO_BOXES),
+    (((7, &[]), (7, &[])), Status::Answered, FIRST_OF_TWO_BOXES),
+    (((50, &[]), (50, &[])), Status::Answered, FIRST_OF_TWO_BOXES),
+    (
+        ((105, &[]), (105, &[])),
+        Status::Answered,
+        FIRST_OF_TWO_BOXES,
+    ),
+    (
+        ((106, &[]), (106, &[])),
+        Status::Answered,
+        FIRST_OF_TWO_BOXES,
+    ),
+    (
+        ((107, &[]), (107, &[])),
+        Status::Answered,
+        FIRST_OF_TWO_BOXES,
+    ),
+    (
+        ((4096, &[]), (4096, &[])),
+        Status::Answered,
+        FIRST_OF_TWO_BOXES,
+    ),
+];
 
 #[test]
-fn a_sink_that_fails_is_a_write_fault(rt: HostRuntime) -> Result<(), Fail> {
-    let third: Outside<'_> = ((4096, &[]), (1, &[3]));
-    let first: Outside<'_> = ((4096, &[]), (1, &[1]));
-    assert!(rt; ends(rt.alloc(), third, Status::WriteFault, b"la")?);
-    assert!(rt; ends(rt.alloc(), first, Status::WriteFault, b"")?);
-    Ok(())
-}
-
-#[test]
-fn pieces_of_every_size_give_the_same_answer(rt: HostRuntime) -> Result<(), Fail> {
-    for piece in [1, 2, 3, 7, 50, 105, 106, 107, 4096] {
-        let outside: Outside<'_> = ((piece, &[]), (piece, &[]));
-        let is_same = ends(rt.alloc(), outside, Status::Answered, FIRST_OF_TWO_BOXES)?;
-        assert!(rt; is_same, "pieces of {piece}");
+fn a_run_ends_as_the_outside_has_it(rt: HostRuntime) -> Result<(), Fail> {
+    for (outside, status, text) in ROWS {
+        let asked = (["first", "4"].as_slice(), TWO_BOXES);
+        let is_right = ends(rt.alloc(), asked, *outside, (*status, text))?;
+        assert!(rt; is_right, "{outside:?}");
     }
     Ok(())
 }

@@ -1,8 +1,8 @@
 // What `first` writes where there is no layout.
-use crate::answers::{asked, words};
+use crate::answers::asked;
 use crate::checking::{CHAIN, FALSE, HALVES, NARROW};
-use geo_chan::{CleanSource, MemSink};
-use geost_run::{Status, run};
+use crate::ends::{Outside, ends};
+use geost_run::Status;
 use std::alloc::{AllocError, Global};
 use std::test::Fail;
 
@@ -64,18 +64,12 @@ fn a_false_rule_is_dead(rt: HostRuntime) -> Result<(), Fail> {
 // The sink takes a byte at a time.
 #[test]
 fn a_sink_that_fails_has_a_front_part_of_it(rt: HostRuntime) -> Result<(), Fail> {
-    let alloc = rt.alloc();
-    let words = words(alloc, &["first", "1"])?;
     for taken in 0..SHOWN_FALSE.len() {
+        let asked = (["first", "1"].as_slice(), FALSE);
         let failing = [taken as u64 + 1];
-        let mut source = CleanSource::new(Vec::from_slice(alloc, FALSE)?);
-        let mut sink = MemSink::new(alloc, 1, Vec::from_slice(alloc, &failing)?);
-        let ended = run(alloc, &words, &mut source, &mut sink);
-        let front = &SHOWN_FALSE[..taken];
-        assert!(rt;
-            ended == Status::WriteFault && sink.bytes() == front,
-            "{taken} bytes"
-        );
+        let outside: Outside<'_> = ((4096, &[]), (1, &failing));
+        let fault = (Status::WriteFault, &SHOWN_FALSE[..taken]);
+        assert!(rt; ends(rt.alloc(), asked, outside, fault)?, "{taken} bytes");
     }
     Ok(())
 }

@@ -1,9 +1,14 @@
 //! Words that are tokens of tuples, and words that are not.
 
+ghost use Rattle.problem_data.specs.Cells.{IsShaped};
+
 use geo_chan::CleanSink;
-use layout_text::{print_layout, read_token};
+use geo_conditions::Layout;
+use geo_tokens::fault::TextFault;
+use layout_text::{TokenFault, print_layout, read_token};
+use problem_data::problem::Problem;
 use problem_text::read::read_problem;
-use std::alloc::Global;
+use std::alloc::{AllocError, Global};
 use std::test::Fail;
 
 /// Two objects of one shape on a line.
@@ -78,18 +83,27 @@ const ROWS: &[(&[u8], &[u8], &[u8])] = &[
     (EMPTY, b"1,0", b"BadToken"),
 ];
 
-/// The layout block of the tuple of which the word is the token, or the fault.
-fn block(alloc: Global, problem: &[u8], word: &[u8]) -> Result<Vec<u8>, Fail> {
-    let problem = read_problem(alloc, problem)?;
-    let layout = match read_token(alloc, &problem, word) {
-        Ok(layout) => layout,
-        Err(fault) => {
-            return Ok(Vec::from_slice(alloc, format!(in alloc; "{fault:?}")?.as_bytes())?);
-        }
-    };
+/// The layout block of a tuple.
+fn block_of(alloc: Global, problem: &Problem, layout: &Layout) -> Result<Vec<u8>, AllocError>
+    requires { IsShaped problem.now layout.now }
+{
     let mut sink = CleanSink::new(alloc);
-    print_layout(&problem, &layout, &mut sink)?;
-    Ok(Vec::from_slice(alloc, sink.bytes())?)
+    let _done = print_layout(problem, layout, &mut sink);
+    Vec::from_slice(alloc, sink.bytes())
+}
+
+/// The word for a fault.
+fn fault_text(alloc: Global, fault: TokenFault) -> Result<Vec<u8>, AllocError> {
+    Ok(format!(in alloc; "{fault:?}")?.into_bytes())
+}
+
+/// The layout block of the tuple of which the word is the token, or the fault.
+fn block(alloc: Global, problem: &[u8], word: &[u8]) -> Result<Vec<u8>, TextFault> {
+    let problem = read_problem(alloc, problem)?;
+    match read_token(alloc, &problem, word) {
+        Ok(layout) => Ok(block_of(alloc, &problem, &layout)?),
+        Err(fault) => Ok(fault_text(alloc, fault)?),
+    }
 }
 
 #[test]
