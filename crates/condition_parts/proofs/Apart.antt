@@ -204,8 +204,8 @@ module _ (cs fronts rest : List Cond) (ws : List (Option Cond)) (r : Renumbering
         let few : i - length fronts ≤ length rest = refutes_within rest (i - length fronts) S k.1 in
         let at : i - length fronts - 1 ≡ i - r.same - 1 = omega (arith, same, a.long) in
         subst (λ (n : ℕ). refutes cs n S ≡ true)
-          (ap (slice_index r.others.items) at ∙ any_default r.others.items (i - r.same - 1) 0 i (omega (arith, k.0, few, same, a.long, a.many)) ∙ sym (number_other r i (omega (arith, k.0, same, a.long))))
-          (a.behind (i - length fronts) S k.1)
+        (ap (slice_index r.others.items) at ∙ any_default r.others.items (i - r.same - 1) 0 i (omega (arith, k.0, few, same, a.long, a.many)) ∙ sym (number_other r i (omega (arith, k.0, same, a.long))))
+        (a.behind (i - length fronts) S k.1)
   ]
 
   -- a number behind the others is that of a condition, or there is none behind them

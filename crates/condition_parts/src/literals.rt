@@ -100,11 +100,7 @@ fn put_copy(alloc: Global, c: &Cond, literals: &mut Vec<Cond>) -> Result<bool, A
 /// Puts the literals of a condition among the others, of which one is enough then. The answer is false where one of them is not
 /// enough for the condition, and of the others nothing is promised then.
 #[cycle(literals)]
-pub fn put_literals(
-    alloc: Global,
-    c: &Cond,
-    literals: &mut Vec<Cond>,
-) -> Result<bool, AllocError>
+pub fn put_literals(alloc: Global, c: &Cond, literals: &mut Vec<Cond>) -> Result<bool, AllocError>
     ensures { IfOk result (λ b. b ≡ true → AddsTo c.now literals.old.items literals.new.items) }
 {
     match c {

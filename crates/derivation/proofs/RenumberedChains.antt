@@ -104,7 +104,7 @@ module _ (r : Renumbering) where
       | inr e ↦
           let parts = and_parts (covers ps S o s (near side b) x) (covers ps S o s (far side b) y) e in
           or_right (is_empty b) (covers cs S o s (near side b) (tree_with x) && covers cs S o s (far side b) (tree_with y))
-            (both (covers cs S o s (near side b) (tree_with x)) (covers cs S o s (far side b) (tree_with y)) (covered S o s (near side b) x parts.0) (covered S o s (far side b) y parts.1))
+          (both (covers cs S o s (near side b) (tree_with x)) (covers cs S o s (far side b) (tree_with y)) (covered S o s (near side b) x parts.0) (covered S o s (far side b) y parts.1))
     ]
 
     within : (i : ℕ) → IsNumber (length ps) i → IsNumber (length cs) (number_for r i)
@@ -129,7 +129,7 @@ module _ (r : Renumbering) where
         let outer = and_parts first (own && rest) h in
         let inner = and_parts own rest outer.1 in
         both first (covers cs S o c.place b (tree_with c.tree) && all_cover cs S o b (c.place + 1) (covers_with more)) outer.0
-          (both (covers cs S o c.place b (tree_with c.tree)) (all_cover cs S o b (c.place + 1) (covers_with more)) (covered S o c.place b c.tree inner.0) (all_covered S o b (c.place + 1) more inner.1))
+        (both (covers cs S o c.place b (tree_with c.tree)) (all_cover cs S o b (c.place + 1) (covers_with more)) (covered S o c.place b c.tree inner.0) (all_covered S o b (c.place + 1) more inner.1))
 
     all_numbered : (k : ℕ) (list : List PlaceCover) → HaveNumbersIn k (length ps) list → HaveNumbersIn k (length cs) (covers_with list)
     unfolding covers_with cover_with

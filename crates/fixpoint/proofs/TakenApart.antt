@@ -139,14 +139,14 @@ module _ (cs ps : List Cond) (r : Renumbering) (h : ∥ IsTakenApart cs ps r ∥
       let same : get_or (take (i - 1) cs) k d ≡ get_or cs k d = get_or-take (i - 1) cs k d near in
       let own : IsBare (get_or cs k d) = subst IsBare same bare in
       subst (λ (c : Cond). possible c S ≡ true) (sym same)
-        (∥∥₁_elim h (hlevel props) (λ a.
-            let q : slice_get ps k ≡ Some (get_or cs k d) = a.bare k (get_or cs k d) (slice_get-get_or cs k d there) own in
-            let in_parts : k < length ps = slice_get_within ps k (get_or cs k d) q in
-            let read : get_or ps k d ≡ get_or cs k d = get_or_from_slice_get ps k (get_or cs k d) d q in
-            let before : k < j - 1 = before_number j i k (one.2) a.same near there in
-            let cut = length-take (j - 1) ps in
-            let at : get_or (take (j - 1) ps) k d ≡ get_or cs k d = get_or-take (j - 1) ps k d before ∙ read in
-            subst (λ (c : Cond). possible c S ≡ true) at (all k d (omega (arith, cut, before, in_parts)) (subst IsBare (sym at) own))))
+      (∥∥₁_elim h (hlevel props) (λ a.
+      let q : slice_get ps k ≡ Some (get_or cs k d) = a.bare k (get_or cs k d) (slice_get-get_or cs k d there) own in
+      let in_parts : k < length ps = slice_get_within ps k (get_or cs k d) q in
+      let read : get_or ps k d ≡ get_or cs k d = get_or_from_slice_get ps k (get_or cs k d) d q in
+      let before : k < j - 1 = before_number j i k (one.2) a.same near there in
+      let cut = length-take (j - 1) ps in
+      let at : get_or (take (j - 1) ps) k d ≡ get_or cs k d = get_or-take (j - 1) ps k d before ∙ read in
+      subst (λ (c : Cond). possible c S ≡ true) at (all k d (omega (arith, cut, before, in_parts)) (subst IsBare (sym at) own))))
     where
       before_number : (j i k : ℕ) → number_for r j ≡ i → r.same ≡ length cs → k < i - 1 → k < length cs → k < j - 1
       before_number j i k e same near there = elim (cases_lt r.same j) [

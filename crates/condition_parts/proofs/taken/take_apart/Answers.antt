@@ -14,7 +14,7 @@ returns-clause-apart g c =
     let made = c.in_ok-fronts.field-0 in
     let r : Renumbering = record { same = c.len-count.result; others = made.numbers } in
     subst (λ (ps : List Cond). IsTakenApart cs ps r) (sym c.in_ok-list.ensures)
-      (apart_all cs (map f made.fronts.items) (map f made.rest.items) made.wholes.items r c.in_ok-fronts.ensures.made (omega (arith, c.len-count.ensures, length-map c.args.list.items f)))
+    (apart_all cs (map f made.fronts.items) (map f made.rest.items) made.wholes.items r c.in_ok-fronts.ensures.made (omega (arith, c.len-count.ensures, length-map c.args.list.items f)))
 
 pub returns-clause-back : goal.returns-clause-back
 returns-clause-back g c =
