@@ -15,6 +15,10 @@ module _ {K : ℕ} where
   abbrev pub gap : PlacedBox K → PlacedBox K → ℕ → ℤ
   gap a b d = coordinate a.offset.coordinates d +ℤ coordinate a.size.coordinates d -ℤ coordinate b.offset.coordinates d
 
+  -- the gaps of a before b, in each dimension
+  abbrev pub AreGaps : PlacedBox K → PlacedBox K → List ℤ → Type 0
+  AreGaps a b gaps = (d : ℕ) → d < K → coordinate gaps d ≡ gap a b d
+
   -- a ends before b begins, in the dimension d; b ends before a begins
   abbrev pub literals : PlacedBox K → PlacedBox K → ℕ → List Cond
   literals a b d =

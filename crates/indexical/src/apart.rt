@@ -1,10 +1,10 @@
 ghost use Rattle.std.specs.Prelude.{ℕ, ◌<◌, ◌≤◌, ◌^◌, length};
 ghost use Rattle.geo_base.specs.declared.TheConstants.{MAX_DIMS};
-ghost use Rattle.indexical.specs.Apart.{apart_parts};
+ghost use Rattle.indexical.specs.Apart.{AreGaps, apart_parts};
 
 use super::facing::{Facing, facing_beside};
 use super::overlap::{
-    covers_some, must_overlap, must_overlap_beside, overlap_beside, spares_beside,
+    covers_some, gaps, must_overlap, must_overlap_beside, overlap_beside, spares_beside,
 };
 use super::placed::PlacedBox;
 use geo_base::{KBox, MAX_DIMS, Point};
@@ -17,6 +17,11 @@ use geo_conditions::{ObjId, State};
 pub struct ApartIndexical<const K: usize> {
     first: PlacedBox<K>,
     second: PlacedBox<K>,
+    // how far before the second box's origin the first one's has to lie for the first to end where the second begins
+    ahead: Point<K>,
+    // the same the other way round
+    behind: Point<K>,
+    ghost gaps: { AreGaps first second ahead.coordinates × AreGaps second first behind.coordinates },
     ghost in_order: { first.object.0 < second.object.0 },
     ghost some: { 0 < K },
     ghost few: { K ≤ MAX_DIMS },
@@ -35,6 +40,26 @@ impl<const K: usize> ApartIndexical<K> {
     ghost use Rattle.indexical.specs.Faces.{Faces};
     ghost use Rattle.indexical.specs.Names.{IsFirst};
 
+    // The condition for two boxes, that of the object with the lesser number first.
+    fn of_ordered(first: PlacedBox<K>, second: PlacedBox<K>) -> ApartIndexical<K>
+        requires in_order { first.object.0 < second.object.0 }
+        requires some { 0 < K }
+        requires few { K ≤ MAX_DIMS }
+        ensures first { result.first ≡ first.entry }
+        ensures second { result.second ≡ second.entry }
+        ensures disjunction { (o : ℕ)
+            → IsDisjunction o (apart result.first result.second result.short) }
+    {
+        let ahead = gaps(&first, &second);
+        let behind = gaps(&second, &first);
+        ApartIndexical {
+            first,
+            second,
+            ahead,
+            behind,
+        }
+    }
+
     /// The condition for two boxes of different objects. It takes no memory.
     pub fn new(a: PlacedBox<K>, b: PlacedBox<K>) -> ApartIndexical<K>
         requires objects { a.object.0 ≢ b.object.0 }
@@ -48,14 +73,9 @@ impl<const K: usize> ApartIndexical<K> {
             → IsDisjunction o (apart result.first result.second result.short) }
     {
         if a.object().0 < b.object().0 {
-            return ApartIndexical {
-                first: a,
-                second: b,
-            };
-        }
-        ApartIndexical {
-            first: b,
-            second: a,
+            ApartIndexical::of_ordered(a, b)
+        } else {
+            ApartIndexical::of_ordered(b, a)
         }
     }
 
@@ -118,9 +138,9 @@ impl<const K: usize> ApartIndexical<K> {
             → MustOverlap self.now.first self.now.second (with_at s.now o place (just p)) → ⊥ }
     {
         if self.first.object().0 == u.0 {
-            !covers_some(&self.second, &self.first, s)
+            !covers_some(&self.second, &self.first, &self.behind, &self.ahead, s)
         } else if self.second.object().0 == u.0 {
-            !covers_some(&self.first, &self.second, s)
+            !covers_some(&self.first, &self.second, &self.ahead, &self.behind, s)
         } else {
             false
         }
@@ -135,9 +155,23 @@ impl<const K: usize> ApartIndexical<K> {
             → MustOverlap self.now.first self.now.second (with_at s.now o.0 place (just p)) → ⊥ }
     {
         if self.first.object().0 == o.0 {
-            spares_beside(&self.first, &self.second, s, place)
+            spares_beside(
+                &self.first,
+                &self.second,
+                &self.ahead,
+                &self.behind,
+                s,
+                place,
+            )
         } else if self.second.object().0 == o.0 {
-            spares_beside(&self.second, &self.first, s, place)
+            spares_beside(
+                &self.second,
+                &self.first,
+                &self.behind,
+                &self.ahead,
+                s,
+                place,
+            )
         } else {
             false
         }
@@ -151,11 +185,27 @@ impl<const K: usize> ApartIndexical<K> {
             (with_at s.now o.0 place (just c.now.coordinates)) }
     {
         if self.first.object().0 == o.0 {
-            must_overlap_beside(&self.first, &self.second, s, place, c)
+            must_overlap_beside(
+                &self.first,
+                &self.second,
+                &self.ahead,
+                &self.behind,
+                s,
+                place,
+                c,
+            )
         } else if self.second.object().0 == o.0 {
-            must_overlap_beside(&self.second, &self.first, s, place, c)
+            must_overlap_beside(
+                &self.second,
+                &self.first,
+                &self.behind,
+                &self.ahead,
+                s,
+                place,
+                c,
+            )
         } else {
-            must_overlap(&self.first, &self.second, s)
+            must_overlap(&self.first, &self.second, &self.ahead, &self.behind, s)
         }
     }
 
@@ -179,10 +229,28 @@ impl<const K: usize> ApartIndexical<K> {
             (region_of region.now) (region_of r)) }
     {
         if self.first.object().0 == o.0 {
-            overlap_beside(&self.first, &self.second, s, place, c, region)
+            overlap_beside(
+                &self.first,
+                &self.second,
+                &self.ahead,
+                &self.behind,
+                s,
+                place,
+                c,
+                region,
+            )
         } else if self.second.object().0 == o.0 {
-            overlap_beside(&self.second, &self.first, s, place, c, region)
-        } else if must_overlap(&self.first, &self.second, s) {
+            overlap_beside(
+                &self.second,
+                &self.first,
+                &self.behind,
+                &self.ahead,
+                s,
+                place,
+                c,
+                region,
+            )
+        } else if must_overlap(&self.first, &self.second, &self.ahead, &self.behind, s) {
             Some(*region)
         } else {
             None

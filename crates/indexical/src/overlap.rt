@@ -1,14 +1,14 @@
 //! Where two boxes must overlap: the origins of one of them, beside the origins of the other.
 
-ghost use Rattle.std.specs.Prelude.{◌≡◌, ◌≢◌, ◌↔◌, ℕ, ◌^◌, ◌<◌, ◌≤◌, IsTrue, true, length, pos, neg_ℤ, ◌*◌, List, ℤ, ◌≤ℤ◌, ◌<ℤ◌, MatchOption};
+ghost use Rattle.std.specs.Prelude.{◌≡◌, ◌≢◌, ◌↔◌, ℕ, ◌^◌, ◌<◌, ◌≤◌, IsTrue, true, length, pos, neg_ℤ, ◌*◌, List, ℤ, ◌+ℤ◌, ◌-ℤ◌, ◌≤ℤ◌, ◌<ℤ◌, MatchOption};
 ghost use Rattle.std.specs.Int.{int_min, int_max};
 ghost use Rattle.geo_base.specs.Boxes.{coordinate, Has};
 ghost use Rattle.geo_conditions.specs.Reach.{reach, is_only, only, with_at, just};
 ghost use Rattle.geo_conditions.specs.Regions.{region_of};
-ghost use Rattle.indexical.specs.Apart.{gap, first, last, Clashes, MustOverlap, IsOverlapBox};
+ghost use Rattle.indexical.specs.Apart.{gap, AreGaps, first, last, Clashes, MustOverlap, IsOverlapBox};
 
 use super::placed::PlacedBox;
-use geo_base::{KBox, MAX_DIMS, Point};
+use geo_base::{Interval, KBox, MAX_DIMS, Point};
 use geo_conditions::{ObjId, State};
 
 /// How far before b's origin a's has to lie, in the dimension d, for a to end where b begins.
@@ -20,79 +20,66 @@ fn gap<const K: usize>(a: &PlacedBox<K>, b: &PlacedBox<K>, d: usize) -> i64
     a.offset().get(d) + a.size().get(d) - b.offset().get(d)
 }
 
-/// The first coordinate of a's origin at which a and b overlap in the dimension d wherever b's
-/// origin is held.
-#[inline(always)]
-fn first_at<const K: usize>(a: &PlacedBox<K>, b: &PlacedBox<K>, held: &KBox<K>, d: usize) -> i128
-    requires { d < K }
-    ensures { result ≡ first a.now b.now (region_of held.now) d }
+/// How far before b's origin a's has to lie, in each dimension, for a to end where b begins.
+pub fn gaps<const K: usize>(a: &PlacedBox<K>, b: &PlacedBox<K>) -> Point<K>
+    ensures { AreGaps a.now b.now result.coordinates }
 {
-    i128::from(held.hi.get(d)) - i128::from(gap(a, b, d)) + 1
+    let mut gaps = Point::filled(0);
+    for d in 0..K {
+        gaps.set(d, gap(a, b, d));
+    }
+    gaps
 }
 
-/// The last such coordinate.
+/// Whether one number is below another one.
 #[inline(always)]
-fn last_at<const K: usize>(a: &PlacedBox<K>, b: &PlacedBox<K>, held: &KBox<K>, d: usize) -> i128
-    requires { d < K }
-    ensures { result ≡ last a.now b.now (region_of held.now) d }
+fn is_below(a: i128, b: i128) -> bool
+    ensures { IsTrue result ↔ (a <ℤ b) }
 {
-    i128::from(held.lo.get(d)) + i128::from(gap(b, a, d)) - 1
+    a < b
 }
 
-/// Both, without a branch.
+/// Whether an end lies before what a length leads to from a start.
 #[inline(always)]
-fn both(a: bool, b: bool) -> bool
-    ensures { IsTrue result ↔ (IsTrue a × IsTrue b) }
+fn is_before(end: i64, start: i64, length: i64) -> bool
+    ensures { IsTrue result ↔ (end <ℤ (start +ℤ length)) }
 {
-    a & b
+    is_below(i128::from(end), i128::from(start) + i128::from(length))
 }
 
-#[inline(always)]
-fn at_most(a: i128, b: i128) -> bool
-    ensures { IsTrue result ↔ (a ≤ℤ b) }
-{
-    a <= b
-}
-
-/// Whether a and b overlap in the dimension d wherever a's origin lies between two numbers and b's
-/// is held.
-#[inline(always)]
-fn clashes_at<const K: usize>(
-    a: &PlacedBox<K>,
-    b: &PlacedBox<K>,
-    held: &KBox<K>,
-    lo: i64,
-    hi: i64,
-    d: usize,
-) -> bool
-    requires { d < K }
-    ensures { IsTrue result ↔ ((first a.now b.now (region_of held.now) d ≤ℤ lo)
-        × (hi ≤ℤ last a.now b.now (region_of held.now) d)) }
-{
-    both(
-        at_most(first_at(a, b, held, d), i128::from(lo)),
-        at_most(i128::from(hi), last_at(a, b, held, d)),
-    )
-}
-
-/// Whether a and b overlap in each dimension wherever a's origin lies between two corners and b's is
-/// held.
+/// Whether a and b overlap in each dimension wherever a's origin lies between two corners and b's is held.
 #[inline(always)]
 fn clashes<const K: usize>(
     a: &PlacedBox<K>,
     b: &PlacedBox<K>,
-    held: &KBox<K>,
+    ahead: &Point<K>,
+    behind: &Point<K>,
+    s: &State<K>,
     lo: &Point<K>,
     hi: &Point<K>,
 ) -> bool
-    ensures { IsTrue result
-        ↔ Clashes a.now b.now (region_of held.now) lo.now.coordinates hi.now.coordinates }
+    requires k { K ≤ MAX_DIMS }
+    requires object { b.now.object.0 < length s.now }
+    requires ahead { AreGaps a.now b.now ahead.now.coordinates }
+    requires behind { AreGaps b.now a.now behind.now.coordinates }
+    ensures { IsTrue result ↔ Clashes a.now b.now (reach s.now b.now.object.0).region
+        lo.now.coordinates hi.now.coordinates }
 {
-    let mut all = true;
+    let other = b.object();
     for d in 0..K {
-        all = both(all, clashes_at(a, b, held, lo.get(d), hi.get(d), d));
+        let held = s.interval(other, d);
+        let low = lo.get(d);
+        let high = hi.get(d);
+        let before = ahead.get(d);
+        let after = behind.get(d);
+        if !is_before(held.hi, low, before) {
+            return false;
+        }
+        if !is_before(high, held.lo, after) {
+            return false;
+        }
     }
-    all
+    true
 }
 
 /// The greater of two numbers, at most a third one.
@@ -113,28 +100,58 @@ fn sooner(end: i64, last: i128, least: i64) -> i64
     i128::from(end).min(last) as i64
 }
 
+/// The first coordinate past the start of a gap that ends at that one.
+#[inline(always)]
+fn first_past(end: i64, gap: i64) -> i128
+    ensures { result ≡ end -ℤ gap +ℤ pos 1 }
+{
+    i128::from(end) - i128::from(gap) + 1
+}
+
+/// The last coordinate before the end of a gap that starts at that one.
+#[inline(always)]
+fn last_before(start: i64, gap: i64) -> i128
+    ensures { result ≡ start +ℤ gap -ℤ pos 1 }
+{
+    i128::from(start) + i128::from(gap) - 1
+}
+
 /// The part of the region in which a and b overlap in each dimension, as they do at c.
+#[inline(never)]
 fn cut<const K: usize>(
     a: &PlacedBox<K>,
     b: &PlacedBox<K>,
-    held: &KBox<K>,
+    ahead: &Point<K>,
+    behind: &Point<K>,
+    s: &State<K>,
     c: &Point<K>,
     region: &KBox<K>,
 ) -> KBox<K>
-    requires { Clashes a.now b.now (region_of held.now) c.now.coordinates c.now.coordinates }
+    requires k { K ≤ MAX_DIMS }
+    requires object { b.now.object.0 < length s.now }
+    requires ahead { AreGaps a.now b.now ahead.now.coordinates }
+    requires behind { AreGaps b.now a.now behind.now.coordinates }
+    requires clash { Clashes a.now b.now (reach s.now b.now.object.0).region
+        c.now.coordinates c.now.coordinates }
     ensures lo { (d : ℕ) → d < K → coordinate result.lo.coordinates d
         ≡ int_max (coordinate region.now.lo.coordinates d)
-        (first a.now b.now (region_of held.now) d) }
+        (first a.now b.now (reach s.now b.now.object.0).region d) }
     ensures hi { (d : ℕ) → d < K → coordinate result.hi.coordinates d
         ≡ int_min (coordinate region.now.hi.coordinates d)
-        (last a.now b.now (region_of held.now) d) }
+        (last a.now b.now (reach s.now b.now.object.0).region d) }
 {
+    let other = b.object();
     let mut lo = region.lo;
     let mut hi = region.hi;
     for d in 0..K {
+        let held = s.interval(other, d);
         let v = c.get(d);
-        lo.set(d, later(lo.get(d), first_at(a, b, held, d), v));
-        hi.set(d, sooner(hi.get(d), last_at(a, b, held, d), v));
+        let before = ahead.get(d);
+        let after = behind.get(d);
+        let first = first_past(held.hi, before);
+        let last = last_before(held.lo, after);
+        lo.set(d, later(lo.get(d), first, v));
+        hi.set(d, sooner(hi.get(d), last, v));
     }
     KBox::new(lo, hi)
 }
@@ -158,27 +175,36 @@ fn has_shape<const K: usize>(b: &PlacedBox<K>, s: &State<K>) -> bool
     !b.leaf() || s.is_only_shape(b.object(), b.place())
 }
 
-/// Whether in the dimension d an origin of a is left at which a and b overlap wherever b's is held.
+/// Whether one number is at most another one.
 #[inline(always)]
-fn clashes_somewhere<const K: usize>(
-    a: &PlacedBox<K>,
-    b: &PlacedBox<K>,
-    held: &KBox<K>,
-    d: usize,
-) -> bool
-    requires { d < K }
-    ensures { let held = region_of held.now in
-        IsTrue result ↔ (first a.now b.now held d ≤ℤ last a.now b.now held d) }
+fn at_most(a: i128, b: i128) -> bool
+    ensures { IsTrue result ↔ (a ≤ℤ b) }
 {
-    at_most(first_at(a, b, held, d), last_at(a, b, held, d))
+    a <= b
+}
+
+/// Whether an origin of a box is left at which it overlaps another one wherever that one's origin is held.
+#[inline(always)]
+fn clashes_somewhere(held: Interval, before: i64, after: i64) -> bool
+    ensures { IsTrue result ↔ ((held.hi -ℤ before +ℤ pos 1) ≤ℤ (held.lo +ℤ after -ℤ pos 1)) }
+{
+    at_most(first_past(held.hi, before), last_before(held.lo, after))
 }
 
 /// Whether b covers an origin of a: b's object has b's shape for certain, where that is asked, and in each dimension an origin
 /// of a is left at which they overlap wherever b's object is. Else the boxes need not overlap wherever a's object is put.
-pub fn covers_some<const K: usize>(a: &PlacedBox<K>, b: &PlacedBox<K>, s: &State<K>) -> bool
+pub fn covers_some<const K: usize>(
+    a: &PlacedBox<K>,
+    b: &PlacedBox<K>,
+    ahead: &Point<K>,
+    behind: &Point<K>,
+    s: &State<K>,
+) -> bool
     requires k { K ≤ MAX_DIMS }
     requires first { a.now.object.0 < length s.now }
     requires second { b.now.object.0 < length s.now }
+    requires ahead { AreGaps a.now b.now ahead.now.coordinates }
+    requires behind { AreGaps b.now a.now behind.now.coordinates }
     requires objects { b.now.object.0 ≢ a.now.object.0 }
     ensures { (place : ℕ) (p : List ℤ)
         → MustOverlap a.now b.now (with_at s.now a.now.object.0 place (just p)) → IsTrue result }
@@ -186,9 +212,12 @@ pub fn covers_some<const K: usize>(a: &PlacedBox<K>, b: &PlacedBox<K>, s: &State
     if !has_shape(b, s) {
         return false;
     }
-    let held = s.region(b.object());
+    let other = b.object();
     for d in 0..K {
-        if !clashes_somewhere(a, b, &held, d) {
+        let held = s.interval(other, d);
+        let before = ahead.get(d);
+        let after = behind.get(d);
+        if !clashes_somewhere(held, before, after) {
             return false;
         }
     }
@@ -200,38 +229,53 @@ pub fn covers_some<const K: usize>(a: &PlacedBox<K>, b: &PlacedBox<K>, s: &State
 pub fn spares_beside<const K: usize>(
     a: &PlacedBox<K>,
     b: &PlacedBox<K>,
+    ahead: &Point<K>,
+    behind: &Point<K>,
     s: &State<K>,
     place: u8,
 ) -> bool
     requires k { K ≤ MAX_DIMS }
     requires first { a.now.object.0 < length s.now }
     requires second { b.now.object.0 < length s.now }
+    requires ahead { AreGaps a.now b.now ahead.now.coordinates }
+    requires behind { AreGaps b.now a.now behind.now.coordinates }
     requires objects { b.now.object.0 ≢ a.now.object.0 }
     ensures { IsTrue result → (p : List ℤ)
         → MustOverlap a.now b.now (with_at s.now a.now.object.0 place (just p)) → ⊥ }
 {
-    !stands(a, place) || !covers_some(a, b, s)
+    !stands(a, place) || !covers_some(a, b, ahead, behind, s)
 }
 
 /// Whether the boxes must overlap on the state.
-pub fn must_overlap<const K: usize>(a: &PlacedBox<K>, b: &PlacedBox<K>, s: &State<K>) -> bool
+#[inline(never)]
+pub fn must_overlap<const K: usize>(
+    a: &PlacedBox<K>,
+    b: &PlacedBox<K>,
+    ahead: &Point<K>,
+    behind: &Point<K>,
+    s: &State<K>,
+) -> bool
     requires k { K ≤ MAX_DIMS }
     requires first { a.now.object.0 < length s.now }
     requires second { b.now.object.0 < length s.now }
+    requires ahead { AreGaps a.now b.now ahead.now.coordinates }
+    requires behind { AreGaps b.now a.now behind.now.coordinates }
     ensures { IsTrue result ↔ MustOverlap a.now b.now s.now }
 {
     if !has_shape(a, s) || !has_shape(b, s) {
         return false;
     }
-    let held = s.region(b.object());
     let own = s.region(a.object());
-    clashes(a, b, &held, &own.lo, &own.hi)
+    clashes(a, b, ahead, behind, s, &own.lo, &own.hi)
 }
 
 /// Whether the boxes must overlap with a's object at that place and point.
+#[inline(always)]
 pub fn must_overlap_beside<const K: usize>(
     a: &PlacedBox<K>,
     b: &PlacedBox<K>,
+    ahead: &Point<K>,
+    behind: &Point<K>,
     s: &State<K>,
     place: u8,
     c: &Point<K>,
@@ -239,6 +283,8 @@ pub fn must_overlap_beside<const K: usize>(
     requires k { K ≤ MAX_DIMS }
     requires first { a.now.object.0 < length s.now }
     requires second { b.now.object.0 < length s.now }
+    requires ahead { AreGaps a.now b.now ahead.now.coordinates }
+    requires behind { AreGaps b.now a.now behind.now.coordinates }
     requires objects { b.now.object.0 ≢ a.now.object.0 }
     ensures { IsTrue result ↔ MustOverlap a.now b.now
         (with_at s.now a.now.object.0 place (just c.now.coordinates)) }
@@ -246,15 +292,17 @@ pub fn must_overlap_beside<const K: usize>(
     if !stands(a, place) || !has_shape(b, s) {
         return false;
     }
-    let held = s.region(b.object());
-    clashes(a, b, &held, c, c)
+    clashes(a, b, ahead, behind, s, c, c)
 }
 
 /// The part of the region in which a and b must overlap with a's object at that place, where they
 /// must at c.
+#[inline(always)]
 pub fn overlap_beside<const K: usize>(
     a: &PlacedBox<K>,
     b: &PlacedBox<K>,
+    ahead: &Point<K>,
+    behind: &Point<K>,
     s: &State<K>,
     place: u8,
     c: &Point<K>,
@@ -263,6 +311,8 @@ pub fn overlap_beside<const K: usize>(
     requires k { K ≤ MAX_DIMS }
     requires first { a.now.object.0 < length s.now }
     requires second { b.now.object.0 < length s.now }
+    requires ahead { AreGaps a.now b.now ahead.now.coordinates }
+    requires behind { AreGaps b.now a.now behind.now.coordinates }
     requires objects { b.now.object.0 ≢ a.now.object.0 }
     requires inside { Has K region.now.lo.coordinates region.now.hi.coordinates c.now.coordinates }
     ensures { MatchOption result
@@ -273,9 +323,8 @@ pub fn overlap_beside<const K: usize>(
     if !stands(a, place) || !has_shape(b, s) {
         return None;
     }
-    let held = s.region(b.object());
-    if clashes(a, b, &held, c, c) {
-        Some(cut(a, b, &held, c, region))
+    if clashes(a, b, ahead, behind, s, c, c) {
+        Some(cut(a, b, ahead, behind, s, c, region))
     } else {
         None
     }

@@ -1,10 +1,8 @@
-use Rattle.std.proofs.Common.{◌≡◌, ◌≤ℤ◌, ap, sym, ◌∙◌, subst, arith}
+use Rattle.std.proofs.Common.{◌≡◌, ap, sym, ◌∙◌, arith}
 use Rattle.std.proofs.lemmas.Int.{ints}
 use Rattle.std.proofs.lemmas.Bool.{true≢false}
 use Rattle.geo_conditions.specs.declared.object.ObjId.{ObjId}
-use Rattle.geo_conditions.specs.Reach.{Region, reach, just}
-use Rattle.geo_conditions.specs.Regions.{region_of}
-use Rattle.indexical.specs.Apart.{first, last}
+use Rattle.geo_conditions.specs.Reach.{low, high, just}
 use Rattle.indexical.proofs.PutBoxes.{shape_out, clash_out}
 use Rattle.indexical.proofs.overlap.covers_some.Goals as goal
 
@@ -17,7 +15,9 @@ returns-then-not-clashes_somewhere g c = λ place p m.
     let a = c.args.a.now in
     let b = c.args.b.now in
     let d = c.loop-d.d in
-    let held : region_of c.region-held.result ≡ (reach c.args.s.now b.object.0).region = c.region-held.ensures.value ∙ ap (λ (o : ObjId). (reach c.args.s.now o.0).region) c.object.ensures in
+    let hi = c.interval-held.ensures.hi ∙ ap (λ (o : ObjId). high c.args.s.now o.0 d) c.object-other.ensures in
+    let lo = c.interval-held.ensures.lo ∙ ap (λ (o : ObjId). low c.args.s.now o.0 d) c.object-other.ensures in
+    let before = c.get-before.ensures ∙ c.requires.ahead d c.loop-d-test.true in
+    let after = c.get-after.ensures ∙ c.requires.behind d c.loop-d-test.true in
     let k = clash_out a b c.args.s.now place c.requires.first c.requires.objects (just p) m d c.loop-d-test.true in
-    let there : first a b (reach c.args.s.now b.object.0).region d ≤ℤ last a b (reach c.args.s.now b.object.0).region d = omega (arith, ints, k.0, k.1) in
-    absurd (true≢false (sym (c.clashes_somewhere.ensures.1 (subst (λ (r : Region). first a b r d ≤ℤ last a b r d) (sym held) there)) ∙ c.if-not-clashes_somewhere.true))
+    absurd (true≢false (sym (c.clashes_somewhere.ensures.1 (omega (arith, ints, k.0, k.1, hi, lo, before, after))) ∙ c.if-not-clashes_somewhere.true))
