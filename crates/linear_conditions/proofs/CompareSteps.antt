@@ -20,7 +20,7 @@ use Rattle.linear_conditions.specs.Sums.{scale, has_terms, fits_sum}
 use Rattle.linear_conditions.specs.Forms.{sum_of_expr}
 use Rattle.linear_conditions.specs.Leaves.{negated, difference, plus_one, Leaves, leaves_of, leaf_fits, IsLeaf, AreLeaves}
 use Rattle.linear_conditions.specs.Folding.{fold_linear, joined}
-use Rattle.linear_conditions.specs.Counts.{Counts, Outcome, Fault, Done, and_then, allowed, within_limits, one_visit, count_sums}
+use Rattle.linear_conditions.specs.Counts.{Counts, Fault, Done, and_then, allowed, within_limits, one_visit, count_sums}
 use Rattle.linear_conditions.specs.Compare.{allowed_leaves, ground_leaves}
 use Rattle.linear_conditions.specs.Faults.{IsFault, IsMisfit, Gives}
 use Rattle.linear_conditions.specs.Views.{wide_view}

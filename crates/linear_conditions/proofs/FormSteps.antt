@@ -7,10 +7,15 @@ use lib.Signed.{le_z}
 use Rattle.geo_conditions.specs.declared.form.Term.{Term}
 use Rattle.geo_conditions.specs.Form.{Sum}
 use Rattle.problem_data.specs.Problem.{ProblemData}
-use Rattle.rule_expand.specs.Plain.{PlainExprTree, number, field, shape_number, negative, sum, product, least, greatest, PlainSumTree, plus, minus, a_sum, PlainProducts, no_products, a_product}
+use Rattle.rule_expand.specs.Plain.{PlainExprTree, number, field, shape_number, negative, sum, product, least, greatest, PlainSumTree, plus, minus, a_sum, PlainProductTree, PlainProducts, no_products, a_product}
 use Rattle.rule_expand.specs.PlainTruth.{PlainEnv}
-use Rattle.rule_expand.specs.PlainView.{plain_sum_view, plain_sums_view, plain_products_view}
+use Rattle.rule_expand.specs.PlainView.{plain_expr_step, plain_product_step, plain_sum_step, plain_expr_view, plain_sum_view, plain_sums_view, plain_products_view}
+use Rattle.rule_expand.specs.declared.plain.PlainExpr.{PlainExpr}
+use Rattle.rule_expand.specs.declared.plain.PlainExpr.TheFolds.{fold-roll-PlainExpr, fold-roll-PlainSum}
+use Rattle.rule_expand.specs.declared.plain.PlainExpr.TheOpen.{PlainExpr-F, PlainSum-F}
+use Rattle.rule_expand.specs.declared.plain.PlainExpr.TheVariants.{Field, rolls-Field}
 use Rattle.rule_expand.specs.declared.plain.PlainSum.{PlainSum}
+use Rattle.rule_expand.specs.declared.plain.PlainSum.TheVariants.{Plus, rolls-Plus}
 use Rattle.rule_expand.specs.declared.plain.PlainProd.{PlainProd}
 use Rattle.linear_conditions.specs.Fixings.{Fixing}
 use Rattle.linear_conditions.specs.Ordered.{IsOrdered}
@@ -21,6 +26,13 @@ use Rattle.linear_conditions.proofs.Ordered.{both-true, bounds-of}
 use Rattle.linear_conditions.proofs.Placed.{step-placed}
 use Rattle.linear_conditions.proofs.SumLaws.{neg-value}
 use Rattle.linear_conditions.proofs.Bounds.{IsUpTo, AllUpTo, SumUpTo, can-add, can-scale, fits-up, minus-one-up}
+
+-- a step that adds a field
+pub view-field : (s : PlainSum) (e : PlainExpr) (of : _) (name : _) → s ≡ Plus e → e ≡ Field of name → plain_sum_view s ≡ plus (field of name)
+view-field s e of name h k =
+    ap plain_sum_view h ∙ ap plain_sum_view (sym (rolls-Plus e)) ∙ fold-roll-PlainSum PlainExprTree PlainProductTree PlainSumTree plain_expr_step plain_product_step plain_sum_step (PlainSum-F.Plus e)
+    ∙ ap (λ x. plus (plain_expr_view x)) k
+    ∙ ap plus (ap plain_expr_view (sym (rolls-Field of name)) ∙ fold-roll-PlainExpr PlainExprTree PlainProductTree PlainSumTree plain_expr_step plain_product_step plain_sum_step (PlainExpr-F.Field of name))
 
 -- ---- answers of parts
 

@@ -1,5 +1,5 @@
 -- Conditions that name objects and dimensions of a problem; so are all that grounding makes.
-use Rattle.std.proofs.Common.{ℕ, ◌<◌, ◌&&◌, Bool, true, false, cond, List, [], ◌∷◌, ◌++◌, map, length, ℤ, pos, negsuc, ◌-ℤ◌}
+use Rattle.std.proofs.Common.{◌<◌, Bool, true, false, cond, List, [], ◌∷◌, ◌++◌, map, length, ℤ, pos, negsuc, ◌-ℤ◌}
 use Rattle.std.specs.Prelude.{int_lt}
 use lib.Signed.{le_z}
 use Rattle.rule_syntax.specs.declared.tree.Rel.{Rel}
@@ -12,10 +12,10 @@ use Rattle.linear_conditions.specs.declared.verdict.Verdict.{Verdict}
 use Rattle.linear_conditions.specs.declared.verdict.Verdict.TheVariants.{Holds, Fails, Open}
 use Rattle.linear_conditions.specs.CondTree.{CondTree, CondTrees, linear, shape_is, shape_is_not, at_least, no_conds, a_cond, conds}
 use Rattle.linear_conditions.specs.Fixings.{Fixing}
-use Rattle.linear_conditions.specs.Sums.{has_terms, constant_sum}
+use Rattle.linear_conditions.specs.Sums.{has_terms}
 use Rattle.linear_conditions.specs.Forms.{sum_of_expr}
 use Rattle.linear_conditions.specs.Leaves.{negated, difference, plus_one, leaves_of}
-use Rattle.linear_conditions.specs.Folding.{always, never, certain, verdict, fold_linear, count_holding, still_open, one_or_node, fold_open, fold_count, joined}
+use Rattle.linear_conditions.specs.Folding.{always, never, certain, verdict, fold_linear, count_holding, still_open, one_or_node, fold_count, joined}
 use Rattle.linear_conditions.specs.Counts.{Counts, OnDone}
 use Rattle.linear_conditions.specs.Compare.{ground_compare}
 use Rattle.linear_conditions.proofs.Outcomes.{on_done, on_allowed, on_any}

@@ -3,11 +3,12 @@ use Rattle.std.specs.Prelude.{◌≡◌, Bool, true, false, Result, Ok, Err}
 use Rattle.geo_tokens.specs.declared.fault.FaultWord.TheVariants as words
 use Rattle.geo_conditions.specs.Form.{Sum}
 use Rattle.linear_conditions.specs.Sums.{fits_sum}
+use Rattle.linear_conditions.specs.declared.wide.Atom.{Atom}
 use Rattle.linear_conditions.specs.declared.wide.WideSum.{WideSum}
 use Rattle.linear_conditions.specs.declared.fault.GroundFault.{GroundFault}
 use Rattle.linear_conditions.specs.declared.fault.GroundFault.TheVariants.{Overflow, TooMany, Memory}
 use Rattle.linear_conditions.specs.Counts.{Counts, Outcome, Fault}
-use Rattle.linear_conditions.specs.Views.{wide_view}
+use Rattle.linear_conditions.specs.Views.{atom_view, wide_view}
 
 abbrev pub IsFault : (A : Type 0) → Outcome A → GroundFault → Type 0
 IsFault A o Overflow = o ≡ Fault words.Overflow
@@ -28,3 +29,8 @@ IsMisfit fits Memory = Unit {0}
 abbrev pub Gives : Result WideSum GroundFault → Sum → Bool → Type 0
 Gives (Ok f) s fits = (wide_view f ≡ s) × (fits ≡ true) × (fits_sum (wide_view f) ≡ true)
 Gives (Err e) s fits = IsMisfit fits e
+
+-- the same of a number or a coordinate
+abbrev pub GivesAtom : Result Atom GroundFault → Sum → Bool → Type 0
+GivesAtom (Ok a) s fits = (atom_view a ≡ s) × (fits ≡ true) × (fits_sum (atom_view a) ≡ true)
+GivesAtom (Err e) s fits = IsMisfit fits e

@@ -17,7 +17,7 @@ ghost use Rattle.rule_values.specs.View.{env_view};
 use crate::counter::Counter;
 use crate::fault::GroundFault;
 use crate::fixings::Fixings;
-use crate::forms::{added, checked, negated, sum_of};
+use crate::forms::{checked, sum_of};
 use crate::leaves::{Leaves, fold_leaves, leaves_of};
 use crate::wide::WideSum;
 use geo_conditions::Cond;
@@ -35,8 +35,10 @@ fn subtracted(alloc: Global, left: WideSum, right: &WideSum) -> Result<WideSum, 
     ensures { let f = difference (wide_view left) (wide_view right.now) in
         Gives result f (fits_sum f) }
 {
-    let other = negated(alloc, right)?;
-    checked(added(left, other)?)
+    let other = right.scaled(alloc, -1)?;
+    let mut difference = left;
+    difference.add(&other)?;
+    checked(difference)
 }
 
 /// The difference of the two sides of a comparison.

@@ -3,11 +3,11 @@
 ghost use Rattle.std.specs.Prelude.{◌≡◌, ◌&&◌, IfOk, MatchResult, negsuc, true};
 ghost use Rattle.std.specs.Int.{int_max, int_min};
 ghost use Rattle.linear_conditions.specs.declared.fault.GroundFault.TheVariants.{Memory};
-ghost use Rattle.linear_conditions.specs.Faults.{Gives};
+ghost use Rattle.linear_conditions.specs.Faults.{Gives, GivesAtom};
 ghost use Rattle.linear_conditions.specs.Forms.{field_sum, fits_expr, product_fits, product_step, products_fit, products_taken, sum_fits, sum_of_expr, sum_step, sums_added, sums_fit};
 ghost use Rattle.linear_conditions.specs.Room.{CanAdd};
 ghost use Rattle.linear_conditions.specs.Sums.{add_sums, constant_sum, fits_sum, scale, times_sum};
-ghost use Rattle.linear_conditions.specs.Views.{fixings_view, wide_view};
+ghost use Rattle.linear_conditions.specs.Views.{atom_view, fixings_view, wide_view};
 ghost use Rattle.rule_expand.specs.PlainTruth.{subject_in};
 ghost use Rattle.rule_expand.specs.PlainView.{plain_expr_view, plain_product_view, plain_products_view, plain_sum_view, plain_sums_view};
 ghost use Rattle.rule_values.specs.View.{env_view};
@@ -15,7 +15,7 @@ ghost use Rattle.rule_values.specs.View.{env_view};
 use crate::fault::GroundFault;
 use crate::fields::field_sum;
 use crate::fixings::Fixings;
-use crate::wide::WideSum;
+use crate::wide::{Atom, WideSum, is_atom_within};
 use geo_tokens::name::Name;
 use problem_data::problem::Problem;
 use rule_expand::plain::{PlainExpr, PlainProd, PlainSum, Subject};
@@ -24,6 +24,7 @@ use rule_values::floor::{floor_quotient, floor_remainder};
 use std::alloc::{AllocError, Global};
 
 /// A form, if it is within the bounds.
+#[inline(always)]
 pub(crate) fn checked(f: WideSum) -> Result<WideSum, GroundFault>
     ensures { Gives result (wide_view f) (fits_sum (wide_view f)) }
 {
@@ -34,8 +35,19 @@ pub(crate) fn checked(f: WideSum) -> Result<WideSum, GroundFault>
     }
 }
 
+/// A number or a coordinate, if it is within the bounds.
+fn checked_atom(atom: Atom) -> Result<Atom, GroundFault>
+    ensures { GivesAtom result (atom_view atom) (fits_sum (atom_view atom)) }
+{
+    if is_atom_within(atom) {
+        Ok(atom)
+    } else {
+        Err(GroundFault::Overflow)
+    }
+}
+
 /// The form with the other sign.
-pub(crate) fn negated(alloc: Global, f: &WideSum) -> Result<WideSum, GroundFault>
+fn negated(alloc: Global, f: &WideSum) -> Result<WideSum, GroundFault>
     requires { fits_sum (wide_view f.now) ≡ true }
     ensures { MatchResult result (λ g. (wide_view g ≡ scale (negsuc 0) (wide_view f.now))
         × (fits_sum (wide_view g) ≡ true)) (λ e. e ≡ Memory) }
@@ -56,15 +68,24 @@ fn multiplied(alloc: Global, f: &WideSum, g: &WideSum) -> Result<WideSum, AllocE
     }
 }
 
-/// A partial sum with a form added.
-pub(crate) fn added(total: WideSum, part: WideSum) -> Result<WideSum, GroundFault>
-    requires { CanAdd (wide_view total) (wide_view part) }
-    ensures { MatchResult result (λ s. wide_view s
-        ≡ add_sums (wide_view total) (wide_view part)) (λ e. e ≡ Memory) }
+/// Adds a form to a partial sum.
+fn add_part(total: &mut WideSum, part: WideSum) -> Result<(), GroundFault>
+    requires { CanAdd (wide_view total.old) (wide_view part) }
+    ensures { MatchResult result (λ _. wide_view total.new
+        ≡ add_sums (wide_view total.old) (wide_view part)) (λ e. e ≡ Memory) }
 {
-    let mut sum = total;
-    sum.add(&part)?;
-    Ok(sum)
+    total.add(&part)?;
+    Ok(())
+}
+
+/// Adds a number or a coordinate to a partial sum.
+fn add_atom(total: &mut WideSum, atom: Atom) -> Result<(), GroundFault>
+    requires { CanAdd (wide_view total.old) (atom_view atom) }
+    ensures { MatchResult result (λ _. wide_view total.new
+        ≡ add_sums (wide_view total.old) (atom_view atom)) (λ e. e ≡ Memory) }
+{
+    total.add_atom(atom)?;
+    Ok(())
 }
 
 /// A number, if it is within the bounds.
@@ -75,6 +96,21 @@ fn constant(alloc: Global, z: i128) -> Result<WideSum, GroundFault>
 }
 
 /// A field of what a variable stands for, or of an object, if it is within the bounds.
+fn field_atom(
+    problem: &Problem,
+    of: Subject,
+    name: &Name,
+    env: &Env,
+    fixings: &Fixings,
+) -> Result<Atom, GroundFault>
+    ensures { let f = field_sum problem.now (fixings_view fixings.now) name.now
+        (subject_in of (env_view env.now)) in
+        GivesAtom result f (fits_sum f) }
+{
+    checked_atom(field_sum(problem, fixings, name, subject(env, of)))
+}
+
+/// The form of a field, if it is within the bounds.
 fn field(
     alloc: Global,
     problem: &Problem,
@@ -87,7 +123,8 @@ fn field(
         (subject_in of (env_view env.now)) in
         Gives result f (fits_sum f) }
 {
-    checked(field_sum(alloc, problem, fixings, name, subject(env, of))?)
+    let atom = field_atom(problem, of, name, &*env, &*fixings)?;
+    Ok(WideSum::of_atom(alloc, atom)?)
 }
 
 /// The lesser of two numbers.
@@ -228,7 +265,7 @@ fn sum_step(
     }
 }
 
-/// A sum, from its first term.
+/// A sum, from its first term. A field, as most of its steps are, is added without a form of its own.
 #[cycle(form)]
 fn sum(
     alloc: Global,
@@ -246,9 +283,16 @@ fn sum(
 {
     let mut total = first;
     for step in steps {
-        let part = sum_step(alloc, problem, step, &*env, &*fixings)?;
-        let next = added(total, part)?;
-        total = next;
+        match step {
+            PlainSum::Plus(PlainExpr::Field(of, name)) => {
+                let atom = field_atom(problem, *of, name, &*env, &*fixings)?;
+                add_atom(&mut total, atom)?;
+            }
+            _ => {
+                let part = sum_step(alloc, problem, step, &*env, &*fixings)?;
+                add_part(&mut total, part)?;
+            }
+        }
     }
     checked(total)
 }

@@ -7,7 +7,7 @@ ghost use Rattle.geo_conditions.specs.Terms.{term_of};
 ghost use Rattle.linear_conditions.specs.Sums.{add_at, add_sums, constant_sum, fits_sum, has_terms, is_before, is_bounded, is_zero, place_among, raised, same_coordinate, scale, term, unless_zero};
 ghost use Rattle.linear_conditions.specs.Leaves.{plus_one};
 ghost use Rattle.linear_conditions.specs.Room.{CanAdd, CanScale, HasRoom};
-ghost use Rattle.linear_conditions.specs.Views.{wide_term, wide_terms, wide_view};
+ghost use Rattle.linear_conditions.specs.Views.{atom_view, wide_term, wide_terms, wide_view};
 
 use geo_conditions::{Form, ObjId};
 use smallvec::SmallVec;
@@ -24,10 +24,17 @@ pub struct WideTerm {
     pub factor: i128,
 }
 
+/// A number, or a coordinate of an object.
+#[derive(Clone, Copy)]
+pub enum Atom {
+    Number(i128),
+    Coordinate(ObjId, usize),
+}
+
 /// A sum of coordinates with factors, and a constant. Most have few terms, and lie inline.
 #[derive(Drop)]
 pub struct WideSum {
-    terms: SmallVec<WideTerm, 4>,
+    terms: SmallVec<WideTerm, 2>,
     constant: i128,
 }
 
@@ -104,7 +111,7 @@ fn is_zero(t: &WideTerm) -> bool
 }
 
 /// Appends a term, unless its factor is 0.
-fn push_unless_zero(terms: &mut SmallVec<WideTerm, 4>, t: WideTerm) -> Result<(), AllocError>
+fn push_unless_zero(terms: &mut SmallVec<WideTerm, 2>, t: WideTerm) -> Result<(), AllocError>
     ensures { OnOk result (wide_terms terms.new.items ≡ wide_terms terms.old.items
         ++ unless_zero (wide_term t) []) }
 {
@@ -121,6 +128,16 @@ fn is_within(z: i128) -> bool
     -BOUND <= z && z <= BOUND
 }
 
+/// Whether a number or a coordinate is within the bounds of a form.
+pub fn is_atom_within(atom: Atom) -> bool
+    ensures { result ≡ fits_sum (atom_view atom) }
+{
+    match atom {
+        Atom::Number(z) => is_within(z),
+        Atom::Coordinate(_object, _dimension) => true,
+    }
+}
+
 impl WideSum {
     /// A sum without terms.
     pub fn constant_of(alloc: Global, z: i128) -> WideSum
@@ -133,7 +150,7 @@ impl WideSum {
     }
 
     /// A coordinate of an object.
-    pub fn coordinate(alloc: Global, object: ObjId, dimension: usize) -> Result<WideSum, AllocError>
+    fn coordinate(alloc: Global, object: ObjId, dimension: usize) -> Result<WideSum, AllocError>
         ensures { IfOk result (λ f. wide_view f
             ≡ record { terms = term object.0 dimension (pos 1) ∷ []; constant = pos 0 }) }
     {
@@ -144,6 +161,16 @@ impl WideSum {
             factor: 1,
         })?;
         Ok(WideSum { terms, constant: 0 })
+    }
+
+    /// A number, or a coordinate of an object.
+    pub fn of_atom(alloc: Global, atom: Atom) -> Result<WideSum, AllocError>
+        ensures { IfOk result (λ f. wide_view f ≡ atom_view atom) }
+    {
+        match atom {
+            Atom::Number(z) => Ok(WideSum::constant_of(alloc, z)),
+            Atom::Coordinate(object, dimension) => WideSum::coordinate(alloc, object, dimension),
+        }
     }
 
     /// What is added to the terms.
@@ -234,6 +261,25 @@ impl WideSum {
             self.add_at(*a)?;
         }
         Ok(())
+    }
+
+    /// Adds a number, or a coordinate of an object.
+    pub fn add_atom(&mut self, atom: Atom) -> Result<(), AllocError>
+        requires { CanAdd (wide_view self.old) (atom_view atom) }
+        ensures { OnOk result (wide_view self.new
+            ≡ add_sums (wide_view self.old) (atom_view atom)) }
+    {
+        match atom {
+            Atom::Number(z) => {
+                self.constant += z;
+                Ok(())
+            }
+            Atom::Coordinate(object, dimension) => self.add_at(WideTerm {
+                object,
+                dimension,
+                factor: 1,
+            }),
+        }
     }
 
     /// The sum multiplied by a number. Terms whose factor comes to 0 go.

@@ -6,9 +6,9 @@ use Rattle.std.proofs.lemmas.List.FromFn.{length-range_with_len, get_or-range_wi
 use Rattle.std.proofs.Math.ListN.{drop_of_length-le}
 use Rattle.geo_conditions.specs.declared.cond.Cond.{Cond}
 use Rattle.rule_syntax.specs.declared.tree.QuantKind.{QuantKind}
-use Rattle.problem_data.specs.Problem.{ProblemData}
+use Rattle.problem_data.specs.Problem.{BoxData, ProblemData}
 use Rattle.problem_data.specs.Tuple.{object_of}
-use Rattle.problem_data.specs.Value.{Thing, Number}
+use Rattle.problem_data.specs.Value.{Thing, Number, Part}
 use Rattle.rule_expand.specs.declared.plain.Subject.TheVariants as subjects
 use Rattle.rule_expand.specs.Plain.{PlainCollTree, PlainFormulaTree, quantified}
 use Rattle.rule_expand.specs.PlainTruth.{PlainEnv, set_variable}
@@ -25,7 +25,7 @@ use Rattle.rule_ground.specs.declared.quantifiers.Manner.{Manner}
 use Rattle.rule_ground.specs.declared.quantifiers.Manner.TheVariants as ways
 use Rattle.rule_ground.specs.Shapes.{places}
 use Rattle.rule_ground.specs.Answers.{Gives, Appends}
-use Rattle.rule_ground.specs.Grounding.{Element, alone, ground, needs, manner, body_sign, quantifier_node, grouped, things_of, element_of, elements_of, ground_elements}
+use Rattle.rule_ground.specs.Grounding.{Element, whole, alone, ground, needs, manner, body_sign, quantifier_node, grouped, things_of, element_of, elements_of, ground_elements}
 use Rattle.rule_ground.proofs.Behind.{then-done, then-made, then-fault, free, both_ways, appended}
 
 -- a result that is made of another one
@@ -54,10 +54,12 @@ pub operand-size : (items : List PlainFormula) (i : ℕ) (x : PlainFormula) → 
 operand-size items i x h e = subst (λ y. nodes (plain_formula_view y) ≤ nodes_in (plain_formulas_view items)) (sym e) (operand-nodes items i x h)
 
 module _ (p : ProblemData) (kind : QuantKind) (v : ℕ) (coll : PlainCollTree) (f : PlainFormulaTree) (sign : Bool) (env : PlainEnv) (fix : List Fixing) (k k1 : Counts) (s asked : Bool) (m : Manner) (ts : List Thing)
-    (counted : visit k ≡ Done k1 k1) (es : s ≡ body_sign kind sign) (em : m ≡ manner kind sign) (ea : asked ≡ needs (subjects.Variable v) f) (et : ts ≡ things_of p coll env fix) where
+    (counted : visit k ≡ Done k1 k1) (es : s ≡ body_sign kind sign) (em : m ≡ manner kind sign) (ea : map (element_of p asked fix) ts ≡ map (element_of p (needs (subjects.Variable v) f) fix) ts) (et : ts ≡ things_of p coll env fix) where
   same-elements : ground_elements p (λ x more j. ground p f (body_sign kind sign) (set_variable v x env) more j) (manner kind sign) fix (elements_of p (needs (subjects.Variable v) f) coll env fix) k1
       ≡ ground_elements p (λ x more j. ground p f s (set_variable v x env) more j) m fix (map (element_of p asked fix) ts) k1
-  same-elements i = ground_elements p (λ x more j. ground p f (sym es i) (set_variable v x env) more j) (sym em i) fix (map (element_of p (sym ea i) fix) (sym et i)) k1
+  same-elements =
+      (λ i. ground_elements p (λ x more j. ground p f (sym es i) (set_variable v x env) more j) (sym em i) fix (map (element_of p (needs (subjects.Variable v) f) fix) (sym et i)) k1)
+      ∙ ap (λ xs. ground_elements p (λ x more j. ground p f s (set_variable v x env) more j) m fix xs k1) (sym ea)
 
   -- a quantifier from the children of its elements
   pub quantified-made : (j : Counts) (n : ℕ) (cs : List CondTree) (r : Result Cond GroundFault) → n ≡ length ts →
@@ -73,6 +75,11 @@ module _ (p : ProblemData) (kind : QuantKind) (v : ℕ) (coll : PlainCollTree) (
       IsFault CondTree (ground p (quantified kind v coll f) sign env fix k) e
   quantified-fault e h =
       step-fault (visit k) _ k1 e counted (then-fault (List CondTree) CondTree _ _ e (subst (λ o. IsFault (List CondTree) o e) (sym same-elements) h))
+
+-- boxes are whole, whether shapes are asked for or not
+pub boxes-whole : (p : ProblemData) (fix : List Fixing) (a b : Bool) (bs : List BoxData) → map (element_of p a fix) (map Part bs) ≡ map (element_of p b fix) (map Part bs)
+boxes-whole p fix a b [] = refl
+boxes-whole p fix a b (x ∷ xs) = ap (λ ys. whole (Part x) ∷ ys) (boxes-whole p fix a b xs)
 
 -- the element at a place
 pub elements-at : (f : Thing → Element) (ts : List Thing) (i : ℕ) (x : Thing) (y : Element) → i < length ts → x ≡ slice_index_or ts i (Number (pos 0)) → y ≡ f x → map f (drop i ts) ≡ y ∷ map f (drop (i + 1) ts)

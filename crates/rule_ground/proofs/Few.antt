@@ -1,6 +1,6 @@
 -- How many conditions the rules of a problem give: none without a leaf that was counted, but for one a rule.
-use Rattle.std.proofs.Common.{◌≡◌, ℕ, ◌+◌, ◌-◌, ◌^◌, ◌≤◌, ◌&&◌, Bool, true, false, not, cond, List, [], ◌∷◌, ◌++◌, map, length, ℤ, pos, ◌-ℤ◌, ◌+ℤ◌, sym, ap, ◌∙◌, refl, arith, subst, length-append}
-use Rattle.std.specs.Prelude.{Result, Ok, Err, int_lt, nat_le}
+use Rattle.std.proofs.Common.{◌≡◌, ℕ, ◌+◌, ◌-◌, ◌^◌, ◌≤◌, Bool, true, false, not, cond, List, [], ◌∷◌, ◌++◌, map, length, ℤ, pos, ◌-ℤ◌, ◌+ℤ◌, sym, ap, ◌∙◌, refl, arith, subst, length-append}
+use Rattle.std.specs.Prelude.{Result, Ok, Err, int_lt}
 use Rattle.std.proofs.lemmas.List.{length-map}
 use Rattle.std.proofs.lemmas.Bool.Decides.{nat_tests}
 use lib.Signed.{le_z}
@@ -24,13 +24,13 @@ use Rattle.linear_conditions.specs.Fixings.{Fixing}
 use Rattle.linear_conditions.specs.Sums.{has_terms}
 use Rattle.linear_conditions.specs.Forms.{sum_of_expr}
 use Rattle.linear_conditions.specs.Leaves.{Leaves, under, difference, leaves_of}
-use Rattle.linear_conditions.specs.Folding.{always, never, certain, verdict, fold_linear, count_holding, still_open, one_or_node, fold_open, fold_count, joined, decides}
+use Rattle.linear_conditions.specs.Folding.{always, never, certain, verdict, fold_linear, count_holding, still_open, one_or_node, fold_count, joined, decides}
 use Rattle.linear_conditions.specs.Counts.{Counts, Outcome, Fault, Done, and_then, allowed, either_way, are_within, within_limits, one_visit, one_leaf, visit, count_sum, count_sums}
 use Rattle.linear_conditions.specs.Compare.{ground_leaves}
 use Rattle.rule_ground.specs.Shapes.{places}
 use Rattle.rule_ground.specs.Apart.{apart_conditions}
 use Rattle.rule_ground.specs.Within.{within_conditions}
-use Rattle.rule_ground.specs.Grounding.{needs, Element, whole, split, element_of, elements_of, gather, alone, in_turn, manner, body_sign, quantifier_node, Body, shape_child, ground_place, ground_places, grouped, ground_element, ground_elements, ground, ground_operands, named_objects, ground_named}
+use Rattle.rule_ground.specs.Grounding.{needs, Element, whole, split, element_of, elements_of, gather, alone, in_turn, manner, body_sign, quantifier_node, Body, shape_child, ground_place, grouped, ground_element, ground, ground_operands, named_objects, ground_named}
 use Rattle.rule_ground.specs.declared.quantifiers.Manner.{Manner}
 use Rattle.rule_ground.specs.declared.quantifiers.Manner.TheVariants as ways
 use Rattle.rule_ground.specs.Rules.{tree_length, is_count, conds_of, conds_of_each, as_leaves, ground_demand, ground_rules, grounded, no_counts, before, before_rest}

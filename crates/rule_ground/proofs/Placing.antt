@@ -1,18 +1,13 @@
 -- Shapes of objects and their boxes on a tuple.
-use Rattle.std.proofs.Common.{◌≡◌, ◌<◌, ◌≤◌, ◌-◌, ◌==◌, eqb, ℕ, Bool, true, false, not, ◌||◌, List, [], ◌∷◌, length, get_or, refl, sym, subst, ap, arith}
-use Rattle.std.specs.Prelude.{slice_get, Option, None, Some, All, if◌then◌else◌}
+use Rattle.std.proofs.Common.{◌≡◌, ◌<◌, ◌≤◌, ◌==◌, eqb, ℕ, Bool, true, false, not, List, [], ◌∷◌, length, get_or, refl, sym, subst, ap, arith}
+use Rattle.std.specs.Prelude.{All, if◌then◌else◌}
 use Rattle.std.specs.List.{list_any}
-use Rattle.std.specs.Option.{option_map_or}
-use Rattle.std.proofs.Math.Logic.{⊎_elim}
-use Rattle.std.proofs.lemmas.Bool.{cases_lt, eq-eqb, ltb-false}
-use Rattle.std.proofs.lemmas.List.{get_or_past}
-use Rattle.std.proofs.lemmas.List.Elements.{All-nil}
+use Rattle.std.proofs.lemmas.Bool.{eq-eqb, ltb-false}
 use Rattle.std.proofs.Math.Bool.{or-false}
 use Rattle.geo_base.specs.Tuple.{Tuple, spot}
-use Rattle.problem_data.specs.Problem.{BoxData, ShapeData, ProblemData}
-use Rattle.problem_data.specs.Tuple.{object_of, boxes_of_shape, boxes_in}
+use Rattle.problem_data.specs.Problem.{BoxData, ProblemData}
+use Rattle.problem_data.specs.Tuple.{object_of, boxes_in}
 use Rattle.problem_data.specs.Cells.{IsShaped}
-use Rattle.problem_data.specs.WellFormed.{IsBox, IsWellFormed}
 use Rattle.linear_conditions.specs.CondTree.{shape_is_not, true_on}
 use Rattle.rule_ground.specs.Shapes.{IsPlace, has_several, other_shape, IsSmallBox, HasSmallShapes}
 use Rattle.rule_values.specs.Shapes.{boxes_at}

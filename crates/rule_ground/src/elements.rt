@@ -1,20 +1,22 @@
 //! The elements of quantifiers, and which of them split.
 
 ghost use Rattle.std.specs.Option.{option_map_or};
-ghost use Rattle.std.specs.Prelude.{◌≡◌, ◌<◌, ◌^◌, None, Some, if◌then◌else◌, length};
-ghost use Rattle.linear_conditions.specs.Fixings.{place_of};
+ghost use Rattle.std.specs.Prelude.{◌≡◌, ◌<◌, ◌^◌, List, None, Some, if◌then◌else◌, length, map};
+ghost use Rattle.linear_conditions.specs.Fixings.{Fixing, place_of};
 ghost use Rattle.linear_conditions.specs.Views.{fixings_view};
+ghost use Rattle.problem_data.specs.Problem.{ProblemData};
 ghost use Rattle.problem_data.specs.Tuple.{object_of};
-ghost use Rattle.rule_expand.specs.PlainView.{plain_coll_view};
+ghost use Rattle.rule_expand.specs.PlainView.{plain_coll_view, plain_formula_view};
 ghost use Rattle.rule_ground.specs.Answers.{element_view};
-ghost use Rattle.rule_ground.specs.Grounding.{element_of, is_open, things_of};
+ghost use Rattle.rule_ground.specs.Grounding.{element_of, is_open, needs, things_of};
 ghost use Rattle.rule_values.specs.Elements.{elements_view};
 ghost use Rattle.rule_values.specs.View.{env_view, thing_view};
 
+use crate::needs::needs;
 use geo_conditions::ObjId;
 use linear_conditions::fixings::{Fixings, fixed_place, place_of};
 use problem_data::problem::Problem;
-use rule_expand::plain::PlainColl;
+use rule_expand::plain::{PlainColl, PlainFormula, Subject};
 use rule_values::elements::{Elements, elements_of, owner};
 use rule_values::env::{Env, Thing};
 
@@ -56,6 +58,20 @@ fn open_object(problem: &Problem, fixings: &Fixings, o: usize) -> Option<ObjId>
         Some(ObjId(o as u16))
     } else {
         None
+    }
+}
+
+/// Whether a formula asks for the shapes of the elements. Boxes have none, so that it is not looked at.
+pub fn asks_shapes(subject: Subject, f: &PlainFormula, things: &Elements) -> bool
+    ensures { (p : ProblemData) (fix : List Fixing)
+        → map (element_of p result fix) (elements_view things.now)
+        ≡ map (element_of p (needs subject (plain_formula_view f.now)) fix)
+        (elements_view things.now) }
+{
+    match things {
+        Elements::Objects(_count) => needs(subject, f),
+        Elements::Listed(_objects) => needs(subject, f),
+        Elements::Boxes(_boxes) => false,
     }
 }
 

@@ -16,8 +16,7 @@ ghost use Rattle.rule_ground.specs.Grounding.{element_of, ground as grounded, gr
 ghost use Rattle.rule_values.specs.Elements.{elements_view};
 ghost use Rattle.rule_values.specs.View.{env_view, thing_view};
 
-use crate::elements::{Element, element_of, place_count, things_of};
-use crate::needs::needs;
+use crate::elements::{Element, asks_shapes, element_of, place_count, things_of};
 use crate::quantifiers::{Manner, body_sign, manner_of, quantifier_node, shape_child};
 use geo_conditions::{Cond, ObjId};
 use linear_conditions::compare::compare;
@@ -299,8 +298,8 @@ fn ground_quantified(
     if let Err(e) = counter.visit() {
         return Err(e);
     }
-    let asked = needs(Subject::Variable(v), f);
     let things = things_of(problem, coll, &*env, &*fixings);
+    let asked = asks_shapes(Subject::Variable(v), f, &things);
     let site = Site {
         formula: &*f,
         sign: body_sign(kind, sign),

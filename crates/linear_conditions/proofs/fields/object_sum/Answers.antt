@@ -1,7 +1,9 @@
-use Rattle.std.proofs.Common.{◌≡◌, ap, ◌∙◌, subst, rules}
-use Rattle.std.specs.Prelude.{IfOk}
+use Rattle.std.proofs.Common.{◌≡◌, ap, ◌∙◌, rules}
+use Rattle.std.specs.Int.{w128}
+use Rattle.std.proofs.lemmas.Int.{to_z-of_z}
+use mir.Val.{to_z, of_z}
 use Rattle.linear_conditions.specs.Forms.{constant_sum, object_sum}
-use Rattle.linear_conditions.specs.Views.{fixings_view, wide_view}
+use Rattle.linear_conditions.specs.Views.{fixings_view}
 use Rattle.linear_conditions.proofs.ObjectFields.{sum_at, field-sum}
 use Rattle.linear_conditions.proofs.fields.object_sum.Goals as goal
 
@@ -9,7 +11,7 @@ pub returns-in-Coordinate : goal.returns-in-Coordinate
 returns-in-Coordinate c =
     let p = c.args.problem.now in
     let fix = fixings_view c.args.fixings.now in
-    subst (λ s. IfOk c.coordinate_sum.result (λ f. wide_view f ≡ s)) (ap (sum_at p fix c.args.o) c.in-Coordinate.ensures.kind ∙ field-sum p fix c.args.o c.args.name.now) c.coordinate_sum.ensures
+    c.coordinate_sum.ensures ∙ ap (sum_at p fix c.args.o) c.in-Coordinate.ensures.kind ∙ field-sum p fix c.args.o c.args.name.now
 
 pub returns-in-Shape : goal.returns-in-Shape
 returns-in-Shape c =
@@ -22,5 +24,5 @@ returns-in-Constant c =
     let p = c.args.problem.now in
     let fix = fixings_view c.args.fixings.now in
     let number : constant_sum c.in-Constant.number ≡ object_sum p fix c.args.o c.args.name.now = ap (sum_at p fix c.args.o) c.in-Constant.ensures.kind ∙ field-sum p fix c.args.o c.args.name.now in
-    let made : wide_view c.constant_of.result ≡ constant_sum c.in-Constant.number = search rules in
+    let made : constant_sum (to_z w128 (of_z w128 c.in-Constant.number)) ≡ constant_sum c.in-Constant.number = ap constant_sum (to_z-of_z w128 c.in-Constant.number (search rules)) in
     made ∙ number

@@ -290,12 +290,12 @@ ground_quantified-returns-in-Err t c = then-fault Counts CondTree (visit c.args.
 pub ground_quantified-returns-in-Ok : goal.ground_quantified-returns-in-Ok
 ground_quantified-returns-in-Ok t c =
     quantified-made c.args.problem.now c.args.kind c.args.v (plain_coll_view c.args.coll.now) (plain_formula_view c.args.f.now) c.args.sign (env_view c.args.env.now) (fixings_view c.args.fixings.now) c.args.counter.now c.visit.new.self
-    c.body_sign.result c.needs-asked.result c.manner_of.result (elements_view c.things_of-things.result) c.in_default.ensures c.body_sign.ensures c.manner_of.ensures c.needs-asked.ensures c.things_of-things.ensures.same c.ground_elements.new.counter c.len.result (map cond_view c.in-Ok.children.items) c.quantifier_node.result c.len.ensures c.in-Ok.ensures c.quantifier_node.ensures
+    c.body_sign.result c.asks_shapes-asked.result c.manner_of.result (elements_view c.things_of-things.result) c.in_default.ensures c.body_sign.ensures c.manner_of.ensures (c.asks_shapes-asked.ensures c.args.problem.now (fixings_view c.args.fixings.now)) c.things_of-things.ensures.same c.ground_elements.new.counter c.len.result (map cond_view c.in-Ok.children.items) c.quantifier_node.result c.len.ensures c.in-Ok.ensures c.quantifier_node.ensures
 
 pub ground_quantified-returns-in-Err-ground_elements : goal.ground_quantified-returns-in-Err-ground_elements
 ground_quantified-returns-in-Err-ground_elements t c =
     quantified-fault c.args.problem.now c.args.kind c.args.v (plain_coll_view c.args.coll.now) (plain_formula_view c.args.f.now) c.args.sign (env_view c.args.env.now) (fixings_view c.args.fixings.now) c.args.counter.now c.visit.new.self
-    c.body_sign.result c.needs-asked.result c.manner_of.result (elements_view c.things_of-things.result) c.in_default.ensures c.body_sign.ensures c.manner_of.ensures c.needs-asked.ensures c.things_of-things.ensures.same c.in-Err-ground_elements.e c.in-Err-ground_elements.ensures
+    c.body_sign.result c.asks_shapes-asked.result c.manner_of.result (elements_view c.things_of-things.result) c.in_default.ensures c.body_sign.ensures c.manner_of.ensures (c.asks_shapes-asked.ensures c.args.problem.now (fixings_view c.args.fixings.now)) c.things_of-things.ensures.same c.in-Err-ground_elements.e c.in-Err-ground_elements.ensures
 
 pub ground_whole-returns-in-Err : goal.ground_whole-returns-in-Err
 ground_whole-returns-in-Err t c = then-fault Counts CondTree (visit c.args.counter.now) _ c.in-Err.e (past-fault (visit c.args.counter.now) c.in-Err.e c.in-Err.ensures)
