@@ -2,7 +2,6 @@
 use Rattle.std.proofs.Common.{◌≡◌, ◌⊎◌, ℕ, zero, suc, ◌+◌, ◌-◌, ◌<◌, ◌≤◌, Bool, true, false, List, [], ◌∷◌, ◌++◌, length, get_or, replicate, refl, sym, ap, ◌∙◌, subst, inl, inr, arith, Option, Some, None, cond}
 use borrow.Author.Tests.{le-leb, lt-leb}
 use Rattle.std.specs.Prelude.{slice_get, slice_index}
-use Rattle.std.specs.List.{All}
 use Rattle.std.proofs.lemmas.Bool.{cases_Bool, cases_lt, false≢true}
 use Rattle.std.proofs.lemmas.List.{length-append, get_or_append_left, get_or-append_right, get_or-replicate, length-replicate}
 use Rattle.std.proofs.lemmas.List.{get_or_past}
@@ -10,11 +9,11 @@ use Rattle.std.proofs.lemmas.Option.{slice_get_within}
 use Rattle.std.proofs.lemmas.List.Elements.{All-append, All-cons, All-nil, All-get_or}
 use Rattle.geo_conditions.specs.declared.cond.Cond.{Cond}
 use Rattle.geo_conditions.specs.Reach.{State}
-use Rattle.geo_conditions.specs.Conditions.{possible, FitsIn, AllFit}
+use Rattle.geo_conditions.specs.Conditions.{possible, FitsIn}
 use Rattle.geo_conditions.specs.Supported.{NoneRefuted}
 use Rattle.geo_conditions.proofs.Defaults.{any_default}
 use Rattle.derivation.specs.declared.renumbering.Renumbering.{Renumbering}
-use Rattle.derivation.specs.Covers.{refutes, is_refuted, IsNumber}
+use Rattle.derivation.specs.Covers.{refutes, is_refuted}
 use Rattle.derivation.specs.Renumbered.{number_for, StandsFor}
 use Rattle.derivation.proofs.Refuting.{refutes_at, refutes_within, some_refuted}
 use Rattle.geo_state.specs.Settle.{IsBare}

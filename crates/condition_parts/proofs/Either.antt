@@ -1,14 +1,12 @@
 -- Conditions of which one is possible, or all are.
-use Rattle.std.proofs.Common.{◌≡◌, ℕ, zero, suc, ◌+◌, ◌<◌, ◌≤◌, Bool, true, false, ◌||◌, List, [], ◌∷◌, ◌++◌, length, get_or, take, drop, refl, sym, ap, ◌∙◌, subst, inl, inr, arith, ℤ, pos, ◌≤ℤ◌}
+use Rattle.std.proofs.Common.{◌≡◌, ℕ, ◌+◌, ◌<◌, ◌≤◌, Bool, true, false, ◌||◌, List, [], ◌∷◌, length, get_or, take, drop, refl, sym, ap, ◌∙◌, subst, arith, ℤ, pos}
 use lib.Signed.{le_z}
 use borrow.Author.Differences.{true_is_le, le-true}
 use Rattle.std.specs.Prelude.{insert, Result, Ok, Err, IfOk}
-use Rattle.std.specs.List.{All, list_any}
 use Rattle.std.proofs.lemmas.Int.{ints}
-use Rattle.std.proofs.lemmas.Bool.{cases_Bool, or_cases, or_left, or_right, false≢true}
 use Rattle.std.proofs.lemmas.List.{take-append-drop, take_all}
 use Rattle.std.proofs.lemmas.List.Folds.{list_any-append, list_any_more}
-use Rattle.std.proofs.lemmas.List.Elements.{All-nil, All-cons, All-head, All-tail, All-append, All-take, All-drop, All-get_or, All-more}
+use Rattle.std.proofs.lemmas.List.Elements.{All-nil, All-cons, All-head, All-tail, All-append, All-take, All-drop, All-get_or}
 use Rattle.geo_conditions.specs.declared.cond.Cond.{Cond, AtLeast}
 use Rattle.geo_conditions.specs.declared.cond.Conds.{Conds}
 use Rattle.geo_conditions.specs.Reach.{State, count}
@@ -16,7 +14,6 @@ use Rattle.geo_conditions.specs.Conditions.{possible, FitsIn, AllFit}
 use Rattle.geo_conditions.specs.Supported.{NoneRefuted}
 use Rattle.geo_conditions.proofs.Children.{many_possible, many_most, at_least_is, fit_out, fit_in}
 use Rattle.condition_parts.specs.Literals.{some_possible, AddsTo, AddsAll, IsOneOf}
-use Rattle.condition_parts.specs.Parts.{IsEither, AreUnder, AreUnderAll, PutsUnder, PutsUnderAll, IsAllOf}
 
 -- ---- one of them
 

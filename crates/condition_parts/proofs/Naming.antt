@@ -1,9 +1,9 @@
 -- Conditions that name an object.
-use Rattle.std.proofs.Common.{◌≡◌, ◌==◌, ◌<◌, ℕ, Bool, true, false, not, List, [], ◌∷◌, length, get_or, subst, sym, ap, ◌∙◌, arith, ℤ}
+use Rattle.std.proofs.Common.{◌≡◌, ◌==◌, ◌<◌, ℕ, Bool, true, not, List, [], ◌∷◌, length, get_or, subst, sym, ap, ◌∙◌, arith, ℤ}
 use Rattle.std.specs.List.{All}
 use Rattle.std.proofs.lemmas.Bool.{false≢true}
 use Rattle.std.proofs.lemmas.List.Elements.{All-get_or}
-use Rattle.geo_conditions.specs.declared.cond.Cond.{Cond, Lin, Shape, NotShape, AtLeast}
+use Rattle.geo_conditions.specs.declared.cond.Cond.{Cond, Lin, AtLeast}
 use Rattle.geo_conditions.specs.declared.cond.Conds.{Conds}
 use Rattle.geo_conditions.specs.declared.form.Term.{Term}
 use Rattle.geo_conditions.specs.Form.{Sum}

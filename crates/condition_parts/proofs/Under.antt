@@ -1,10 +1,10 @@
 -- Parts under literals of which one is enough.
-use Rattle.std.proofs.Common.{◌≡◌, ℕ, ◌+◌, ◌-◌, ◌<◌, ◌≤◌, ◌⊎◌, Bool, true, false, ◌||◌, List, [], ◌∷◌, ◌++◌, length, get_or, take, refl, sym, ap, ◌∙◌, subst, inl, inr, arith, ℤ, pos, append_assoc}
-use Rattle.std.specs.List.{All, list_any}
+use Rattle.std.proofs.Common.{◌≡◌, ℕ, ◌+◌, ◌<◌, ◌≤◌, ◌⊎◌, Bool, true, false, ◌||◌, List, [], ◌∷◌, ◌++◌, length, get_or, take, refl, sym, ap, ◌∙◌, subst, inl, inr, arith, ℤ, pos, append_assoc}
+use Rattle.std.specs.List.{All}
 use Rattle.std.proofs.lemmas.Bool.{cases_Bool, or_cases, or_left, or_right}
 use Rattle.std.proofs.lemmas.List.{take_all, append-nil, length-append, get_or_append_left, get_or-append-add}
 use Rattle.std.proofs.lemmas.List.Folds.{list_any_more}
-use Rattle.std.proofs.lemmas.List.Elements.{All-nil, All-cons, All-append, All-get_or, All-more, All-take, All-weaker}
+use Rattle.std.proofs.lemmas.List.Elements.{All-nil, All-cons, All-append, All-get_or, All-more, All-take}
 use Rattle.geo_conditions.specs.declared.cond.Cond.{Cond, AtLeast}
 use Rattle.geo_conditions.specs.declared.cond.Conds.{Conds}
 use Rattle.geo_conditions.specs.Reach.{State}
@@ -12,7 +12,7 @@ use Rattle.geo_conditions.specs.Conditions.{possible, FitsIn, AllFit}
 use Rattle.geo_conditions.specs.Supported.{NoneRefuted}
 use Rattle.geo_conditions.proofs.Children.{fit_out}
 use Rattle.condition_parts.specs.Literals.{some_possible, AddsTo, AddsAll, IsOneOf}
-use Rattle.condition_parts.specs.Parts.{IsEither, AreUnder, AreUnderAll, PutsUnder, PutsUnderAll, IsAllOf}
+use Rattle.condition_parts.specs.Parts.{IsEither, PutsUnder, PutsUnderAll, IsAllOf}
 use Rattle.condition_parts.proofs.Either.{one_enough, all_enough, all_needed}
 
 pub all_left : (P : Cond → Type 0) (xs ys : List Cond) → All P (xs ++ ys) → All P xs

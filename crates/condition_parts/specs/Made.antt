@@ -1,5 +1,5 @@
 -- What is made of the first conditions of a list that is taken apart.
-use Rattle.std.specs.Prelude.{◌≡◌, ◌++◌, ◌∷◌, [], List, map}
+use Rattle.std.specs.Prelude.{◌++◌, ◌∷◌, [], List, map}
 use Rattle.geo_conditions.specs.declared.cond.Cond.{Cond}
 use Rattle.indexical.specs.declared.any.AnyIndexical.{AnyIndexical}
 use Rattle.condition_parts.specs.declared.taken.Made.{Made}

@@ -4,7 +4,7 @@ ghost use Rattle.std.specs.Prelude.{◌≡◌, true, OnOk, IfOk, IfSome, map};
 ghost use Rattle.geo_conditions.specs.Terms.{term_of};
 ghost use Rattle.condition_parts.specs.Literals.{AddsTo, AddsAll, IsOneOf};
 
-use geo_conditions::{Cond, Conds, Form};
+use geo_conditions::{Cond, Conds, Form, ObjId};
 use std::alloc::{AllocError, Global};
 
 // A form once more.
@@ -33,23 +33,22 @@ fn copied(alloc: Global, c: &Cond) -> Result<Option<Cond>, AllocError>
     }
 }
 
-/// Where a literal stands among others: literals on shapes first, by object, and then forms of two coordinates, by dimension, and
-/// of each dimension the one first whose first factor is positive. So what keeps two boxes apart has the order that two boxes have.
+/// Where a literal stands among others: first those that an object has another shape, by object, and then forms of two coordinates,
+/// by dimension, and of each dimension the one first whose first factor is positive. So what keeps two boxes apart has the order that
+/// two boxes have.
 #[derive(Clone, Copy)]
-struct Rank {
-    kind: u8,
-    number: usize,
+enum Rank {
+    OtherShape(ObjId),
+    Difference { dimension: usize, is_second: bool },
+    Last,
 }
 
 // The rank of a literal.
 fn rank_of(c: &Cond) -> Rank {
     match c {
-        Cond::NotShape(o, _) => Rank {
-            kind: 0,
-            number: usize::from(o.0),
-        },
+        Cond::NotShape(o, _) => Rank::OtherShape(*o),
         Cond::Lin(f) => form_rank(f),
-        _ => Rank { kind: 3, number: 0 },
+        _ => Rank::Last,
     }
 }
 
@@ -57,18 +56,34 @@ fn rank_of(c: &Cond) -> Rank {
 fn form_rank(f: &Form) -> Rank {
     let terms = f.terms();
     if terms.len() != 2 {
-        return Rank { kind: 2, number: 0 };
+        return Rank::Last;
     }
-    let later = if terms[0].factor > 0 { 0 } else { 1 };
-    Rank {
-        kind: 1,
-        number: terms[0].dimension.saturating_mul(2).saturating_add(later),
+    Rank::Difference {
+        dimension: terms[0].dimension,
+        is_second: terms[0].factor < 0,
     }
 }
 
 // Whether the first comes behind the second.
-fn is_behind(a: &Rank, b: &Rank) -> bool {
-    a.kind > b.kind || (a.kind == b.kind && a.number > b.number)
+fn is_behind(a: Rank, b: Rank) -> bool {
+    match (a, b) {
+        (Rank::OtherShape(o), Rank::OtherShape(u)) => o.0 > u.0,
+        (Rank::OtherShape(_), _) => false,
+        (_, Rank::OtherShape(_)) => true,
+        (
+            Rank::Difference {
+                dimension: d,
+                is_second: later,
+            },
+            Rank::Difference {
+                dimension: e,
+                is_second: other,
+            },
+        ) => d > e || (d == e && later && !other),
+        (Rank::Difference { .. }, _) => false,
+        (_, Rank::Difference { .. }) => true,
+        _ => false,
+    }
 }
 
 // Puts a literal among the others, by its rank.
@@ -77,7 +92,7 @@ fn put_literal(literals: &mut Vec<Cond>, c: Cond) -> Result<(), AllocError>
 {
     let own = rank_of(&c);
     let mut at = literals.len();
-    while at > 0 && is_behind(&rank_of(&literals[at - 1]), &own) {
+    while at > 0 && is_behind(rank_of(&literals[at - 1]), own) {
         at -= 1;
     }
     literals.insert(at, c)?;

@@ -1,11 +1,11 @@
 -- Which derivations are valid on a state, and which node is the first that fails.
-use Rattle.std.specs.Prelude.{◌≡◌, ◌-◌, ◌<◌, ℕ, zero, suc, Bool, true, false, List, [], ◌∷◌, ◌++◌, map, slice_get, slice_index_or, slice_set, Some}
+use Rattle.std.specs.Prelude.{◌≡◌, ◌<◌, ℕ, zero, suc, Bool, true, false, List, [], ◌∷◌, ◌++◌, map, slice_get, slice_index_or, slice_set, Some}
 use Rattle.std.specs.List.{All}
 use Rattle.geo_conditions.specs.declared.cond.Cond.{Cond}
 use Rattle.geo_conditions.specs.Reach.{State, Reach, reach, without, with_places}
 use Rattle.derivation.specs.declared.half.Half.{Half}
 use Rattle.derivation.specs.declared.half.Half.TheVariants.{OfPlace, OfSide}
-use Rattle.derivation.specs.Cuts.{near, far}
+use Rattle.derivation.specs.Cuts.{far}
 use Rattle.derivation.specs.Covers.{refutes, covers}
 use Rattle.derivation.specs.PlaceCovers.{all_cover}
 use Rattle.derivation.specs.Chains.{cut_to_side}

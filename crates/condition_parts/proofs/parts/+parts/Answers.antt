@@ -1,5 +1,4 @@
-use Rattle.std.proofs.Common.{◌≡◌, ℕ, ◌+◌, ◌-◌, length, take, pos, refl, arith, subst, sym, ap, ◌∙◌}
-use Rattle.std.proofs.lemmas.Int.{ints}
+use Rattle.std.proofs.Common.{◌≡◌, ℕ, ◌-◌, length, take, pos, refl, arith, subst, sym, ap, ◌∙◌}
 use Rattle.geo_conditions.specs.declared.cond.Cond.{AtLeast}
 use Rattle.condition_parts.specs.Literals.{AddsAll}
 use Rattle.condition_parts.specs.Parts.{PutsUnder, PutsUnderAll}

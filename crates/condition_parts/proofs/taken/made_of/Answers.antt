@@ -5,7 +5,6 @@ use Rattle.std.proofs.lemmas.Iterator.Adapters.{YieldsList-from_vec}
 use Rattle.indexical.specs.declared.any.AnyIndexical.{AnyIndexical}
 use Rattle.geo_conditions.specs.declared.cond.Cond.{Cond}
 use Rattle.condition_parts.specs.Made.{HasMade}
-use Rattle.condition_parts.proofs.Apart.{apart_none}
 use Rattle.condition_parts.proofs.taken.made_of.Goals as goal
 
 pub loop-x-preserved : goal.loop-x-preserved

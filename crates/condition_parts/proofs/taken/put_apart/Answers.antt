@@ -1,4 +1,4 @@
-use Rattle.std.proofs.Common.{List, [], ◌∷◌, ◌++◌, Some, ap, ◌∙◌}
+use Rattle.std.proofs.Common.{[], ◌∷◌, ◌++◌, Some, ap, ◌∙◌}
 use Rattle.geo_conditions.specs.declared.cond.Cond.{Cond}
 use Rattle.condition_parts.proofs.Making.{parts_made, longer_by}
 use Rattle.condition_parts.proofs.taken.put_apart.Goals as goal

@@ -1,4 +1,4 @@
-use Rattle.std.proofs.Common.{◌≡◌, ◌++◌, ℕ, ◌+◌, List, length, map, sym, ap, ◌∙◌, subst, arith}
+use Rattle.std.proofs.Common.{◌≡◌, ◌++◌, List, length, map, sym, ap, ◌∙◌, subst, arith}
 use Rattle.std.proofs.lemmas.List.{length-map, length-append}
 use Rattle.indexical.specs.declared.any.AnyIndexical.{AnyIndexical}
 use Rattle.geo_conditions.specs.declared.cond.Cond.{Cond}
