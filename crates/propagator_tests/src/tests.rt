@@ -58,6 +58,9 @@ const LONGER_LINE: &[u8] =
 const TWO_CUBES: &[u8] =
     b"geost 1 dims 3 shape s box 0 0 0 size 3 3 3 ; object a as s at 0..3 0..3 0..1 ; object b as s at 0..3 0..3 0..1 ; rule r : apart ; end";
 
+const TURNED_CRATES: &[u8] =
+    b"geost 1 dims 2 shape flat box 0 0 size 2 1 ; shape tall box 0 0 size 1 2 ; object a as flat, tall at 0..2 0..1 with weight = 2 ; object b as tall, flat at 0..2 0..1 with weight = 1 ; macro on(p : object, q : object) means exists s in boxes of p : exists t in boxes of q : [ p.x2 + s.t2 = q.x2 + t.t2 + t.l2 and p.x1 + s.t1 < q.x1 + t.t1 + t.l1 and q.x1 + t.t1 < p.x1 + s.t1 + s.l1 ] ; rule f : apart ; rule h : forall p in objects : forall q in objects : [ p.weight > q.weight implies not @on(p, q) ] ; rule s : forall p in objects : [ p.x2 = 0 or exists q in objects : @on(p, q) ] ; end";
+
 /// What each propagator answers, in as many dimensions as the problem has.
 fn all_answers(
     alloc: Global,
@@ -203,6 +206,7 @@ fn propagators_agree_with_the_listing(rt: HostRuntime) -> Result<(), Fail> {
         (BOUND_NAME, 1),
         (LONGER_LINE, 72),
         (TWO_CUBES, 240),
+        (TURNED_CRATES, 28),
     ] {
         assert_eq!(rt;
             verdict(rt.alloc(), text, layouts)?,
