@@ -1,5 +1,11 @@
-use Rattle.std.proofs.Common.{◌≡◌, ℕ, true, [], ◌∷◌, map, length, ap, sym, ◌∙◌, subst, rules}
+use Rattle.std.proofs.Common.{◌≡◌, ◌<◌, ℕ, true, List, [], ◌∷◌, map, length, ap, sym, ◌∙◌, subst, rules, arith}
 use Rattle.std.specs.Prelude.{Result, Ok, Err, IfOk}
+use Rattle.std.specs.List.{AllPairs}
+use Rattle.std.proofs.lemmas.List.{length-map}
+use Rattle.geo_conditions.specs.declared.cond.Cond.{Cond}
+use Rattle.geo_state.specs.declared.propagate.Settled.{Settled}
+use Rattle.geo_state.specs.declared.propagate.Settled.TheVariants.{Kept, Dead as NoneLeft}
+use Rattle.geo_state.specs.Settle.{SettlesOr}
 use Rattle.geo_conditions.specs.Conditions.{AllFit}
 use Rattle.geo_conditions.specs.Reach.{State}
 use Rattle.geo_conditions.specs.Supported.{NoneRefuted, NoneInside}
@@ -9,7 +15,7 @@ use Rattle.derivation.specs.declared.event.Event.TheVariants.{Dead}
 use Rattle.derivation.specs.Chains.{IsDead}
 use Rattle.derivation.specs.Covers.{refutes}
 use Rattle.derivation.proofs.Chains.{closes_end}
-use Rattle.sweep.specs.Picks.{picked}
+use Rattle.sweep.specs.Picks.{ArePicks, picked}
 use Rattle.object_pruning.proofs.Cases.{from_none}
 use Rattle.fixpoint.specs.Links.{AreLinks, BareOf}
 use Rattle.fixpoint.specs.Kept.{AllStand}
@@ -23,6 +29,38 @@ use Rattle.fixpoint.proofs.Turns.{caught_up}
 use Rattle.fixpoint.proofs.Standing.{stand_noted}
 use Rattle.derivation.proofs.Continuing.{growth_added, growth_refused}
 use Rattle.fixpoint.proofs.propagation.settle.Goals as goal
+
+pub first_refuted-requires : goal.first_refuted-requires
+first_refuted-requires g c =
+    let f = λ (x : AnyIndexical g.row.K). x.cond in
+    let cs = map f c.args.list.now in
+    let X = c.state.result.now in
+    let without = c.deref.result.now in
+    let those : BareOf cs (length c.args.queued.now) without = subst (BareOf cs (length c.args.queued.now)) (sym c.deref.ensures.value) c.requires.links.bare in
+    let fits : AllFit cs X = subst (AllFit cs) (sym c.state.ensures.value) c.requires.fits in
+    let picks : ArePicks (length c.args.list.now) without = subst (λ (n : ℕ). ArePicks n without) (length-map c.args.list.now f) those.within in
+    let rising : AllPairs (λ i j. i < j) without = those.rising in
+    search rules
+
+-- as many objects are left as there were
+settled_objects : {E : Type 0} (cs : List Cond) (S T : State) (r : Result Settled E) → SettlesOr cs S r T → length T ≡ length S
+settled_objects cs S T (Ok Kept) h = let i = h.inside.objects in omega (arith, i)
+settled_objects cs S T (Ok NoneLeft) h = let i = h.1.objects in omega (arith, i)
+settled_objects cs S T (Err e) h = let i = h.objects in omega (arith, i)
+
+pub copy_from-requires : goal.copy_from-requires
+copy_from-requires g c =
+    let cs = map (λ (x : AnyIndexical g.row.K). x.cond) c.args.list.now in
+    let S = c.args.t.now.state in
+    let T = c.prune_queued-settled.new.t.state in
+    let left : length T ≡ length S = settled_objects cs S T c.prune_queued-settled.result c.prune_queued-settled.ensures.settles in
+    let same : length c.args.last.now ≡ length c.state-3.result.now = c.requires.objects.1 ∙ sym left ∙ sym (ap length c.state-3.ensures.value) in
+    search rules
+
+pub returns-clause-fine : goal.returns-clause-fine
+returns-clause-fine g c =
+    let cs = map (λ (x : AnyIndexical g.row.K). x.cond) c.args.list.now in
+    subst (λ (X : State). RestFine cs X c.prune_queued-settled.new.queued) (sym (c.copy_from.ensures ∙ c.state-3.ensures.value)) c.prune_queued-settled.ensures.fine
 
 pub returns-in-Ok-clause-settles : goal.returns-in-Ok-clause-settles
 returns-in-Ok-clause-settles g c =
