@@ -5,6 +5,8 @@ pub mod SamePlaces
 pub mod Children
 pub mod Tried
 pub mod Overlapping
+pub mod Parts
+pub mod Bounds
 pub mod ApartForm
 pub mod PutBoxes
 pub mod TwoLengths

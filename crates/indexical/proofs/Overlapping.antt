@@ -19,10 +19,10 @@ many_append : (T : State) (xs ys : List Cond) → many_possible T (xs ++ ys) ≡
 many_append T [] ys = omega arith
 many_append T (x ∷ xs) ys = let r = many_append T xs ys in omega (arith, r)
 
-above : (z : ℤ) → le_z z (pos 0) ≡ false → pos 0 <ℤ z
+pub above : (z : ℤ) → le_z z (pos 0) ≡ false → pos 0 <ℤ z
 above z e = grind (arith, ints)
 
-not_above : (z : ℤ) → pos 0 <ℤ z → le_z z (pos 0) ≡ false
+pub not_above : (z : ℤ) → pos 0 <ℤ z → le_z z (pos 0) ≡ false
 not_above z e = grind (arith, ints)
 
 module _ {K : ℕ} (a b : PlacedBox K) where

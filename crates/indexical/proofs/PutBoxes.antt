@@ -1,8 +1,8 @@
 -- Two boxes, where the object of one of them is put at a place in a box.
-use Rattle.std.specs.Prelude.{MatchOption}
+use Rattle.std.specs.Prelude.{MatchOption, IfNone, IfSome}
 use Rattle.geo_base.specs.declared.kbox.KBox.{KBox}
 use Rattle.geo_conditions.specs.Regions.{region_of}
-use Rattle.std.proofs.Common.{Option, None, Some, inl, inr, ◌≡◌, ◌≢◌, ◌==◌, ℕ, ◌<◌, ◌^◌, Bool, true, false, not, List, length, refl, sym, ap, ◌∙◌, subst, arith, ℤ}
+use Rattle.std.proofs.Common.{Option, None, Some, inl, inr, ◌≡◌, ◌≢◌, ◌==◌, ℕ, ◌<◌, ◌^◌, Bool, true, false, not, List, length, refl, sym, ap, ◌∙◌, subst, arith, ℤ, ◌≤ℤ◌}
 use Rattle.std.proofs.lemmas.Int.{ints, clamps}
 use Rattle.std.specs.Int.{int_min, int_max}
 use Rattle.std.proofs.lemmas.Bool.{cases_Bool, false≢true}
@@ -13,8 +13,9 @@ use Rattle.geo_conditions.specs.Conditions.{possible, IsRefuted}
 use Rattle.geo_conditions.proofs.Points.{reach_same, reach_other}
 use Rattle.geo_conditions.proofs.Sets.{only_test, only_only, only_nowhere}
 use Rattle.indexical.specs.declared.placed.PlacedBox.{PlacedBox}
-use Rattle.indexical.specs.Forbidden.{IsForbiddenBox}
-use Rattle.indexical.specs.Apart.{first, last, apart_parts, MustOverlap, Clashes, IsOverlapBox, SaysApart}
+use Rattle.indexical.specs.Forbidden.{IsForbiddenPart}
+use Rattle.indexical.proofs.Parts.{ForbidsPart}
+use Rattle.indexical.specs.Apart.{first, last, apart_parts, MustOverlap, NeedNotOverlap, Clashes, IsOverlapPart, SaysApart}
 use Rattle.indexical.proofs.Values.{low_at, high_at}
 use Rattle.indexical.proofs.Overlapping.{apart_refuted, refuted_apart}
 
@@ -88,15 +89,14 @@ module _ {K : ℕ} (a b : PlacedBox K) where
           (omega (arith, ints, u, l', f), omega (arith, ints, l, u', e))
 
     -- the region cut down to where they clash
-    pub cut_is_overlap : (c : List ℤ) (region r : Region) → Has K region.lo region.hi c → (a.leaf ≡ true → is_only (only s) a.place ≡ true) → (b.leaf ≡ true → is_only (reach S b.object.0).places b.place ≡ true)
-        → Clashes a b (reach S b.object.0).region c c
+    pub cut_is_part : (region r : Region) → (a.leaf ≡ true → is_only (only s) a.place ≡ true) → (b.leaf ≡ true → is_only (reach S b.object.0).places b.place ≡ true)
         → ((d : ℕ) → d < K → coordinate r.lo d ≡ int_max (coordinate region.lo d) (first a b (reach S b.object.0).region d))
         → ((d : ℕ) → d < K → coordinate r.hi d ≡ int_min (coordinate region.hi d) (last a b (reach S b.object.0).region d))
-        → IsOverlapBox a b S a.object.0 s c region r
-    cut_is_overlap c region r inside stands shape clash lo hi = record {
-      has = λ d h. let k = clash d h in let i = inside d h in let l = lo d h in let u = hi d h in (omega (arith, ints, clamps, k.0, i.0, l), omega (arith, ints, clamps, k.1, i.1, u));
-      low = λ d h. let k = clash d h in let i = inside d h in let l = lo d h in (omega (arith, ints, clamps, l), omega (arith, ints, clamps, k.0, i.0, i.1, l));
-      high = λ d h. let k = clash d h in let i = inside d h in let u = hi d h in (omega (arith, ints, clamps, k.1, i.0, i.1, u), omega (arith, ints, clamps, u));
+        → ((d : ℕ) → d < K → coordinate r.lo d ≤ℤ coordinate r.hi d)
+        → IsOverlapPart a b S a.object.0 s region r
+    cut_is_part region r stands shape lo hi some = record {
+      low = λ d h. let l = lo d h in let u = hi d h in let m = some d h in (omega (arith, ints, clamps, l), omega (arith, ints, clamps, l, u, m));
+      high = λ d h. let l = lo d h in let u = hi d h in let m = some d h in (omega (arith, ints, clamps, l, u, m), omega (arith, ints, clamps, u));
       overlap = overlap_beside r stands shape (λ d h. let l = lo d h in let u = hi d h in (omega (arith, ints, clamps, l), omega (arith, ints, clamps, u)));
       whole = λ q has o d h.
           let k = clash_out (just q) o d h in
@@ -105,6 +105,16 @@ module _ {K : ℕ} (a b : PlacedBox K) where
           let u = hi d h in
           (omega (arith, ints, clamps, l, k.0, i.0), omega (arith, ints, clamps, u, k.1, i.1));
     }
+
+    -- the same where they may clash nowhere
+    pub clashing_part : (region : Region) (x : Option (KBox K)) → (a.leaf ≡ true → is_only (only s) a.place ≡ true) → (b.leaf ≡ true → is_only (reach S b.object.0).places b.place ≡ true)
+        → IfNone x ((q : List ℤ) → Has K region.lo region.hi q → Clashes a b (reach S b.object.0).region q q → ⊥)
+        → IfSome x (λ r. (d : ℕ) → d < K → coordinate r.lo.coordinates d ≡ int_max (coordinate region.lo d) (first a b (reach S b.object.0).region d))
+        → IfSome x (λ r. (d : ℕ) → d < K → coordinate r.hi.coordinates d ≡ int_min (coordinate region.hi d) (last a b (reach S b.object.0).region d))
+        → IfSome x (λ r. (d : ℕ) → d < K → coordinate r.lo.coordinates d ≤ℤ coordinate r.hi.coordinates d)
+        → MatchOption x (NeedNotOverlap a b S a.object.0 s region) (λ r. IsOverlapPart a b S a.object.0 s region (region_of r))
+    clashing_part region None stands shape none lo hi some = λ q has m. none q has (clash_out (just q) m)
+    clashing_part region (Some r) stands shape none lo hi some = cut_is_part region (region_of r) stands shape lo hi some
 
   -- ---- another object is put
   module _ (S : State) (o s : ℕ) (r : Region) (ne_a : a.object.0 ≢ o) (ne_b : b.object.0 ≢ o) where
@@ -131,11 +141,10 @@ module _ {K : ℕ} (a b : PlacedBox K) where
     aside_overlap = same_overlap (with_at S o s r) S (reach_other S o s a.object.0 r ne_a) (reach_other S o s b.object.0 r ne_b)
 
   -- the whole region
-  pub region_is_overlap : (S : State) (o s : ℕ) (c : List ℤ) (region : Region) → Has K region.lo region.hi c → MustOverlap a b (with_at S o s region) → IsOverlapBox a b S o s c region region
-  region_is_overlap S o s c region inside m = record {
-    has = inside;
-    low = λ d h. let i = inside d h in (omega (arith, ints), omega (arith, ints, i.0, i.1));
-    high = λ d h. let i = inside d h in (omega (arith, ints, i.0, i.1), omega (arith, ints));
+  pub region_is_part : (S : State) (o s : ℕ) (region : Region) → ((d : ℕ) → d < K → coordinate region.lo d ≤ℤ coordinate region.hi d) → MustOverlap a b (with_at S o s region) → IsOverlapPart a b S o s region region
+  region_is_part S o s region some m = record {
+    low = λ d h. let i = some d h in (omega (arith, ints), i);
+    high = λ d h. let i = some d h in (i, omega (arith, ints));
     overlap = m;
     whole = λ q has o. has;
   }
@@ -156,35 +165,33 @@ module _ {K : ℕ} (a b : PlacedBox K) where
     says_answer T true f = sym (refuted_says T (f.0 refl))
     says_answer T false f = sym (possible_says T (λ m. false≢true (f.1 m)))
 
-    pub overlap_forbidden : (S : State) (o s : ℕ) (c : List ℤ) (region r : Region) → IsOverlapBox a b S o s c region r → IsForbiddenBox K cond S o s c region r
-    overlap_forbidden S o s c region r w = record {
-      has = w.has;
+    pub overlap_forbidden : (S : State) (o s : ℕ) (region r : Region) → IsOverlapPart a b S o s region r → IsForbiddenPart K cond S o s region r
+    overlap_forbidden S o s region r w = record {
       low = w.low;
       high = w.high;
       refuted = refuted_says (with_at S o s r) w.overlap;
-      whole = λ d q has f. w.whole q has (says_refuted (with_at S o s (just q)) f);
+      whole = λ q has f. w.whole q has (says_refuted (with_at S o s (just q)) f);
     }
 
 -- ---- answers that are a box or none
 
 module _ {K : ℕ} (a b : PlacedBox K) where
-  overlap_other_way : (S : State) (o s : ℕ) (c : List ℤ) (region r : Region) → IsOverlapBox b a S o s c region r → IsOverlapBox a b S o s c region r
-  overlap_other_way S o s c region r w = record {
-    has = w.has;
+  overlap_other_way : (S : State) (o s : ℕ) (region r : Region) → IsOverlapPart b a S o s region r → IsOverlapPart a b S o s region r
+  overlap_other_way S o s region r w = record {
     low = w.low;
     high = w.high;
     overlap = other_way b a (with_at S o s r) w.overlap;
     whole = λ q has m. w.whole q has (other_way a b (with_at S o s (just q)) m);
   }
 
-  pub matched_other_way : (S : State) (o s : ℕ) (c : List ℤ) (region : Region) → b.object.0 ≡ o → (x : Option (KBox K))
-      → MatchOption x (MustOverlap b a (with_at S b.object.0 s (just c)) → ⊥) (λ r. IsOverlapBox b a S b.object.0 s c region (region_of r))
-      → MatchOption x (MustOverlap a b (with_at S o s (just c)) → ⊥) (λ r. IsOverlapBox a b S o s c region (region_of r))
-  matched_other_way S o s c region of None h = λ m. h (subst (λ (u : ℕ). MustOverlap b a (with_at S u s (just c))) (sym of) (other_way a b (with_at S o s (just c)) m))
-  matched_other_way S o s c region of (Some r) h = overlap_other_way S o s c region (region_of r) (subst (λ (u : ℕ). IsOverlapBox b a S u s c region (region_of r)) of h)
+  pub matched_other_way : (S : State) (o s : ℕ) (region : Region) → b.object.0 ≡ o → (x : Option (KBox K))
+      → MatchOption x (NeedNotOverlap b a S b.object.0 s region) (λ r. IsOverlapPart b a S b.object.0 s region (region_of r))
+      → MatchOption x (NeedNotOverlap a b S o s region) (λ r. IsOverlapPart a b S o s region (region_of r))
+  matched_other_way S o s region of None h = λ q has m. h q has (subst (λ (u : ℕ). MustOverlap b a (with_at S u s (just q))) (sym of) (other_way a b (with_at S o s (just q)) m))
+  matched_other_way S o s region of (Some r) h = overlap_other_way S o s region (region_of r) (subst (λ (u : ℕ). IsOverlapPart b a S u s region (region_of r)) of h)
 
-  pub matched_forbidden : (short : length (apart_parts a b) < 2 ^ 63) (cond : Cond) → SaysApart a b short cond → (S : State) (o s : ℕ) (c : List ℤ) (region : Region) (x : Option (KBox K))
-      → MatchOption x (MustOverlap a b (with_at S o s (just c)) → ⊥) (λ r. IsOverlapBox a b S o s c region (region_of r))
-      → MatchOption x (possible cond (with_at S o s (just c)) ≡ true) (λ r. IsForbiddenBox K cond S o s c region (region_of r))
-  matched_forbidden short cond says S o s c region None h = possible_says a b short cond says (with_at S o s (just c)) h
-  matched_forbidden short cond says S o s c region (Some r) h = overlap_forbidden a b short cond says S o s c region (region_of r) h
+  -- what they forbid of the region is what the condition does
+  pub matched_part : (short : length (apart_parts a b) < 2 ^ 63) (cond : Cond) → SaysApart a b short cond → (S : State) (o s : ℕ) (region : Region) (x : Option (KBox K))
+      → MatchOption x (NeedNotOverlap a b S o s region) (λ r. IsOverlapPart a b S o s region (region_of r)) → ForbidsPart cond S o s region x
+  matched_part short cond says S o s region None h = λ q has. possible_says a b short cond says (with_at S o s (just q)) (h q has)
+  matched_part short cond says S o s region (Some r) h = overlap_forbidden a b short cond says S o s region (region_of r) h

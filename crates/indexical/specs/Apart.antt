@@ -56,10 +56,12 @@ module _ {K : ℕ} where
   abbrev pub Clashes : PlacedBox K → PlacedBox K → Region → List ℤ → List ℤ → Type 0
   Clashes a b held lo hi = (d : ℕ) → d < K → (first a b held d ≤ℤ coordinate lo d) × (coordinate hi d ≤ℤ last a b held d)
 
-  -- The box r of the region has the point c, and with o at the place s in it the boxes a and b must overlap. It has each point of the region
-  -- at which they must.
-  pub record IsOverlapBox (a b : PlacedBox K) (S : State) (o s : ℕ) (c : List ℤ) (region r : Region) : Type 0 where
-    pub has : Has K r.lo r.hi c
+  -- with o at the place s there is no point of the region at which the boxes a and b must overlap
+  abbrev pub NeedNotOverlap : (a b : PlacedBox K) → State → ℕ → ℕ → Region → Type 0
+  NeedNotOverlap a b S o s region = (q : List ℤ) → Has K region.lo region.hi q → MustOverlap a b (with_at S o s (just q)) → ⊥
+
+  -- With o at the place s in the box r of the region the boxes a and b must overlap. It has each point of the region at which they must.
+  pub record IsOverlapPart (a b : PlacedBox K) (S : State) (o s : ℕ) (region r : Region) : Type 0 where
     pub low : Has K region.lo region.hi r.lo
     pub high : Has K region.lo region.hi r.hi
     pub overlap : MustOverlap a b (with_at S o s r)

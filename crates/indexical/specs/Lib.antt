@@ -8,3 +8,4 @@ pub mod Limits
 pub mod Listed
 pub mod Apart
 pub mod TwoBoxes
+pub mod Bound

@@ -1,33 +1,39 @@
-ghost use Rattle.std.specs.Prelude.{◌≡◌, ◌<◌, ◌≤◌, not, is_some, true, length, IsTrue, MatchOption};
+ghost use Rattle.std.specs.Prelude.{◌≡◌, ◌<◌, ◌≤◌, not, is_some, true, length, IfSome, IsTrue, MatchOption};
 ghost use Rattle.std.specs.Option.{ForSome};
 ghost use Rattle.geo_base.specs.Boxes.{Has};
 ghost use Rattle.geo_conditions.specs.Reach.{with_at, just};
 ghost use Rattle.geo_conditions.specs.Regions.{region_of};
 ghost use Rattle.geo_conditions.specs.Conditions.{possible, FitsIn};
 ghost use Rattle.indexical.specs.Apart.{SaysApart};
+ghost use Rattle.indexical.specs.Bound.{SaysBound};
 ghost use Rattle.indexical.specs.Faces.{Faces};
-ghost use Rattle.indexical.specs.Forbidden.{IsForbiddenBox};
-ghost use Rattle.indexical.specs.Free.{LeavesFree, Spares, SparesAnywhere};
+ghost use Rattle.indexical.specs.Forbidden.{Forbids, IsForbiddenBox};
+ghost use Rattle.indexical.specs.Free.{LeavesFree, SparesAnywhere};
 ghost use Rattle.indexical.specs.Names.{IsFirstBefore, names};
 
 use super::apart::ApartIndexical;
+use super::bound::BoundIndexical;
 use super::facing::{Facing, facing_of_tree};
+use super::forbidden::{ForbiddenPart, box_with, exactly};
 use super::indexical::Indexical;
 use super::point::tree_possible_at;
-use super::spared::{is_named, tree_spares, tree_spares_anywhere};
-use super::tree::forbid_tree;
+use super::single_bound::bound_of;
+use super::spared::{is_named, tree_spares_anywhere};
+use super::tree::{forbid_tree, tree_part};
 use super::two_boxes::two_boxes;
 use super::watched::{Watched, tree_spares_watched};
 use geo_base::{KBox, MAX_DIMS, Point, Steps, Way};
 use geo_conditions::{Cond, MAX_OBJECTS, ObjId, State, refuted};
 use std::sync::ledger::Ledger;
 
-/// A condition of any kind. One that says that two boxes do not overlap is met by its boxes, each
-/// other one by its tree.
+/// A condition of any kind. One that says that two boxes do not overlap is met by its boxes, one on a single coordinate of an
+/// object by its bound, and each other one by its tree.
 #[derive(Drop)]
 pub struct AnyIndexical<const K: usize> {
     cond: Cond,
     boxes: Option<ApartIndexical<K>>,
+    bound: Option<BoundIndexical<K>>,
+    ghost bounds: { ForSome bound (λ x. SaysBound x cond) },
     ghost says: { ForSome boxes (λ x. SaysApart x.first x.second x.short cond) },
 }
 
@@ -37,7 +43,12 @@ impl<const K: usize> AnyIndexical<K> {
         ensures { result.cond ≡ c }
     {
         let boxes = two_boxes(&c);
-        AnyIndexical { cond: c, boxes }
+        let bound = bound_of(&c);
+        AnyIndexical {
+            cond: c,
+            boxes,
+            bound,
+        }
     }
 
     /// The condition.
@@ -146,6 +157,17 @@ impl<const K: usize> AnyIndexical<K> {
     }
 }
 
+/// The bound of the object that the condition is, if it is one.
+#[inline(always)]
+fn bound_on<const K: usize>(x: &AnyIndexical<K>, o: ObjId) -> Option<&BoundIndexical<K>>
+    ensures { IfSome result (λ b. (b.now.object.0 ≡ o.0) × SaysBound b.now x.now.cond) }
+{
+    match &x.bound {
+        Some(b) if b.is_of(o) => Some(b),
+        _ => None,
+    }
+}
+
 /// The first object that the condition names, of those from `from` on and before `end`.
 fn first_in_tree(c: &Cond, from: usize, end: usize) -> Option<ObjId>
     requires { end ≤ MAX_OBJECTS }
@@ -158,6 +180,30 @@ fn first_in_tree(c: &Cond, from: usize, end: usize) -> Option<ObjId>
         }
     }
     None
+}
+
+/// The forbidden box of a condition that is not met by two boxes.
+fn forbid_single<const K: usize>(
+    x: &AnyIndexical<K>,
+    s: &State<K>,
+    o: ObjId,
+    place: u8,
+    c: &Point<K>,
+    region: &KBox<K>,
+    way: &Way<K>,
+) -> Option<KBox<K>>
+    requires fits { FitsIn x.now.cond s.now }
+    requires object { o.0 < length s.now }
+    requires inside { Has K region.now.lo.coordinates region.now.hi.coordinates c.now.coordinates }
+    ensures { MatchOption result
+        (possible x.now.cond (with_at s.now o.0 place (just c.now.coordinates)) ≡ true)
+        (λ b. IsForbiddenBox K x.now.cond s.now o.0 place c.now.coordinates
+        (region_of region.now) (region_of b)) }
+{
+    match bound_on(x, o) {
+        Some(bound) => box_with(bound.broken_part(place, region), c),
+        None => forbid_tree(&x.cond, s, o, place, c, region, way),
+    }
 }
 
 /// The forbidden box of a condition of any kind.
@@ -179,8 +225,27 @@ fn forbid_any<const K: usize>(
         (region_of region.now) (region_of b)) }
 {
     match &x.boxes {
-        Some(boxes) => boxes.overlap(s, o, place, c, region),
-        None => forbid_tree(&x.cond, s, o, place, c, region, way),
+        Some(boxes) => box_with(boxes.overlap_part(s, o, place, region), c),
+        None => forbid_single(x, s, o, place, c, region, way),
+    }
+}
+
+/// Whether a condition that is not met by two boxes is possible with the object at that place and point.
+fn single_possible_at<const K: usize>(
+    x: &AnyIndexical<K>,
+    s: &State<K>,
+    o: ObjId,
+    place: u8,
+    c: &Point<K>,
+) -> bool
+    requires k { K ≤ MAX_DIMS }
+    requires fits { FitsIn x.now.cond s.now }
+    requires object { o.0 < length s.now }
+    ensures { result ≡ possible x.now.cond (with_at s.now o.0 place (just c.now.coordinates)) }
+{
+    match bound_on(x, o) {
+        Some(bound) => !bound.is_broken_at(place, c),
+        None => tree_possible_at(&x.cond, s, o, place, c),
     }
 }
 
@@ -199,20 +264,45 @@ fn any_possible_at<const K: usize>(
 {
     match &x.boxes {
         Some(boxes) => !boxes.must_overlap_at(s, o, place, c),
-        None => tree_possible_at(&x.cond, s, o, place, c),
+        None => single_possible_at(x, s, o, place, c),
     }
 }
 
-/// Whether a condition of any kind surely spares the object at that place.
-fn any_spares<const K: usize>(x: &AnyIndexical<K>, s: &State<K>, o: ObjId, place: u8) -> bool
+/// What a condition that is not met by two boxes forbids of the region with the object at that place.
+fn single_part<const K: usize>(
+    x: &AnyIndexical<K>,
+    s: &State<K>,
+    o: ObjId,
+    place: u8,
+    region: &KBox<K>,
+) -> ForbiddenPart<K>
     requires k { K ≤ MAX_DIMS }
     requires fits { FitsIn x.now.cond s.now }
     requires object { o.0 < length s.now }
-    ensures { IsTrue result → Spares x.now.cond s.now o.0 place }
+    ensures { Forbids K x.now.cond s.now o.0 place (region_of region.now) result }
+{
+    match bound_on(x, o) {
+        Some(bound) => exactly(bound.broken_part(place, region)),
+        None => tree_part(&x.cond, s, o, place, region),
+    }
+}
+
+/// What a condition of any kind forbids of the region with the object at that place.
+fn any_part<const K: usize>(
+    x: &AnyIndexical<K>,
+    s: &State<K>,
+    o: ObjId,
+    place: u8,
+    region: &KBox<K>,
+) -> ForbiddenPart<K>
+    requires k { K ≤ MAX_DIMS }
+    requires fits { FitsIn x.now.cond s.now }
+    requires object { o.0 < length s.now }
+    ensures { Forbids K x.now.cond s.now o.0 place (region_of region.now) result }
 {
     match &x.boxes {
-        Some(boxes) => boxes.surely_spares(s, o, place),
-        None => tree_spares(&x.cond, s, o, place),
+        Some(boxes) => exactly(boxes.overlap_part(s, o, place, region)),
+        None => single_part(x, s, o, place, region),
     }
 }
 
@@ -237,7 +327,13 @@ impl<const K: usize> Indexical<K> for AnyIndexical<K> {
         any_possible_at(self, s, o, place, c)
     }
 
-    fn surely_spares(&self, s: &State<K>, o: ObjId, place: u8) -> bool {
-        any_spares(self, s, o, place)
+    fn forbidden_part(
+        &self,
+        s: &State<K>,
+        o: ObjId,
+        place: u8,
+        region: &KBox<K>,
+    ) -> ForbiddenPart<K> {
+        any_part(self, s, o, place, region)
     }
 }

@@ -3,9 +3,7 @@ ghost use Rattle.geo_base.specs.declared.TheConstants.{MAX_DIMS};
 ghost use Rattle.indexical.specs.Apart.{AreGaps, apart_parts};
 
 use super::facing::{Facing, facing_beside};
-use super::overlap::{
-    covers_some, gaps, must_overlap, must_overlap_beside, overlap_beside, spares_beside,
-};
+use super::overlap::{covers_some, gaps, must_overlap, must_overlap_beside, overlap_beside};
 use super::placed::PlacedBox;
 use geo_base::{KBox, MAX_DIMS, Point};
 use geo_conditions::{ObjId, State};
@@ -35,7 +33,7 @@ impl<const K: usize> ApartIndexical<K> {
     ghost use Rattle.geo_conditions.specs.declared.cond.Cond.{Cond};
     ghost use Rattle.geo_conditions.specs.Conditions.{FitsIn};
     ghost use Rattle.geo_conditions.specs.Regions.{region_of};
-    ghost use Rattle.indexical.specs.Apart.{apart, MustOverlap, IsOverlapBox, SaysApart};
+    ghost use Rattle.indexical.specs.Apart.{apart, MustOverlap, NeedNotOverlap, IsOverlapPart, SaysApart};
     ghost use Rattle.indexical.specs.Disjunctions.{IsDisjunction};
     ghost use Rattle.indexical.specs.Faces.{Faces};
     ghost use Rattle.indexical.specs.Names.{IsFirst};
@@ -146,37 +144,6 @@ impl<const K: usize> ApartIndexical<K> {
         }
     }
 
-    /// Whether the object o is surely spared at that place: wherever it is put there, the boxes need not overlap. It is false where
-    /// neither box is o's.
-    pub fn surely_spares(&self, s: &State<K>, o: ObjId, place: u8) -> bool
-        requires first { self.now.first.object.0 < length s.now }
-        requires second { self.now.second.object.0 < length s.now }
-        ensures { IsTrue result → (p : List ℤ)
-            → MustOverlap self.now.first self.now.second (with_at s.now o.0 place (just p)) → ⊥ }
-    {
-        if self.first.object().0 == o.0 {
-            spares_beside(
-                &self.first,
-                &self.second,
-                &self.ahead,
-                &self.behind,
-                s,
-                place,
-            )
-        } else if self.second.object().0 == o.0 {
-            spares_beside(
-                &self.second,
-                &self.first,
-                &self.behind,
-                &self.ahead,
-                s,
-                place,
-            )
-        } else {
-            false
-        }
-    }
-
     /// Whether the boxes must overlap with the object o at that place and point.
     pub fn must_overlap_at(&self, s: &State<K>, o: ObjId, place: u8, c: &Point<K>) -> bool
         requires first { self.now.first.object.0 < length s.now }
@@ -209,23 +176,19 @@ impl<const K: usize> ApartIndexical<K> {
         }
     }
 
-    /// The part of the region in which the boxes must overlap, where they must at c.
-    pub fn overlap(
+    /// The part of the region in which the boxes must overlap with the object o at that place, if there is one.
+    pub fn overlap_part(
         &self,
         s: &State<K>,
         o: ObjId,
         place: u8,
-        c: &Point<K>,
         region: &KBox<K>,
     ) -> Option<KBox<K>>
         requires first { self.now.first.object.0 < length s.now }
         requires second { self.now.second.object.0 < length s.now }
-        requires inside { Has K region.now.lo.coordinates region.now.hi.coordinates
-            c.now.coordinates }
         ensures { MatchOption result
-            (MustOverlap self.now.first self.now.second
-            (with_at s.now o.0 place (just c.now.coordinates)) → ⊥)
-            (λ r. IsOverlapBox self.now.first self.now.second s.now o.0 place c.now.coordinates
+            (NeedNotOverlap self.now.first self.now.second s.now o.0 place (region_of region.now))
+            (λ r. IsOverlapPart self.now.first self.now.second s.now o.0 place
             (region_of region.now) (region_of r)) }
     {
         if self.first.object().0 == o.0 {
@@ -236,7 +199,6 @@ impl<const K: usize> ApartIndexical<K> {
                 &self.behind,
                 s,
                 place,
-                c,
                 region,
             )
         } else if self.second.object().0 == o.0 {
@@ -247,9 +209,10 @@ impl<const K: usize> ApartIndexical<K> {
                 &self.ahead,
                 s,
                 place,
-                c,
                 region,
             )
+        } else if region.is_empty() {
+            None
         } else if must_overlap(&self.first, &self.second, &self.ahead, &self.behind, s) {
             Some(*region)
         } else {

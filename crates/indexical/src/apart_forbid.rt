@@ -1,13 +1,13 @@
-ghost use Rattle.std.specs.Prelude.{◌≡◌, ℕ, ◌<◌, true, length, IsTrue, MatchOption};
+ghost use Rattle.std.specs.Prelude.{◌≡◌, ℕ, ◌<◌, true, length, MatchOption};
 ghost use Rattle.geo_base.specs.Boxes.{Has};
 ghost use Rattle.geo_conditions.specs.Reach.{with_at, just};
 ghost use Rattle.geo_conditions.specs.Conditions.{possible, FitsIn};
 ghost use Rattle.geo_conditions.specs.Regions.{region_of};
 ghost use Rattle.indexical.specs.Apart.{apart};
-ghost use Rattle.indexical.specs.Forbidden.{IsForbiddenBox};
-ghost use Rattle.indexical.specs.Free.{Spares};
+ghost use Rattle.indexical.specs.Forbidden.{Forbids, IsForbiddenBox};
 
 use super::apart::ApartIndexical;
+use super::forbidden::{ForbiddenPart, box_with, exactly};
 use super::indexical::Indexical;
 use geo_base::{KBox, Point, Steps, Way};
 use geo_conditions::{ObjId, State};
@@ -31,7 +31,7 @@ fn forbid_apart<const K: usize>(
         (λ b. IsForbiddenBox K cond s.now o.0 place c.now.coordinates
         (region_of region.now) (region_of b)) }
 {
-    x.overlap(s, o, place, c, region)
+    box_with(x.overlap_part(s, o, place, region), c)
 }
 
 /// Whether the condition of two boxes is possible with the object at that place and point.
@@ -49,12 +49,19 @@ fn apart_possible_at<const K: usize>(
     !x.must_overlap_at(s, o, place, c)
 }
 
-/// Whether the condition of two boxes surely spares the object at that place.
-fn apart_spares<const K: usize>(x: &ApartIndexical<K>, s: &State<K>, o: ObjId, place: u8) -> bool
+/// What the condition of two boxes forbids of the region with the object at that place.
+fn apart_part<const K: usize>(
+    x: &ApartIndexical<K>,
+    s: &State<K>,
+    o: ObjId,
+    place: u8,
+    region: &KBox<K>,
+) -> ForbiddenPart<K>
     requires fits { FitsIn (apart x.now.first x.now.second x.now.short) s.now }
-    ensures { IsTrue result → Spares (apart x.now.first x.now.second x.now.short) s.now o.0 place }
+    ensures { Forbids K (apart x.now.first x.now.second x.now.short) s.now o.0 place
+        (region_of region.now) result }
 {
-    x.surely_spares(s, o, place)
+    exactly(x.overlap_part(s, o, place, region))
 }
 
 impl<const K: usize> Indexical<K> for ApartIndexical<K> {
@@ -80,7 +87,13 @@ impl<const K: usize> Indexical<K> for ApartIndexical<K> {
         apart_possible_at(self, s, o, place, c)
     }
 
-    fn surely_spares(&self, s: &State<K>, o: ObjId, place: u8) -> bool {
-        apart_spares(self, s, o, place)
+    fn forbidden_part(
+        &self,
+        s: &State<K>,
+        o: ObjId,
+        place: u8,
+        region: &KBox<K>,
+    ) -> ForbiddenPart<K> {
+        apart_part(self, s, o, place, region)
     }
 }

@@ -1,5 +1,6 @@
 ghost use Rattle.std.specs.Prelude.{◌≡◌};
 
+use super::forbidden::ForbiddenPart;
 use super::indexical::Indexical;
 use geo_base::{KBox, Point, Steps, Way};
 use geo_conditions::{ObjId, State};
@@ -52,7 +53,13 @@ impl<const K: usize, I: Indexical<K>> Indexical<K> for Counted<I> {
         self.inner.is_possible_at(s, o, place, c)
     }
 
-    fn surely_spares(&self, s: &State<K>, o: ObjId, place: u8) -> bool {
-        self.inner.surely_spares(s, o, place)
+    fn forbidden_part(
+        &self,
+        s: &State<K>,
+        o: ObjId,
+        place: u8,
+        region: &KBox<K>,
+    ) -> ForbiddenPart<K> {
+        self.inner.forbidden_part(s, o, place, region)
     }
 }

@@ -1,11 +1,12 @@
-ghost use Rattle.std.specs.Prelude.{◌≡◌, ℕ, ◌+◌, ◌<◌, ◌≤◌, true, List, length, ℤ, IfSome, IfNone, IsTrue};
+ghost use Rattle.std.specs.Prelude.{◌≡◌, ℕ, ◌+◌, ◌<◌, ◌≤◌, true, List, length, ℤ, IfSome, IfNone};
 ghost use Rattle.geo_base.specs.Boxes.{Has};
 ghost use Rattle.geo_conditions.specs.Reach.{with_at, just};
 ghost use Rattle.geo_conditions.specs.Conditions.{possible, FitsIn, IsRefuted};
 ghost use Rattle.geo_conditions.specs.Regions.{region_of};
 ghost use Rattle.indexical.specs.Disjunctions.{IsDisjunction};
-ghost use Rattle.indexical.specs.Free.{Spares};
+ghost use Rattle.indexical.specs.Forbidden.{Forbids};
 
+use super::forbidden::ForbiddenPart;
 use geo_base::{KBox, MAX_DIMS, Point, Steps, Way};
 use geo_conditions::{ObjId, State};
 use std::sync::ledger::Ledger;
@@ -61,11 +62,16 @@ pub trait Indexical<const K: usize> {
         ensures { result
             ≡ possible (cond self.now) (with_at s.now o.0 place (just c.now.coordinates)) };
 
-    /// Whether the condition surely spares the object at that place: as the state has the others, it is
-    /// possible wherever the object is put there. It may be false where that is so. It takes no memory.
-    fn surely_spares(&self, s: &State<K>, o: ObjId, place: u8) -> bool
+    /// What the condition forbids of the region with the object at that place, as the state has the others. It takes no memory.
+    fn forbidden_part(
+        &self,
+        s: &State<K>,
+        o: ObjId,
+        place: u8,
+        region: &KBox<K>,
+    ) -> ForbiddenPart<K>
         requires k { K ≤ MAX_DIMS }
         requires fits { FitsIn (cond self.now) s.now }
         requires object { o.0 < length s.now }
-        ensures { IsTrue result → Spares (cond self.now) s.now o.0 place };
+        ensures { Forbids K (cond self.now) s.now o.0 place (region_of region.now) result };
 }

@@ -1,11 +1,11 @@
 //! Where two boxes must overlap: the origins of one of them, beside the origins of the other.
 
-ghost use Rattle.std.specs.Prelude.{◌≡◌, ◌≢◌, ◌↔◌, ℕ, ◌^◌, ◌<◌, ◌≤◌, IsTrue, true, length, pos, neg_ℤ, ◌*◌, List, ℤ, ◌+ℤ◌, ◌-ℤ◌, ◌≤ℤ◌, ◌<ℤ◌, MatchOption};
+ghost use Rattle.std.specs.Prelude.{◌≡◌, ◌≢◌, ◌↔◌, ℕ, ◌^◌, ◌<◌, ◌≤◌, IsTrue, true, length, pos, neg_ℤ, ◌*◌, List, ℤ, ◌+ℤ◌, ◌-ℤ◌, ◌≤ℤ◌, ◌<ℤ◌, IfNone, IfSome, MatchOption};
 ghost use Rattle.std.specs.Int.{int_min, int_max};
 ghost use Rattle.geo_base.specs.Boxes.{coordinate, Has};
 ghost use Rattle.geo_conditions.specs.Reach.{reach, is_only, only, with_at, just};
 ghost use Rattle.geo_conditions.specs.Regions.{region_of};
-ghost use Rattle.indexical.specs.Apart.{gap, AreGaps, first, last, Clashes, MustOverlap, IsOverlapBox};
+ghost use Rattle.indexical.specs.Apart.{gap, AreGaps, first, last, Clashes, MustOverlap, NeedNotOverlap, IsOverlapPart};
 
 use super::placed::PlacedBox;
 use geo_base::{Interval, KBox, MAX_DIMS, Point};
@@ -37,6 +37,14 @@ fn is_below(a: i128, b: i128) -> bool
     ensures { IsTrue result ↔ (a <ℤ b) }
 {
     a < b
+}
+
+/// Whether one number is at most another one.
+#[inline(always)]
+fn at_most(a: i128, b: i128) -> bool
+    ensures { IsTrue result ↔ (a ≤ℤ b) }
+{
+    a <= b
 }
 
 /// Whether an end lies before what a length leads to from a start.
@@ -82,6 +90,22 @@ fn clashes<const K: usize>(
     true
 }
 
+/// The first coordinate past the start of a gap that ends at that one.
+#[inline(always)]
+fn first_past(end: i64, gap: i64) -> i128
+    ensures { result ≡ end -ℤ gap +ℤ pos 1 }
+{
+    i128::from(end) - i128::from(gap) + 1
+}
+
+/// The last coordinate before the end of a gap that starts at that one.
+#[inline(always)]
+fn last_before(start: i64, gap: i64) -> i128
+    ensures { result ≡ start +ℤ gap -ℤ pos 1 }
+{
+    i128::from(start) + i128::from(gap) - 1
+}
+
 /// The greater of two numbers, at most a third one.
 #[inline(always)]
 fn later(end: i64, first: i128, most: i64) -> i64
@@ -100,60 +124,85 @@ fn sooner(end: i64, last: i128, least: i64) -> i64
     i128::from(end).min(last) as i64
 }
 
-/// The first coordinate past the start of a gap that ends at that one.
+/// Whether a number between two ends lies between two others too.
 #[inline(always)]
-fn first_past(end: i64, gap: i64) -> i128
-    ensures { result ≡ end -ℤ gap +ℤ pos 1 }
+fn meets(low: i64, high: i64, first: i128, last: i128) -> bool
+    ensures { IsTrue result
+        ↔ ((low ≤ℤ high) × (first ≤ℤ high) × (low ≤ℤ last) × (first ≤ℤ last)) }
 {
-    i128::from(end) - i128::from(gap) + 1
+    if !at_most(i128::from(low), i128::from(high)) {
+        return false;
+    }
+    if !at_most(first, i128::from(high)) {
+        return false;
+    }
+    if !at_most(i128::from(low), last) {
+        return false;
+    }
+    at_most(first, last)
 }
 
-/// The last coordinate before the end of a gap that starts at that one.
+/// The ends of what lies between two ends and between two other numbers, if there is any.
 #[inline(always)]
-fn last_before(start: i64, gap: i64) -> i128
-    ensures { result ≡ start +ℤ gap -ℤ pos 1 }
+fn part_between(low: i64, high: i64, first: i128, last: i128) -> Option<(i64, i64)>
+    ensures none { IfNone result ((v : ℤ) → low ≤ℤ v → v ≤ℤ high → first ≤ℤ v → v ≤ℤ last → ⊥) }
+    ensures lo { IfSome result (λ r. r.0 ≡ int_max low first) }
+    ensures hi { IfSome result (λ r. r.1 ≡ int_min high last) }
+    ensures some { IfSome result (λ r. r.0 ≤ℤ r.1) }
 {
-    i128::from(start) + i128::from(gap) - 1
+    if !meets(low, high, first, last) {
+        return None;
+    }
+    let lo = later(low, first, high);
+    let hi = sooner(high, last, low);
+    Some((lo, hi))
 }
 
-/// The part of the region in which a and b overlap in each dimension, as they do at c.
-#[inline(never)]
-fn cut<const K: usize>(
+/// The part of the region in which a and b overlap in each dimension wherever b's origin is held, if there is one.
+fn clash_part<const K: usize>(
     a: &PlacedBox<K>,
     b: &PlacedBox<K>,
     ahead: &Point<K>,
     behind: &Point<K>,
     s: &State<K>,
-    c: &Point<K>,
     region: &KBox<K>,
-) -> KBox<K>
+) -> Option<KBox<K>>
     requires k { K ≤ MAX_DIMS }
     requires object { b.now.object.0 < length s.now }
     requires ahead { AreGaps a.now b.now ahead.now.coordinates }
     requires behind { AreGaps b.now a.now behind.now.coordinates }
-    requires clash { Clashes a.now b.now (reach s.now b.now.object.0).region
-        c.now.coordinates c.now.coordinates }
-    ensures lo { (d : ℕ) → d < K → coordinate result.lo.coordinates d
+    ensures none { IfNone result ((q : List ℤ)
+        → Has K region.now.lo.coordinates region.now.hi.coordinates q
+        → Clashes a.now b.now (reach s.now b.now.object.0).region q q → ⊥) }
+    ensures lo { IfSome result (λ r. (d : ℕ) → d < K → coordinate r.lo.coordinates d
         ≡ int_max (coordinate region.now.lo.coordinates d)
-        (first a.now b.now (reach s.now b.now.object.0).region d) }
-    ensures hi { (d : ℕ) → d < K → coordinate result.hi.coordinates d
+        (first a.now b.now (reach s.now b.now.object.0).region d)) }
+    ensures hi { IfSome result (λ r. (d : ℕ) → d < K → coordinate r.hi.coordinates d
         ≡ int_min (coordinate region.now.hi.coordinates d)
-        (last a.now b.now (reach s.now b.now.object.0).region d) }
+        (last a.now b.now (reach s.now b.now.object.0).region d)) }
+    ensures some { IfSome result (λ r. (d : ℕ) → d < K
+        → coordinate r.lo.coordinates d ≤ℤ coordinate r.hi.coordinates d) }
 {
     let other = b.object();
     let mut lo = region.lo;
     let mut hi = region.hi;
     for d in 0..K {
         let held = s.interval(other, d);
-        let v = c.get(d);
+        let low = lo.get(d);
+        let high = hi.get(d);
         let before = ahead.get(d);
         let after = behind.get(d);
         let first = first_past(held.hi, before);
         let last = last_before(held.lo, after);
-        lo.set(d, later(lo.get(d), first, v));
-        hi.set(d, sooner(hi.get(d), last, v));
+        match part_between(low, high, first, last) {
+            None => return None,
+            Some((from, to)) => {
+                lo.set(d, from);
+                hi.set(d, to);
+            }
+        }
     }
-    KBox::new(lo, hi)
+    Some(KBox::new(lo, hi))
 }
 
 /// Whether an object that is put at that place has the box's shape, where that is asked.
@@ -173,14 +222,6 @@ fn has_shape<const K: usize>(b: &PlacedBox<K>, s: &State<K>) -> bool
         → is_only (reach s.now b.now.object.0).places b.now.place ≡ true) }
 {
     !b.leaf() || s.is_only_shape(b.object(), b.place())
-}
-
-/// Whether one number is at most another one.
-#[inline(always)]
-fn at_most(a: i128, b: i128) -> bool
-    ensures { IsTrue result ↔ (a ≤ℤ b) }
-{
-    a <= b
 }
 
 /// Whether an origin of a box is left at which it overlaps another one wherever that one's origin is held.
@@ -222,28 +263,6 @@ pub fn covers_some<const K: usize>(
         }
     }
     true
-}
-
-/// Whether a's object has another shape at that place, or b covers no origin of a: wherever a's object is put there, the boxes
-/// need not overlap.
-pub fn spares_beside<const K: usize>(
-    a: &PlacedBox<K>,
-    b: &PlacedBox<K>,
-    ahead: &Point<K>,
-    behind: &Point<K>,
-    s: &State<K>,
-    place: u8,
-) -> bool
-    requires k { K ≤ MAX_DIMS }
-    requires first { a.now.object.0 < length s.now }
-    requires second { b.now.object.0 < length s.now }
-    requires ahead { AreGaps a.now b.now ahead.now.coordinates }
-    requires behind { AreGaps b.now a.now behind.now.coordinates }
-    requires objects { b.now.object.0 ≢ a.now.object.0 }
-    ensures { IsTrue result → (p : List ℤ)
-        → MustOverlap a.now b.now (with_at s.now a.now.object.0 place (just p)) → ⊥ }
-{
-    !stands(a, place) || !covers_some(a, b, ahead, behind, s)
 }
 
 /// Whether the boxes must overlap on the state.
@@ -295,8 +314,7 @@ pub fn must_overlap_beside<const K: usize>(
     clashes(a, b, ahead, behind, s, c, c)
 }
 
-/// The part of the region in which a and b must overlap with a's object at that place, where they
-/// must at c.
+/// The part of the region in which a and b must overlap with a's object at that place, if there is one.
 #[inline(always)]
 pub fn overlap_beside<const K: usize>(
     a: &PlacedBox<K>,
@@ -305,7 +323,6 @@ pub fn overlap_beside<const K: usize>(
     behind: &Point<K>,
     s: &State<K>,
     place: u8,
-    c: &Point<K>,
     region: &KBox<K>,
 ) -> Option<KBox<K>>
     requires k { K ≤ MAX_DIMS }
@@ -314,18 +331,16 @@ pub fn overlap_beside<const K: usize>(
     requires ahead { AreGaps a.now b.now ahead.now.coordinates }
     requires behind { AreGaps b.now a.now behind.now.coordinates }
     requires objects { b.now.object.0 ≢ a.now.object.0 }
-    requires inside { Has K region.now.lo.coordinates region.now.hi.coordinates c.now.coordinates }
     ensures { MatchOption result
-        (MustOverlap a.now b.now (with_at s.now a.now.object.0 place (just c.now.coordinates)) → ⊥)
-        (λ r. IsOverlapBox a.now b.now s.now a.now.object.0 place c.now.coordinates
+        (NeedNotOverlap a.now b.now s.now a.now.object.0 place (region_of region.now))
+        (λ r. IsOverlapPart a.now b.now s.now a.now.object.0 place
         (region_of region.now) (region_of r)) }
 {
-    if !stands(a, place) || !has_shape(b, s) {
+    if !stands(a, place) {
         return None;
     }
-    if clashes(a, b, ahead, behind, s, c, c) {
-        Some(cut(a, b, ahead, behind, s, c, region))
-    } else {
-        None
+    if !has_shape(b, s) {
+        return None;
     }
+    clash_part(a, b, ahead, behind, s, region)
 }

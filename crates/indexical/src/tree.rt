@@ -1,15 +1,16 @@
-ghost use Rattle.std.specs.Prelude.{◌≡◌, ℕ, ◌+◌, ◌<◌, true, List, length, ℤ, MatchOption};
+ghost use Rattle.std.specs.Prelude.{◌≡◌, ℕ, ◌+◌, ◌<◌, ◌≤◌, true, List, length, ℤ, MatchOption};
 ghost use Rattle.geo_base.specs.Boxes.{Has};
 ghost use Rattle.geo_conditions.specs.Reach.{with_at, just};
 ghost use Rattle.geo_conditions.specs.Conditions.{possible, FitsIn};
 ghost use Rattle.geo_conditions.specs.Regions.{region_of};
-ghost use Rattle.indexical.specs.Forbidden.{IsForbiddenBox, IsOnShape};
+ghost use Rattle.indexical.specs.Forbidden.{Forbids, IsForbiddenBox, IsOnShape};
 
 use super::form::forbid_form;
+use super::forbidden::ForbiddenPart;
 use super::indexical::Indexical;
 use super::point::tree_possible_at;
 use super::spared::tree_spares;
-use geo_base::{KBox, Point, Steps, Way};
+use geo_base::{KBox, MAX_DIMS, Point, Steps, Way};
 use geo_conditions::{Cond, ObjId, State, refuted_at};
 use std::sync::ledger::Ledger;
 
@@ -110,6 +111,26 @@ pub fn forbid_tree<const K: usize>(
     }
 }
 
+/// What a condition forbids of the region with the object at that place: nothing where it surely spares it there.
+pub fn tree_part<const K: usize>(
+    cond: &Cond,
+    s: &State<K>,
+    o: ObjId,
+    place: u8,
+    region: &KBox<K>,
+) -> ForbiddenPart<K>
+    requires k { K ≤ MAX_DIMS }
+    requires fits { FitsIn cond.now s.now }
+    requires object { o.0 < length s.now }
+    ensures { Forbids K cond.now s.now o.0 place (region_of region.now) result }
+{
+    if tree_spares(cond, s, o, place) {
+        ForbiddenPart::Nothing
+    } else {
+        ForbiddenPart::Unknown
+    }
+}
+
 impl<const K: usize> Indexical<K> for TreeIndexical {
     ghost cond = { λ x. x.cond };
 
@@ -131,7 +152,13 @@ impl<const K: usize> Indexical<K> for TreeIndexical {
         tree_possible_at(&self.cond, s, o, place, c)
     }
 
-    fn surely_spares(&self, s: &State<K>, o: ObjId, place: u8) -> bool {
-        tree_spares(&self.cond, s, o, place)
+    fn forbidden_part(
+        &self,
+        s: &State<K>,
+        o: ObjId,
+        place: u8,
+        region: &KBox<K>,
+    ) -> ForbiddenPart<K> {
+        tree_part(&self.cond, s, o, place, region)
     }
 }

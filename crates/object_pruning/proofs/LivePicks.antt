@@ -1,11 +1,11 @@
 -- A sweep by the gathered picks finds what a sweep by all of them does.
 use Rattle.std.proofs.Common.{◌≡◌, ℕ, ◌+◌, ◌-◌, ◌<◌, ◌≤◌, true, List, length, map, set, take, get_or, slice_index, refl, false, ◌⊎◌, sym, ap, ◌∙◌, subst, inl, inr, arith, ℤ, Option, Some, None, Bool}
-use Rattle.std.specs.Prelude.{◌≢◌, slice_get, Contains, MatchOption, IfSome}
+use Rattle.std.specs.Prelude.{◌≢◌, slice_get, Contains, MatchOption, IfSome, IfNone}
 use Rattle.std.proofs.Math.ListN.{length-set}
 use Rattle.std.proofs.lemmas.Bool.{cases_eq, cases_lt}
 use Rattle.std.proofs.lemmas.List.{get_or-take, length-take-le, get_or-set_same, get_or-set_other, get_or_default}
-use Rattle.std.specs.Option.{option_map}
-use Rattle.std.proofs.lemmas.Option.{slice_get-map, slice_get-get_or, slice_get_cases, same_Some}
+use Rattle.std.specs.Option.{option_map, unwrap_or}
+use Rattle.std.proofs.lemmas.Option.{slice_get-map, slice_get-get_or, slice_get_cases, slice_get_within, unwrap_or-slice_get, same_Some}
 use Rattle.geo_conditions.specs.declared.cond.Cond.{Cond}
 use Rattle.object_pruning.specs.declared.rows.Group.{Group}
 use Rattle.object_pruning.specs.InRows.{IsInGroup, HaveNumber, IsSomeGroup, AreRows, row}
@@ -23,7 +23,12 @@ use Rattle.derivation.specs.Cuts.{near, far}
 use Rattle.sweep.specs.Picks.{ArePicks, picked}
 use Rattle.sweep.specs.Sweep.{IsCovered}
 use Rattle.sweep.proofs.PickedConditions.{picked_all, picked_at, pick_in, some_with}
-use Rattle.object_pruning.specs.Gathered.{AreGathered, GoesOn, IsNumberSpared, IsSpared}
+use Rattle.geo_base.specs.declared.kbox.KBox.{KBox}
+use Rattle.geo_base.specs.Boxes.{Has}
+use Rattle.indexical.specs.declared.forbidden.ForbiddenPart.{ForbiddenPart}
+use Rattle.indexical.specs.Forbidden.{Forbids}
+use Rattle.sweep.specs.Parts.{AreParts}
+use Rattle.object_pruning.specs.Gathered.{AreGathered, GoesOn, HoldEach, HoldParts, IsNumberSpared}
 
 -- a number that stands in a list at a place
 contained : (xs : List ℕ) (x i : ℕ) → i < length xs → slice_index xs i ≡ x → Contains xs x
@@ -32,55 +37,56 @@ contained xs x i h e = (i, h, get_or_default xs i x 0 h ∙ e)
 pub there : (xs : List ℕ) (x : ℕ) (c : Contains xs x) → slice_index xs c.0 ≡ x
 there xs x c = get_or_default xs c.0 0 x c.1 ∙ c.2
 
--- ---- the loop that gathers
+-- ---- the parts
 
-module _ (cs : List Cond) (S : State) (o s : ℕ) (picks : List ℕ) where
-  pub gathered_start : (live : List ℕ) → AreGathered cs S o s picks 0 0 live
-  gathered_start live = record { listed = λ j h. absurd (omega arith); others = λ k h. absurd (omega arith) }
+-- what stands in a list of which one place was set
+set_at : {X : Type 0} (xs : List X) (n j : ℕ) (v y : X) → slice_get (set xs n v) j ≡ Some y → ((j ≡ n) × (y ≡ v)) ⊎ ((j ≢ n) × (slice_get xs j ≡ Some y))
+set_at xs n j v y e =
+    let within : j < length xs = omega (arith, slice_get_within (set xs n v) j y e, length-set xs n v) in
+    let is : get_or (set xs n v) j y ≡ y = sym (unwrap_or-slice_get (set xs n v) j y) ∙ ap (λ (z : Option _). unwrap_or z y) e in
+    elim (cases_eq j n) [
+      | inl z ↦ inl (z, sym is ∙ ap (λ (i : ℕ). get_or (set xs n v) i y) z ∙ get_or-set_same xs n v y (subst (λ (i : ℕ). i < length xs) z within))
+      | inr ne ↦ inr (ne, slice_get-get_or xs j y within ∙ ap (λ z. Some z) (sym (get_or-set_other xs n j v y ne) ∙ is))
+    ]
 
-  pub gathered_skip : (m n : ℕ) (live : List ℕ) → AreGathered cs S o s picks m n live → IsSpared cs S o s picks m → AreGathered cs S o s picks (m + 1) n live
-  gathered_skip m n live g sp = record {
-    listed = g.listed;
-    others = λ k h. elim (cases_eq k m) [
-      | inl e ↦ inl (subst (IsSpared cs S o s picks) (sym e) sp)
-      | inr ne ↦ g.others k (omega arith)
-    ];
-  }
+module _ {K : ℕ} (P : ℕ → KBox K → Type 0) (live : List ℕ) (parts : List (Option (KBox K))) (number n : ℕ) (room : n < length live) (old : HoldEach P live parts) where
+  here : slice_index (set live n number) n ≡ number
+  here = get_or-set_same live n number 0 room
 
-  pub gathered_more : (m n : ℕ) (live : List ℕ) → AreGathered cs S o s picks m n live → m < length picks → n < length live → AreGathered cs S o s picks (m + 1) (n + 1) (set live n (slice_index picks m))
-  gathered_more m n live g hm hn = record {
-    listed = λ j h. elim (cases_eq j n) [
-      | inl e ↦ contained picks _ m hm (sym (ap (slice_index (set live n (slice_index picks m))) e ∙ here))
-      | inr ne ↦ let c = g.listed j (omega arith) in contained picks _ c.0 c.1 (there picks (slice_index live j) c ∙ sym (before j (omega arith)))
-    ];
-    others = λ k h. elim (cases_eq k m) [
-      | inl e ↦ inr (n, omega arith, here ∙ ap (slice_index picks) (sym e))
-      | inr ne ↦ elim (g.others k (omega arith)) [
-        | inl sp ↦ inl sp
-        | inr w ↦ inr (w.0, omega (arith, w.1), before w.0 w.1 ∙ w.2)
-      ]
-    ];
-  }
-    where
-      here : slice_index (set live n (slice_index picks m)) n ≡ slice_index picks m
-      here = get_or-set_same live n (slice_index picks m) 0 hn
+  before : (j : ℕ) → j ≢ n → slice_index (set live n number) j ≡ slice_index live j
+  before j ne = get_or-set_other live n j number 0 ne
 
-      before : (j : ℕ) → j < n → slice_index (set live n (slice_index picks m)) j ≡ slice_index live j
-      before j h = get_or-set_other live n j (slice_index picks m) 0 (λ e. absurd (omega arith))
+  -- the number has a part
+  pub holds_more : (part : Option (KBox K)) → IfSome part (P number) → HoldEach P (set live n number) (set parts n part)
+  holds_more part is j b e = elim (set_at parts n j part (Some b) e) [
+    | inl w ↦ subst (λ (i : ℕ). P i b) (sym (ap (slice_index (set live n number)) w.0 ∙ here)) (subst (λ (x : Option (KBox K)). IfSome x (P number)) (sym w.1) is)
+    | inr w ↦ subst (λ (i : ℕ). P i b) (sym (before j w.0)) (old j b w.1)
+  ]
 
--- ---- the same by rows
+module _ {K : ℕ} (P : ℕ → KBox K → Type 0) (number n : ℕ) (part : Option (KBox K)) (is : IfSome part (P number)) where
+  -- where it was put, if there was room
+  pub holds_put : (live new : List ℕ) (parts more : List (Option (KBox K))) (r : Option ℕ) → HoldEach P live parts → IfSome r (λ m. (m ≡ n + 1) × (n < length live) × (new ≡ set live n number)) → IfSome r (λ m. more ≡ set parts n part)
+      → IfNone r ((new ≡ live) × (more ≡ parts)) → HoldEach P new more
+  holds_put live new parts more None old goes put full = subst (λ (l : List ℕ). HoldEach P l more) (sym full.0) (subst (HoldEach P live) (sym full.1) old)
+  holds_put live new parts more (Some m) old goes put full = subst (λ (l : List ℕ). HoldEach P l more) (sym goes.2) (subst (HoldEach P (set live n number)) (sym put) (holds_more P live parts number n goes.1 old part is))
+
+-- ---- the numbers
 
 -- what is at a place of a list, in the list of what f makes of each
 pub at_number : {X Y : Type 0} (f : X → Y) (list : List X) (i : ℕ) (y : X) → i < length list → y ≡ get_or list i y → slice_get (map f list) i ≡ Some (f y)
 at_number f list i y h e = slice_get-map f list i ∙ ap (option_map f) (slice_get-get_or list i y h ∙ ap (λ z. Some z) (sym e))
 
+-- what a condition forbids, said of what its number names
+pub named_forbids : (K : ℕ) (cs : List Cond) (S : State) (o s : ℕ) (b : Region) (i : ℕ) (x : Cond) (was is : ForbiddenPart K) → slice_get cs (i - 1) ≡ Some x → Forbids K x S o s b was → was ≡ is → (y : Cond) → slice_get cs (i - 1) ≡ Some y → Forbids K y S o s b is
+named_forbids K cs S o s b i x was is at h e y there = subst (λ (z : Cond). Forbids K z S o s b is) (same_Some _ _ (sym at ∙ there)) (subst (Forbids K x S o s b) e h)
+
 -- of the first n groups some one has the number
 abbrev pub HaveBelow : List Group → ℕ → ℕ → Type 0
 HaveBelow gs n i = (k : ℕ) × (g : Group) × (k < n) × (slice_get gs k ≡ Some g) × IsInGroup g i
 
-module _ (cs : List Cond) (S : State) (o s : ℕ) where
+module _ (K : ℕ) (cs : List Cond) (S : State) (o s : ℕ) (b : Region) where
   -- of no number
-  pub goes_nowhere : (P : ℕ → Type 0) (n : ℕ) (live : List ℕ) → n ≤ length live → ((i : ℕ) → P i → ⊥) → GoesOn cs S o s P n live n live
+  pub goes_nowhere : (P : ℕ → Type 0) (n : ℕ) (live : List ℕ) → n ≤ length live → ((i : ℕ) → P i → ⊥) → GoesOn K cs S o s b P n live n live
   goes_nowhere P n live few none = record {
     room = few;
     more = omega arith;
@@ -90,7 +96,7 @@ module _ (cs : List Cond) (S : State) (o s : ℕ) where
   }
 
   -- of numbers that are all spared
-  pub goes_past : (P : ℕ → Type 0) (n : ℕ) (live : List ℕ) → n ≤ length live → ((i : ℕ) → P i → IsNumberSpared cs S o s i) → GoesOn cs S o s P n live n live
+  pub goes_past : (P : ℕ → Type 0) (n : ℕ) (live : List ℕ) → n ≤ length live → ((i : ℕ) → P i → IsNumberSpared K cs S o s b i) → GoesOn K cs S o s b P n live n live
   goes_past P n live few spared = record {
     room = few;
     more = omega arith;
@@ -100,7 +106,7 @@ module _ (cs : List Cond) (S : State) (o s : ℕ) where
   }
 
   -- of one number
-  pub goes_one : (number n : ℕ) (live : List ℕ) → n < length live → GoesOn cs S o s (λ i. i ≡ number) n live (n + 1) (set live n number)
+  pub goes_one : (number n : ℕ) (live : List ℕ) → n < length live → GoesOn K cs S o s b (λ i. i ≡ number) n live (n + 1) (set live n number)
   goes_one number n live room = record {
     room = omega (arith, length-set live n number);
     more = omega arith;
@@ -109,8 +115,14 @@ module _ (cs : List Cond) (S : State) (o s : ℕ) where
     each = λ i p. inr (n, omega arith, get_or-set_same live n number 0 room ∙ sym p);
   }
 
+  -- where it was put, if there was room
+  pub goes_put : (number n : ℕ) (live new : List ℕ) (r : Option ℕ) → IfSome r (λ m. (m ≡ n + 1) × (n < length live) × (new ≡ set live n number)) → IfSome r (λ m. GoesOn K cs S o s b (λ i. i ≡ number) n live m new)
+  goes_put number n live new None h = tt
+  goes_put number n live new (Some m) h =
+      subst (λ (l : List ℕ). GoesOn K cs S o s b (λ i. i ≡ number) n live m l) (sym h.2) (subst (λ (k : ℕ). GoesOn K cs S o s b (λ i. i ≡ number) n live k (set live n number)) (sym h.0) (goes_one number n live h.1))
+
   -- of the same numbers, said otherwise
-  pub goes_as : (P Q : ℕ → Type 0) (n m : ℕ) (live new : List ℕ) → ((i : ℕ) → P i → Q i) → ((i : ℕ) → Q i → P i) → GoesOn cs S o s P n live m new → GoesOn cs S o s Q n live m new
+  pub goes_as : (P Q : ℕ → Type 0) (n m : ℕ) (live new : List ℕ) → ((i : ℕ) → P i → Q i) → ((i : ℕ) → Q i → P i) → GoesOn K cs S o s b P n live m new → GoesOn K cs S o s b Q n live m new
   goes_as P Q n m live new to back a = record {
     room = a.room;
     more = a.more;
@@ -121,24 +133,24 @@ module _ (cs : List Cond) (S : State) (o s : ℕ) where
 
   -- of both kinds, which are all of a third kind
   pub goes_both : (P Q R : ℕ → Type 0) (n m l : ℕ) (live mid new : List ℕ) → ((i : ℕ) → P i → R i) → ((i : ℕ) → Q i → R i) → ((i : ℕ) → R i → P i ⊎ Q i)
-      → GoesOn cs S o s P n live m mid → GoesOn cs S o s Q m mid l new → GoesOn cs S o s R n live l new
-  goes_both P Q R n m l live mid new left right either a b = record {
-    room = b.room;
-    more = omega (arith, a.more, b.more);
-    kept = λ j h. b.kept j (omega (arith, a.more)) ∙ a.kept j h;
+      → GoesOn K cs S o s b P n live m mid → GoesOn K cs S o s b Q m mid l new → GoesOn K cs S o s b R n live l new
+  goes_both P Q R n m l live mid new left right either a c = record {
+    room = c.room;
+    more = omega (arith, a.more, c.more);
+    kept = λ j h. c.kept j (omega (arith, a.more)) ∙ a.kept j h;
     further = λ j h k. elim (cases_lt j m) [
-      | inl x ↦ left (slice_index new j) (subst P (sym (b.kept j x)) (a.further j h x))
-      | inr x ↦ right (slice_index new j) (b.further j x k)
+      | inl x ↦ left (slice_index new j) (subst P (sym (c.kept j x)) (a.further j h x))
+      | inr x ↦ right (slice_index new j) (c.further j x k)
     ];
     each = λ i r. elim (either i r) [
-      | inl p ↦ elim (a.each i p) [ inl sp ↦ inl sp | inr w ↦ inr (w.0, omega (arith, w.1, b.more), b.kept w.0 w.1 ∙ w.2) ]
-      | inr q ↦ b.each i q
+      | inl p ↦ elim (a.each i p) [ inl sp ↦ inl sp | inr w ↦ inr (w.0, omega (arith, w.1, c.more), c.kept w.0 w.1 ∙ w.2) ]
+      | inr q ↦ c.each i q
     ];
   }
 
   -- of the groups of a row, one after another
-  pub goes_group : (gs : List Group) (k : ℕ) (d : Group) (n m l : ℕ) (live mid new : List ℕ) → k < length gs → GoesOn cs S o s (HaveBelow gs k) n live m mid → GoesOn cs S o s (IsInGroup (get_or gs k d)) m mid l new → GoesOn cs S o s (HaveBelow gs (k + 1)) n live l new
-  goes_group gs k d n m l live mid new h a b =
+  pub goes_group : (gs : List Group) (k : ℕ) (d : Group) (n m l : ℕ) (live mid new : List ℕ) → k < length gs → GoesOn K cs S o s b (HaveBelow gs k) n live m mid → GoesOn K cs S o s b (IsInGroup (get_or gs k d)) m mid l new → GoesOn K cs S o s b (HaveBelow gs (k + 1)) n live l new
+  goes_group gs k d n m l live mid new h a c =
       let at : slice_get gs k ≡ Some (get_or gs k d) = slice_get-get_or gs k d h in
       goes_both (HaveBelow gs k) (IsInGroup (get_or gs k d)) (HaveBelow gs (k + 1)) n m l live mid new
       (λ i p. (p.0, p.1, omega (arith, p.2), p.3, p.4))
@@ -148,7 +160,7 @@ module _ (cs : List Cond) (S : State) (o s : ℕ) where
         | inr ne ↦ inl (r.0, r.1, omega (arith, r.2), r.3, r.4)
       ])
       a
-      b
+      c
 
 -- ---- groups and rows
 
@@ -176,8 +188,11 @@ module _ (cs : List Cond) (S : State) (o : ℕ) (fits : AllFit cs S) (here : o <
   spared_by x (Some v) p f h m = h.place m.0 S f here m.1
 
   -- where the other object has not the place that is asked for alone, the conditions are possible
-  pub group_spared : (s : ℕ) (g : Group) → IsSomeGroup cs o g → MatchOption g.other ⊥ (λ u. (g.other_place ≢ 0) × (is_only (reach S u.0).places g.other_place ≡ false)) → (i : ℕ) → IsInGroup g i → IsNumberSpared cs S o s i
-  group_spared s g q m i b x e = spared_by x g.other g.other_place (fit i x e) (q.3.faces i x b e).other m s
+  pub group_free : (g : Group) → IsSomeGroup cs o g → MatchOption g.other ⊥ (λ u. (g.other_place ≢ 0) × (is_only (reach S u.0).places g.other_place ≡ false)) → (i : ℕ) (x : Cond) → IsInGroup g i → slice_get cs (i - 1) ≡ Some x → SparesAnywhere x S o
+  group_free g q m i x in_it e = spared_by x g.other g.other_place (fit i x e) (q.3.faces i x in_it e).other m
+
+  pub group_spared : (K s : ℕ) (b : Region) (g : Group) → IsSomeGroup cs o g → MatchOption g.other ⊥ (λ u. (g.other_place ≢ 0) × (is_only (reach S u.0).places g.other_place ≡ false)) → (i : ℕ) → IsInGroup g i → IsNumberSpared K cs S o s b i
+  group_spared K s b g q m i in_it x e = λ p has. group_free g q m i x in_it e s p
 
   module _ (picks : List ℕ) (rows : Rows) (are : AreRows cs o picks rows) where
     pub rows_some : ArePicks (length cs) picks → (r : ℕ) (gs : List Group) → gs ≡ row rows.rows.items r → (k : ℕ) (g : Group) → slice_get gs k ≡ Some g → IsSomeGroup cs o g
@@ -187,33 +202,55 @@ module _ (cs : List Cond) (S : State) (o : ℕ) (fits : AllFit cs S) (here : o <
     row_listed r i w = (are.groups r w.0 w.1 w.2).listed i w.3
 
     -- the row of no place and that of the place have all picks that are not spared
-    pub gathered_rows : (s n m : ℕ) (live mid new : List ℕ) → GoesOn cs S o s (HaveNumber (row rows.rows.items 0)) 0 live n mid → GoesOn cs S o s (HaveNumber (row rows.rows.items s)) n mid m new → AreGathered cs S o s picks (length picks) m new
-    gathered_rows s n m live mid new a b = record {
+    pub gathered_rows : (K s : ℕ) (b : Region) (n m : ℕ) (live mid new : List ℕ) → GoesOn K cs S o s b (HaveNumber (row rows.rows.items 0)) 0 live n mid → GoesOn K cs S o s b (HaveNumber (row rows.rows.items s)) n mid m new → AreGathered K cs S o s b picks m new
+    gathered_rows K s b n m live mid new a c = record {
       listed = λ j h. elim (cases_lt j n) [
-        | inl x ↦ subst (Contains picks) (sym (b.kept j x)) (row_listed 0 (slice_index mid j) (a.further j (omega arith) x))
-        | inr x ↦ row_listed s (slice_index new j) (b.further j x h)
+        | inl x ↦ subst (Contains picks) (sym (c.kept j x)) (row_listed 0 (slice_index mid j) (a.further j (omega arith) x))
+        | inr x ↦ row_listed s (slice_index new j) (c.further j x h)
       ];
       others = λ k h.
           let i = slice_index picks k in
           let e = are.each k h in
           elim (cases_eq e.0 0) [
             | inl z ↦ elim (a.each i (subst (λ (r : ℕ). HaveNumber (row rows.rows.items r) i) z e.1)) [
-              | inl sp ↦ inl (λ x p. sp x p.1)
-              | inr w ↦ inr (w.0, omega (arith, w.1, b.more), b.kept w.0 w.1 ∙ w.2)
+              | inl sp ↦ inl sp
+              | inr w ↦ inr (w.0, omega (arith, w.1, c.more), c.kept w.0 w.1 ∙ w.2)
             ]
             | inr nz ↦ elim (cases_eq e.0 s) [
-              | inl z ↦ elim (b.each i (subst (λ (r : ℕ). HaveNumber (row rows.rows.items r) i) z e.1)) [
-                | inl sp ↦ inl (λ x p. sp x p.1)
+              | inl z ↦ elim (c.each i (subst (λ (r : ℕ). HaveNumber (row rows.rows.items r) i) z e.1)) [
+                | inl sp ↦ inl sp
                 | inr w ↦ inr w
               ]
-              | inr ne ↦ inl (λ x p. ((are.groups e.0 e.1.0 e.1.1 e.1.2).faces i x e.1.3 p.1).place nz S s (fit i x p.1) here (λ q. ne (sym q)))
+              | inr ne ↦ inl (λ x is p has. ((are.groups e.0 e.1.0 e.1.1 e.1.2).faces i x e.1.3 is).place nz S s (fit i x is) here (λ q. ne (sym q)) p)
             ]
           ];
     }
 
+-- ---- all picks, one after another
+
+-- one of the first n picks is the number
+abbrev pub IsBelow : List ℕ → ℕ → ℕ → Type 0
+IsBelow picks n i = (k : ℕ) × (k < n) × (k < length picks) × (slice_index picks k ≡ i)
+
+module _ (K : ℕ) (cs : List Cond) (S : State) (o s : ℕ) (b : Region) (picks : List ℕ) where
+  pub goes_pick : (k n m l : ℕ) (live mid new : List ℕ) → k < length picks → GoesOn K cs S o s b (IsBelow picks k) n live m mid → GoesOn K cs S o s b (λ i. i ≡ slice_index picks k) m mid l new → GoesOn K cs S o s b (IsBelow picks (k + 1)) n live l new
+  goes_pick k n m l live mid new h = goes_both K cs S o s b (IsBelow picks k) (λ i. i ≡ slice_index picks k) (IsBelow picks (k + 1)) n m l live mid new
+      (λ i p. (p.0, omega (arith, p.1), p.2, p.3))
+      (λ i e. (k, omega arith, h, sym e))
+      (λ i r. elim (cases_eq r.0 k) [
+        | inl e ↦ inr (sym r.3 ∙ ap (slice_index picks) e)
+        | inr ne ↦ inl (r.0, omega (arith, r.1), r.2, r.3)
+      ])
+
+  pub gathered_picks : (m : ℕ) (live new : List ℕ) → GoesOn K cs S o s b (IsBelow picks (length picks)) 0 live m new → AreGathered K cs S o s b picks m new
+  gathered_picks m live new a = record {
+    listed = λ j h. let w = a.further j (omega arith) h in contained picks (slice_index new j) w.0 w.2 w.3;
+    others = λ k h. a.each (slice_index picks k) (k, h, h, refl);
+  }
+
 -- ---- the sweep
 
-module _ (cs : List Cond) (S : State) (o s : ℕ) (picks live : List ℕ) (n : ℕ) (few : n ≤ length live) (g : AreGathered cs S o s picks (length picks) n live) where
+module _ (K : ℕ) (cs : List Cond) (S : State) (o s : ℕ) (b : Region) (picks live : List ℕ) (n : ℕ) (few : n ≤ length live) (g : AreGathered K cs S o s b picks n live) where
   long : length (take n live) ≡ n
   long = length-take-le n live few
 
@@ -241,9 +278,9 @@ module _ (cs : List Cond) (S : State) (o s : ℕ) (picks live : List ℕ) (n : �
     abbrev T : State
     T = with_at S o s (just p)
 
-    all_of : NoneRefuted (picked cs (take n live)) T → NoneRefuted (picked cs picks) T
-    all_of a = picked_all (λ c. possible c T ≡ true) cs picks (λ k x y. elim (g.others k y.0) [
-      | inl sp ↦ sp x y p
+    all_of : Has K b.lo b.hi p → NoneRefuted (picked cs (take n live)) T → NoneRefuted (picked cs picks) T
+    all_of has a = picked_all (λ c. possible c T ≡ true) cs picks (λ k x y. elim (g.others k y.0) [
+      | inl sp ↦ sp x y.1 p has
       | inr w ↦ picked_at (λ c. possible c T ≡ true) cs (take n live) w.0 x a (
         omega (arith, w.1, long),
         subst (λ (i : ℕ). slice_get cs (i - 1) ≡ Some x) (sym (at w.0 w.1 ∙ w.2)) y.1,
@@ -256,26 +293,30 @@ module _ (cs : List Cond) (S : State) (o s : ℕ) (picks live : List ℕ) (n : �
         let w = g.listed j l in
         picked_at (λ c. possible c T ≡ true) cs picks w.0 x a (w.1, subst (λ (i : ℕ). slice_get cs (i - 1) ≡ Some x) (sym (there picks (slice_index live j) w ∙ sym (at j l))) y.1))
 
-  can_be : (b : Region) (p : List ℤ) → CanBeAt (picked cs (take n live)) S o s b p → CanBeAt (picked cs picks) S o s b p
-  can_be b p y = record { point = y.point; unrefuted = all_of p y.unrefuted }
+  can_be : (p : List ℤ) → CanBeAt (picked cs (take n live)) S o s b p → CanBeAt (picked cs picks) S o s b p
+  can_be p y = record { point = y.point; unrefuted = all_of p (λ d h. (y.point.above d, y.point.below d)) y.unrefuted }
 
-  could_be : (b : Region) (p : List ℤ) → CanBeAt (picked cs picks) S o s b p → CanBeAt (picked cs (take n live)) S o s b p
-  could_be b p y = record { point = y.point; unrefuted = some_of p y.unrefuted }
+  could_be : (p : List ℤ) → CanBeAt (picked cs picks) S o s b p → CanBeAt (picked cs (take n live)) S o s b p
+  could_be p y = record { point = y.point; unrefuted = some_of p y.unrefuted }
 
-  pub point_of_all : {X : Type 0} (K lead : ℕ) (up : Bool) (b : Region) (coordinates : X → List ℤ) (r : Option X) → MatchOption r (HasNoPoint (picked cs (take n live)) S o s b) (λ q. IsFirstPoint K lead up (picked cs (take n live)) S o s b (coordinates q))
+  -- the parts are those of the picks that are swept
+  pub parts_gathered : (parts : List (Option (KBox K))) → HoldParts K cs S o s b live parts → AreParts K cs (take n live) S o s b parts
+  parts_gathered parts h k part x e y = h k part e x (subst (λ (i : ℕ). slice_get cs (i - 1) ≡ Some x) (at k (omega (arith, y.0, long))) y.1)
+
+  pub point_of_all : {X : Type 0} (lead : ℕ) (up : Bool) (coordinates : X → List ℤ) (r : Option X) → MatchOption r (HasNoPoint (picked cs (take n live)) S o s b) (λ q. IsFirstPoint K lead up (picked cs (take n live)) S o s b (coordinates q))
       → MatchOption r (HasNoPoint (picked cs picks) S o s b) (λ q. IsFirstPoint K lead up (picked cs picks) S o s b (coordinates q))
-  point_of_all K lead up b coordinates None h = λ p y. h p (could_be b p y)
-  point_of_all K lead up b coordinates (Some q) h = record { point = can_be b (coordinates q) h.point; first = λ p y before. h.first p (could_be b p y) before }
+  point_of_all lead up coordinates None h = λ p y. h p (could_be p y)
+  point_of_all lead up coordinates (Some q) h = record { point = can_be (coordinates q) h.point; first = λ p y before. h.first p (could_be p y) before }
 
-  names_all : (b : Region) (t : CoverTree) → NamesOnly (take n live) b t → NamesOnly picks b t
-  names_all b (Leaf i) (inl c) = inl (contains i c)
-  names_all b (Leaf i) (inr e) = inr e
-  names_all b (Fork side x y) h = (names_all (near side b) x h.0, names_all (far side b) y h.1)
+  names_all : (v : Region) (t : CoverTree) → NamesOnly (take n live) v t → NamesOnly picks v t
+  names_all v (Leaf i) (inl c) = inl (contains i c)
+  names_all v (Leaf i) (inr e) = inr e
+  names_all v (Fork side x y) h = (names_all (near side v) x h.0, names_all (far side v) y h.1)
 
-  pub covered_of_all : (K : ℕ) (b : Region) (old new : List Event) → IsCovered K cs (take n live) S o s b old new → IsCovered K cs picks S o s b old new
-  covered_of_all K b old new c = record { tree = c.tree; events = c.events; covers = c.covers; cuts = c.cuts; names = names_all b c.tree c.names }
+  pub covered_of_all : (v : Region) (old new : List Event) → IsCovered K cs (take n live) S o s v old new → IsCovered K cs picks S o s v old new
+  covered_of_all v old new c = record { tree = c.tree; events = c.events; covers = c.covers; cuts = c.cuts; names = names_all v c.tree c.names }
 
-  pub cover_of_all : {X : Type 0} (K : ℕ) (b : Region) (part : X → Region) (old new : List Event) (r : Option X) → MatchOption r (IsCovered K cs (take n live) S o s b old new) (λ q. IsCovered K cs (take n live) S o s (part q) old new)
+  pub cover_of_all : {X : Type 0} (part : X → Region) (old new : List Event) (r : Option X) → MatchOption r (IsCovered K cs (take n live) S o s b old new) (λ q. IsCovered K cs (take n live) S o s (part q) old new)
       → MatchOption r (IsCovered K cs picks S o s b old new) (λ q. IsCovered K cs picks S o s (part q) old new)
-  cover_of_all K b part old new None h = covered_of_all K b old new h
-  cover_of_all K b part old new (Some q) h = covered_of_all K (part q) old new h
+  cover_of_all part old new None h = covered_of_all b old new h
+  cover_of_all part old new (Some q) h = covered_of_all (part q) old new h

@@ -1,31 +1,41 @@
--- Picks that are gathered for an object at a place: those whose conditions may be refuted there.
-use Rattle.std.specs.Prelude.{◌≡◌, ◌⊎◌, ℕ, true, ◌-◌, ◌<◌, ◌≤◌, List, length, slice_get, slice_index, Some, Contains}
+-- Picks that are gathered for an object at a place: those whose conditions may be refuted there, in a region.
+use Rattle.std.specs.Prelude.{◌≡◌, ◌⊎◌, ℕ, true, ◌-◌, ◌<◌, ◌≤◌, List, length, slice_get, slice_index, Option, Some, Contains}
+use Rattle.geo_base.specs.declared.kbox.KBox.{KBox}
 use Rattle.geo_conditions.specs.declared.cond.Cond.{Cond}
 use Rattle.geo_conditions.specs.Conditions.{possible}
-use Rattle.geo_conditions.specs.Reach.{State}
-use Rattle.indexical.specs.Free.{Spares}
-use Rattle.sweep.specs.Picks.{PicksAt}
+use Rattle.geo_conditions.specs.Reach.{State, Region}
+use Rattle.geo_conditions.specs.Regions.{region_of}
+use Rattle.indexical.specs.declared.forbidden.ForbiddenPart.TheVariants.{Nothing}
+use Rattle.indexical.specs.Forbidden.{Forbids, IsForbiddenPart}
 
--- what the k-th number picks is possible wherever the object o is put at the place s
-abbrev pub IsSpared : List Cond → State → ℕ → ℕ → List ℕ → ℕ → Type 0
-IsSpared cs S o s picks k = (x : Cond) → PicksAt cs picks k x → Spares x S o s
+-- what the number i names forbids nothing of the region, where the object o is put at the place s
+abbrev pub IsNumberSpared : ℕ → List Cond → State → ℕ → ℕ → Region → ℕ → Type 0
+IsNumberSpared K cs S o s b i = (x : Cond) → slice_get cs (i - 1) ≡ Some x → Forbids K x S o s b Nothing
 
--- The first n numbers of the list are picks, and of the first m picks they have each one that is not spared.
-pub record AreGathered (cs : List Cond) (S : State) (o s : ℕ) (picks : List ℕ) (m n : ℕ) (live : List ℕ) : Type 0 where
+-- The first n numbers of the list are picks, and they have each pick that is not spared.
+pub record AreGathered (K : ℕ) (cs : List Cond) (S : State) (o s : ℕ) (b : Region) (picks : List ℕ) (n : ℕ) (live : List ℕ) : Type 0 where
   pub listed : (j : ℕ) → j < n → Contains picks (slice_index live j)
-  pub others : (k : ℕ) → k < m → IsSpared cs S o s picks k ⊎ ((j : ℕ) × (j < n) × (slice_index live j ≡ slice_index picks k))
+  pub others : (k : ℕ) → k < length picks → IsNumberSpared K cs S o s b (slice_index picks k) ⊎ ((j : ℕ) × (j < n) × (slice_index live j ≡ slice_index picks k))
 
--- what the number i names is possible wherever the object o is put at the place s
-abbrev pub IsNumberSpared : List Cond → State → ℕ → ℕ → ℕ → Type 0
-IsNumberSpared cs S o s i = (x : Cond) → slice_get cs (i - 1) ≡ Some x → Spares x S o s
+-- each box stands at the place of a number that has it
+abbrev pub HoldEach : {K : ℕ} → (ℕ → KBox K → Type 0) → List ℕ → List (Option (KBox K)) → Type 0
+HoldEach P live parts = (j : ℕ) (part : _) → slice_get parts j ≡ Some (Some part) → P (slice_index live j) part
+
+-- the box is what the condition that the number names forbids of the region
+abbrev pub IsNumberPart : (K : ℕ) → List Cond → State → ℕ → ℕ → Region → ℕ → KBox K → Type 0
+IsNumberPart K cs S o s b i part = (x : Cond) → slice_get cs (i - 1) ≡ Some x → IsForbiddenPart K x S o s b (region_of part)
+
+-- so it is where a box stands at the place of a number
+abbrev pub HoldParts : (K : ℕ) → List Cond → State → ℕ → ℕ → Region → List ℕ → List (Option (KBox K)) → Type 0
+HoldParts K cs S o s b live parts = HoldEach (IsNumberPart K cs S o s b) live parts
 
 -- The n numbers of the list go on to m ones, by some of those. Each of those is spared or is one of them.
-pub record GoesOn (cs : List Cond) (S : State) (o s : ℕ) (Those : ℕ → Type 0) (n : ℕ) (live : List ℕ) (m : ℕ) (new : List ℕ) : Type 0 where
+pub record GoesOn (K : ℕ) (cs : List Cond) (S : State) (o s : ℕ) (b : Region) (Those : ℕ → Type 0) (n : ℕ) (live : List ℕ) (m : ℕ) (new : List ℕ) : Type 0 where
   pub room : m ≤ length new
   pub more : n ≤ m
   pub kept : (j : ℕ) → j < n → slice_index new j ≡ slice_index live j
   pub further : (j : ℕ) → n ≤ j → j < m → Those (slice_index new j)
-  pub each : (i : ℕ) → Those i → IsNumberSpared cs S o s i ⊎ ((j : ℕ) × (j < m) × (slice_index new j ≡ i))
+  pub each : (i : ℕ) → Those i → IsNumberSpared K cs S o s b i ⊎ ((j : ℕ) × (j < m) × (slice_index new j ≡ i))
 
 -- what the number i names is possible on T
 abbrev pub IsNumberPossible : List Cond → State → ℕ → Type 0

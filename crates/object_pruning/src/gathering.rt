@@ -1,49 +1,72 @@
 //! The conditions that may be refuted somewhere with an object at a place, gathered once for a sweep.
 
-ghost use Rattle.std.specs.Prelude.{◌≡◌, ◌≢◌, ℕ, ◌-◌, ◌<◌, ◌≤◌, false, length, map, slice_get, IfSome, IsTrue, MatchOption};
+ghost use Rattle.std.specs.Prelude.{◌≡◌, ◌≢◌, ℕ, ◌+◌, ◌-◌, ◌<◌, ◌≤◌, false, length, map, slice_get, slice_set, Some, IfNone, IfSome, IsTrue, MatchOption};
+ghost use Rattle.geo_base.specs.declared.kbox.KBox.{KBox};
 ghost use Rattle.geo_conditions.specs.Conditions.{AllFit};
 ghost use Rattle.geo_conditions.specs.Reach.{reach, is_only};
 ghost use Rattle.sweep.specs.Picks.{ArePicks};
-ghost use Rattle.object_pruning.specs.Gathered.{AreGathered, GoesOn, IsSpared};
+ghost use Rattle.geo_conditions.specs.Regions.{region_of};
+ghost use Rattle.object_pruning.specs.Gathered.{AreGathered, GoesOn, HoldParts};
 ghost use Rattle.object_pruning.specs.declared.rows.Group.{Group};
 ghost use Rattle.object_pruning.specs.InRows.{AreRows, HaveNumber, IsInGroup, IsSomeGroup};
 
 use super::rows::{Group, Rows};
-use geo_base::MAX_DIMS;
+use geo_base::{KBox, MAX_DIMS};
 use geo_conditions::{ObjId, State};
-use indexical::Indexical;
+use indexical::{ForbiddenPart, Indexical};
 
 /// How many conditions are gathered at most.
 pub const GATHERED: usize = 256;
 
-// Whether the condition that the k-th pick names surely spares the object at that place.
-fn is_pick_spared<const K: usize, I: Indexical<K>>(
-    s: &State<K>,
-    o: ObjId,
-    place: u8,
-    list: &[I],
-    picks: &[u32],
-    k: usize,
-) -> bool
+/// Of how many of them what they forbid is kept.
+pub const PARTS: usize = 32;
+
+/// No parts.
+#[inline(always)]
+pub fn no_parts<const K: usize>() -> [Option<KBox<K>>; PARTS]
     requires k { K ≤ MAX_DIMS }
-    requires fits { AllFit (map I.cond list.now) s.now }
-    requires object { o.0 < length s.now }
-    requires picks { ArePicks (length list.now) picks.now }
-    requires pick { k < length picks.now }
-    ensures { IsTrue result → IsSpared (map I.cond list.now) s.now o.0 place picks.now k }
+    ensures { (j : ℕ) (part : KBox K) → slice_get result j ≡ Some (Some part) → ⊥ }
 {
-    list[picks[k] as usize - 1].surely_spares(s, o, place)
+    [None; PARTS]
 }
 
-// Adds the number to the first `count` ones of the list, where its condition does not surely spare the object at that place,
-// and answers how many they are then. None where there is no room.
+// Puts the number behind the first `count` ones of the list, and what it forbids, where there is room for that, and answers how many
+// they are then. None where there is no room.
+fn put_number<const K: usize>(
+    number: u32,
+    part: Option<KBox<K>>,
+    live: &mut [u32],
+    parts: &mut [Option<KBox<K>>],
+    count: usize,
+) -> Option<usize>
+    requires room { count ≤ length live.old }
+    ensures goes { IfSome result (λ n. (n ≡ count + 1) × (count < length live.old)
+        × (live.new ≡ slice_set live.old count number)) }
+    ensures parts { IfSome result (λ n. parts.new ≡ slice_set parts.old count part.entry) }
+    ensures full { IfNone result ((live.new ≡ live.old) × (parts.new ≡ parts.old)) }
+{
+    if count == live.len() {
+        return None;
+    }
+    live[count] = number;
+    if count < parts.len() {
+        parts[count] = part;
+    }
+    Some(count + 1)
+}
+
+// Adds the number to the first `count` ones of the list, where its condition forbids some of the region with the object at
+// that place, or may do so, and answers how many they are then. None where there is no room. What it forbids is kept, where
+// it is known and there is room for it.
 fn gather_number<const K: usize, I: Indexical<K>>(
     s: &State<K>,
     o: ObjId,
     place: u8,
+    region: &KBox<K>,
     list: &[I],
     number: u32,
     live: &mut [u32],
+    parts: &mut [Option<KBox<K>>],
     count: usize,
 ) -> Option<usize>
     requires k { K ≤ MAX_DIMS }
@@ -51,17 +74,18 @@ fn gather_number<const K: usize, I: Indexical<K>>(
     requires object { o.0 < length s.now }
     requires number { (0 < number) × (number - 1 < length list.now) }
     requires room { count ≤ length live.old }
-    ensures { IfSome result (λ n. GoesOn (map I.cond list.now) s.now o.0 place
-        (λ i. i ≡ number) count live.old n live.new) }
+    requires parts { HoldParts K (map I.cond list.now) s.now o.0 place (region_of region.now)
+        live.old parts.old }
+    ensures goes { IfSome result (λ n. GoesOn K (map I.cond list.now) s.now o.0 place
+        (region_of region.now) (λ i. i ≡ number) count live.old n live.new) }
+    ensures parts { HoldParts K (map I.cond list.now) s.now o.0 place (region_of region.now)
+        live.new parts.new }
 {
-    if list[number as usize - 1].surely_spares(s, o, place) {
-        return Some(count);
+    match list[number as usize - 1].forbidden_part(s, o, place, region) {
+        ForbiddenPart::Nothing => Some(count),
+        ForbiddenPart::Exactly(part) => put_number(number, Some(part), live, parts, count),
+        ForbiddenPart::Unknown => put_number(number, None, live, parts, count),
     }
-    if count == live.len() {
-        return None;
-    }
-    live[count] = number;
-    Some(count + 1)
 }
 
 // The same for each number of a group.
@@ -69,9 +93,11 @@ fn gather_numbers<const K: usize, I: Indexical<K>>(
     s: &State<K>,
     o: ObjId,
     place: u8,
+    region: &KBox<K>,
     list: &[I],
     group: &Group,
     live: &mut [u32],
+    parts: &mut [Option<KBox<K>>],
     count: usize,
 ) -> Option<usize>
     requires k { K ≤ MAX_DIMS }
@@ -79,14 +105,18 @@ fn gather_numbers<const K: usize, I: Indexical<K>>(
     requires object { o.0 < length s.now }
     requires numbers { (i : ℕ) → IsInGroup group.now i → (0 < i) × (i - 1 < length list.now) }
     requires room { count ≤ length live.old }
-    ensures { IfSome result (λ n. GoesOn (map I.cond list.now) s.now o.0 place
-        (IsInGroup group.now) count live.old n live.new) }
+    requires parts { HoldParts K (map I.cond list.now) s.now o.0 place (region_of region.now)
+        live.old parts.old }
+    ensures goes { IfSome result (λ n. GoesOn K (map I.cond list.now) s.now o.0 place
+        (region_of region.now) (IsInGroup group.now) count live.old n live.new) }
+    ensures parts { HoldParts K (map I.cond list.now) s.now o.0 place (region_of region.now)
+        live.new parts.new }
 {
     let mut gathered = count;
     let first = group.first as usize;
     let end = group.last as usize + 1;
     for i in first..end {
-        gathered = gather_number(s, o, place, list, i as u32, live, gathered)?;
+        gathered = gather_number(s, o, place, region, list, i as u32, live, parts, gathered)?;
     }
     Some(gathered)
 }
@@ -110,9 +140,11 @@ fn gather_group<const K: usize, I: Indexical<K>>(
     s: &State<K>,
     o: ObjId,
     place: u8,
+    region: &KBox<K>,
     list: &[I],
     group: &Group,
     live: &mut [u32],
+    parts: &mut [Option<KBox<K>>],
     count: usize,
 ) -> Option<usize>
     requires k { K ≤ MAX_DIMS }
@@ -120,13 +152,17 @@ fn gather_group<const K: usize, I: Indexical<K>>(
     requires object { o.0 < length s.now }
     requires group { IsSomeGroup (map I.cond list.now) o.0 group.now }
     requires room { count ≤ length live.old }
-    ensures { IfSome result (λ n. GoesOn (map I.cond list.now) s.now o.0 place
-        (IsInGroup group.now) count live.old n live.new) }
+    requires parts { HoldParts K (map I.cond list.now) s.now o.0 place (region_of region.now)
+        live.old parts.old }
+    ensures goes { IfSome result (λ n. GoesOn K (map I.cond list.now) s.now o.0 place
+        (region_of region.now) (IsInGroup group.now) count live.old n live.new) }
+    ensures parts { HoldParts K (map I.cond list.now) s.now o.0 place (region_of region.now)
+        live.new parts.new }
 {
     if !can_be_in_the_way(s, group) {
         return Some(count);
     }
-    gather_numbers(s, o, place, list, group, live, count)
+    gather_numbers(s, o, place, region, list, group, live, parts, count)
 }
 
 // The same for each group of a row.
@@ -134,9 +170,11 @@ fn gather_row<const K: usize, I: Indexical<K>>(
     s: &State<K>,
     o: ObjId,
     place: u8,
+    region: &KBox<K>,
     list: &[I],
     groups: &[Group],
     live: &mut [u32],
+    parts: &mut [Option<KBox<K>>],
     count: usize,
 ) -> Option<usize>
     requires k { K ≤ MAX_DIMS }
@@ -145,12 +183,16 @@ fn gather_row<const K: usize, I: Indexical<K>>(
     requires groups { (k : ℕ) (g : Group) → slice_get groups.now k ≡ Some g
         → IsSomeGroup (map I.cond list.now) o.0 g }
     requires room { count ≤ length live.old }
-    ensures { IfSome result (λ n. GoesOn (map I.cond list.now) s.now o.0 place
-        (HaveNumber groups.now) count live.old n live.new) }
+    requires parts { HoldParts K (map I.cond list.now) s.now o.0 place (region_of region.now)
+        live.old parts.old }
+    ensures goes { IfSome result (λ n. GoesOn K (map I.cond list.now) s.now o.0 place
+        (region_of region.now) (HaveNumber groups.now) count live.old n live.new) }
+    ensures parts { HoldParts K (map I.cond list.now) s.now o.0 place (region_of region.now)
+        live.new parts.new }
 {
     let mut gathered = count;
     for k in 0..groups.len() {
-        gathered = gather_group(s, o, place, list, &groups[k], live, gathered)?;
+        gathered = gather_group(s, o, place, region, list, &groups[k], live, parts, gathered)?;
     }
     Some(gathered)
 }
@@ -160,22 +202,29 @@ fn gather_by_rows<const K: usize, I: Indexical<K>>(
     s: &State<K>,
     o: ObjId,
     place: u8,
+    region: &KBox<K>,
     list: &[I],
     picks: &[u32],
     rows: &Rows,
     live: &mut [u32],
+    parts: &mut [Option<KBox<K>>],
 ) -> Option<usize>
     requires k { K ≤ MAX_DIMS }
     requires fits { AllFit (map I.cond list.now) s.now }
     requires object { o.0 < length s.now }
     requires picks { ArePicks (length list.now) picks.now }
     requires rows { AreRows (map I.cond list.now) o.0 picks.now rows.now }
+    requires parts { HoldParts K (map I.cond list.now) s.now o.0 place (region_of region.now)
+        live.old parts.old }
     ensures room { IfSome result (λ n. n ≤ length live.new) }
     ensures gathered { IfSome result (λ n.
-        AreGathered (map I.cond list.now) s.now o.0 place picks.now (length picks.now) n live.new) }
+        AreGathered K (map I.cond list.now) s.now o.0 place
+        (region_of region.now) picks.now n live.new) }
+    ensures parts { HoldParts K (map I.cond list.now) s.now o.0 place (region_of region.now)
+        live.new parts.new }
 {
-    let count = gather_row(s, o, place, list, rows.row(0), live, 0)?;
-    gather_row(s, o, place, list, rows.row(usize::from(place)), live, count)
+    let count = gather_row(s, o, place, region, list, rows.row(0), live, parts, 0)?;
+    gather_row(s, o, place, region, list, rows.row(usize::from(place)), live, parts, count)
 }
 
 // Gathers by going over all picks.
@@ -183,53 +232,62 @@ fn gather_all<const K: usize, I: Indexical<K>>(
     s: &State<K>,
     o: ObjId,
     place: u8,
+    region: &KBox<K>,
     list: &[I],
     picks: &[u32],
     live: &mut [u32],
+    parts: &mut [Option<KBox<K>>],
 ) -> Option<usize>
     requires k { K ≤ MAX_DIMS }
     requires fits { AllFit (map I.cond list.now) s.now }
     requires object { o.0 < length s.now }
     requires picks { ArePicks (length list.now) picks.now }
+    requires parts { HoldParts K (map I.cond list.now) s.now o.0 place (region_of region.now)
+        live.old parts.old }
     ensures room { IfSome result (λ n. n ≤ length live.new) }
     ensures gathered { IfSome result (λ n.
-        AreGathered (map I.cond list.now) s.now o.0 place picks.now (length picks.now) n live.new) }
+        AreGathered K (map I.cond list.now) s.now o.0 place
+        (region_of region.now) picks.now n live.new) }
+    ensures parts { HoldParts K (map I.cond list.now) s.now o.0 place (region_of region.now)
+        live.new parts.new }
 {
     let mut count: usize = 0;
     for k in 0..picks.len() {
-        if !is_pick_spared(s, o, place, list, picks, k) {
-            if count == live.len() {
-                return None;
-            }
-            live[count] = picks[k];
-            count += 1;
-        }
+        let number = picks[k];
+        count = gather_number(s, o, place, region, list, number, live, parts, count)?;
     }
     Some(count)
 }
 
-/// Gathers the picks whose conditions do not surely spare the object at that place, and answers how many they are.
-/// None where there is not room for so many.
+/// Gathers the picks whose conditions forbid some of the region with the object at that place, or may do so, and answers how many
+/// they are. None where there is not room for so many. Of the first ones what they forbid is kept, where it is known.
 pub fn gather<const K: usize, I: Indexical<K>>(
     s: &State<K>,
     o: ObjId,
     place: u8,
+    region: &KBox<K>,
     list: &[I],
     picks: &[u32],
     rows: Option<&Rows>,
     live: &mut [u32],
+    parts: &mut [Option<KBox<K>>],
 ) -> Option<usize>
     requires k { K ≤ MAX_DIMS }
     requires fits { AllFit (map I.cond list.now) s.now }
     requires object { o.0 < length s.now }
     requires picks { ArePicks (length list.now) picks.now }
     requires rows { IfSome rows (λ r. AreRows (map I.cond list.now) o.0 picks.now r.now) }
+    requires parts { HoldParts K (map I.cond list.now) s.now o.0 place (region_of region.now)
+        live.old parts.old }
     ensures room { IfSome result (λ n. n ≤ length live.new) }
     ensures gathered { IfSome result (λ n.
-        AreGathered (map I.cond list.now) s.now o.0 place picks.now (length picks.now) n live.new) }
+        AreGathered K (map I.cond list.now) s.now o.0 place
+        (region_of region.now) picks.now n live.new) }
+    ensures parts { HoldParts K (map I.cond list.now) s.now o.0 place (region_of region.now)
+        live.new parts.new }
 {
     match rows {
-        Some(rows) => gather_by_rows(s, o, place, list, picks, rows, live),
-        None => gather_all(s, o, place, list, picks, live),
+        Some(rows) => gather_by_rows(s, o, place, region, list, picks, rows, live, parts),
+        None => gather_all(s, o, place, region, list, picks, live, parts),
     }
 }

@@ -5,13 +5,14 @@ ghost use Rattle.geo_conditions.specs.Conditions.{AllFit};
 ghost use Rattle.geo_conditions.specs.Regions.{region_of};
 ghost use Rattle.geo_conditions.specs.Supported.{HasNoPoint, IsFirstPoint};
 ghost use Rattle.derivation.specs.Events.{Grows};
+ghost use Rattle.sweep.specs.Parts.{AreParts};
 ghost use Rattle.sweep.specs.Picks.{ArePicks, picked};
 ghost use Rattle.sweep.specs.Sweep.{IsCovered, part_before};
 ghost use Rattle.object_pruning.specs.Pruning.{IsSmallBox};
 ghost use Rattle.object_pruning.specs.InRows.{AreRows};
 
 use super::counted::{Counted, answer};
-use super::gathering::{GATHERED, gather};
+use super::gathering::{GATHERED, gather, no_parts};
 use super::rows::Rows;
 use derivation::Recorder;
 use geo_base::{KBox, MAX_DIMS, Point, Steps, Way};
@@ -19,7 +20,7 @@ use geo_conditions::{ObjId, State};
 use indexical::Indexical;
 use std::alloc::AllocError;
 use std::sync::ledger::Ledger;
-use sweep::sweep;
+use sweep::sweep_parts;
 
 // A sweep over a region of an object at a place.
 #[derive(Drop)]
@@ -30,6 +31,7 @@ struct RegionSweep<'a, const K: usize, I: Indexical<K> + 'a> {
     region: &'a KBox<K>,
     list: &'a [I],
     picks: &'a [u32],
+    parts: &'a [Option<KBox<K>>],
     way: &'a Way<K>,
 }
 
@@ -41,6 +43,8 @@ impl<'a, const K: usize, I: Indexical<K> + 'a, R: Recorder> Counted<
 
     ghost ready = { λ x. (K ≤ MAX_DIMS) × AllFit (map I.cond x.list.now) x.s.now
         × (x.o.0 < length x.s.now) × ArePicks (length x.list.now) x.picks.now
+        × AreParts K (map I.cond x.list.now) x.picks.now x.s.now x.o.0 x.place
+        (region_of x.region.now) x.parts.now
         × IsSmallBox x.region.now };
 
     ghost right = { λ x old new result.
@@ -63,13 +67,14 @@ impl<'a, const K: usize, I: Indexical<K> + 'a, R: Recorder> Counted<
         to: &mut R,
         steps: &mut Steps<L>,
     ) -> Result<Option<Point<K>>, AllocError> {
-        sweep(
+        sweep_parts(
             self.s,
             self.o,
             self.place,
             self.region,
             self.list,
             self.picks,
+            self.parts,
             self.way,
             to,
             steps,
@@ -87,6 +92,7 @@ fn sweep_region<const K: usize, I: Indexical<K>, R: Recorder>(
     region: &KBox<K>,
     list: &[I],
     picks: &[u32],
+    parts: &[Option<KBox<K>>],
     way: &Way<K>,
     rec: &mut R,
 ) -> Result<Option<Point<K>>, AllocError>
@@ -94,6 +100,8 @@ fn sweep_region<const K: usize, I: Indexical<K>, R: Recorder>(
     requires fits { AllFit (map I.cond list.now) s.now }
     requires object { o.0 < length s.now }
     requires picks { ArePicks (length list.now) picks.now }
+    requires parts { AreParts K (map I.cond list.now) picks.now s.now o.0 place
+        (region_of region.now) parts.now }
     requires small { IsSmallBox region.now }
     ensures point { let cs = picked (map I.cond list.now) picks.now in
         let b = region_of region.now in
@@ -115,6 +123,7 @@ fn sweep_region<const K: usize, I: Indexical<K>, R: Recorder>(
             region,
             list,
             picks,
+            parts,
             way,
         },
         rec,
@@ -154,8 +163,21 @@ pub fn first_point_in<const K: usize, I: Indexical<K>, R: Recorder>(
     ensures grows { Grows R.keeps R.list R.refusals rec.old rec.new result }
 {
     let mut live = [0u32; GATHERED];
-    match gather(s, o, place, list, picks, rows, &mut live) {
-        Some(count) => sweep_region(s, o, place, region, list, &live[0..count], way, rec),
-        None => sweep_region(s, o, place, region, list, picks, way, rec),
+    let mut parts = no_parts();
+    match gather(
+        s, o, place, region, list, picks, rows, &mut live, &mut parts,
+    ) {
+        Some(count) => sweep_region(
+            s,
+            o,
+            place,
+            region,
+            list,
+            &live[0..count],
+            &parts,
+            way,
+            rec,
+        ),
+        None => sweep_region(s, o, place, region, list, picks, &[], way, rec),
     }
 }

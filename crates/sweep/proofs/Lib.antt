@@ -8,3 +8,4 @@ pub mod Digits
 pub mod Bound
 pub mod PickedConditions
 pub mod Promises
+pub mod KnownParts

@@ -1,4 +1,5 @@
 pub mod Jump
 pub mod Chains
 pub mod Picks
+pub mod Parts
 pub mod Sweep

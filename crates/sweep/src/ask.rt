@@ -1,4 +1,4 @@
-ghost use Rattle.std.specs.Prelude.{◌≡◌, ℕ, ◌+◌, ◌-◌, ◌<◌, ◌≤◌, true, ℤ, List, length, map, IfSome, IfNone};
+ghost use Rattle.std.specs.Prelude.{◌≡◌, ℕ, ◌+◌, ◌-◌, ◌<◌, ◌≤◌, true, ℤ, List, length, map, slice_get, IfSome, IfNone, Some};
 ghost use Rattle.geo_base.specs.Boxes.{Has};
 ghost use Rattle.geo_conditions.specs.declared.cond.Cond.{Cond};
 ghost use Rattle.geo_conditions.specs.Conditions.{possible, AllFit, IsRefuted};
@@ -6,6 +6,7 @@ ghost use Rattle.geo_conditions.specs.Reach.{with_at, just};
 ghost use Rattle.geo_conditions.specs.Regions.{region_of};
 ghost use Rattle.geo_conditions.specs.Supported.{NoneRefuted};
 ghost use Rattle.indexical.specs.Disjunctions.{IsDisjunction};
+ghost use Rattle.sweep.specs.Parts.{AreParts};
 ghost use Rattle.sweep.specs.Picks.{ArePicks, PicksAt, picked};
 
 use geo_base::{KBox, Point, Steps, Way};
@@ -13,9 +14,40 @@ use geo_conditions::{ObjId, State};
 use indexical::Indexical;
 use std::sync::ledger::Ledger;
 
+/// The box that stands for the k-th pick, if one does.
+#[inline(always)]
+fn known_part<const K: usize>(parts: &[Option<KBox<K>>], k: usize) -> Option<&KBox<K>>
+    ensures { IfSome result (λ b. slice_get parts.now k ≡ Some (Some b.now)) }
+{
+    if parts.len() <= k {
+        return None;
+    }
+    match &parts[k] {
+        Some(part) => Some(part),
+        None => None,
+    }
+}
+
+/// The box, where it has the point. One look at it counts as one question.
+#[inline(always)]
+fn ask_part<const K: usize, L: Ledger>(
+    part: &KBox<K>,
+    c: &Point<K>,
+    steps: &mut Steps<L>,
+) -> Option<KBox<K>>
+    ensures some { IfSome result (λ b. (b ≡ part.now)
+        × Has K b.lo.coordinates b.hi.coordinates c.now.coordinates) }
+    ensures none { IfNone result
+        (Has K part.now.lo.coordinates part.now.hi.coordinates c.now.coordinates → ⊥) }
+    ensures asked { steps.new ≡ steps.old + 1 }
+{
+    steps.tick();
+    if part.has(c) { Some(*part) } else { None }
+}
+
 /// Asks the condition that the k-th pick names.
 #[inline(always)]
-fn ask_pick<const K: usize, I: Indexical<K>, L: Ledger>(
+fn ask_condition<const K: usize, I: Indexical<K>, L: Ledger>(
     s: &State<K>,
     o: ObjId,
     place: u8,
@@ -51,8 +83,52 @@ fn ask_pick<const K: usize, I: Indexical<K>, L: Ledger>(
     list[picks[k] as usize - 1].forbid(s, o, place, c, region, way, steps)
 }
 
+/// Asks the condition that the k-th pick names, or looks at what it forbids where that is known.
+#[inline(always)]
+fn ask_pick<const K: usize, I: Indexical<K>, L: Ledger>(
+    s: &State<K>,
+    o: ObjId,
+    place: u8,
+    list: &[I],
+    picks: &[u32],
+    parts: &[Option<KBox<K>>],
+    k: usize,
+    c: &Point<K>,
+    region: &KBox<K>,
+    way: &Way<K>,
+    steps: &mut Steps<L>,
+) -> Option<KBox<K>>
+    requires fits { AllFit (map I.cond list.now) s.now }
+    requires object { o.0 < length s.now }
+    requires picks { ArePicks (length list.now) picks.now }
+    requires parts { AreParts K (map I.cond list.now) picks.now s.now o.0 place
+        (region_of region.now) parts.now }
+    requires k { k < length picks.now }
+    requires inside { Has K region.now.lo.coordinates region.now.hi.coordinates c.now.coordinates }
+    ensures refuted { IfSome result (λ b. (x : Cond)
+        × PicksAt (map I.cond list.now) picks.now k x
+        × IsRefuted x (with_at s.now o.0 place (region_of b))) }
+    ensures has { IfSome result (λ b. Has K b.lo.coordinates b.hi.coordinates c.now.coordinates) }
+    ensures within { IfSome result (λ b.
+        Has K region.now.lo.coordinates region.now.hi.coordinates b.lo.coordinates
+        × Has K region.now.lo.coordinates region.now.hi.coordinates b.hi.coordinates) }
+    ensures whole { IfSome result (λ b. (x : Cond) → PicksAt (map I.cond list.now) picks.now k x
+        → IsDisjunction o.0 x → (q : List ℤ)
+        → Has K region.now.lo.coordinates region.now.hi.coordinates q
+        → IsRefuted x (with_at s.now o.0 place (just q))
+        → Has K b.lo.coordinates b.hi.coordinates q) }
+    ensures none { IfNone result ((x : Cond) → PicksAt (map I.cond list.now) picks.now k x
+        → possible x (with_at s.now o.0 place (just c.now.coordinates)) ≡ true) }
+    ensures asked { steps.new ≡ steps.old + 1 }
+{
+    match known_part(parts, k) {
+        Some(part) => ask_part(part, c, steps),
+        None => ask_condition(s, o, place, list, picks, k, c, region, way, steps),
+    }
+}
+
 /// The first pick from `from` on, and around, whose condition is refuted at the point c, and its
-/// forbidden box.
+/// forbidden box. What the conditions of the first picks forbid may be known.
 #[inline(never)]
 pub fn ask<const K: usize, I: Indexical<K>, L: Ledger>(
     s: &State<K>,
@@ -60,6 +136,7 @@ pub fn ask<const K: usize, I: Indexical<K>, L: Ledger>(
     place: u8,
     list: &[I],
     picks: &[u32],
+    parts: &[Option<KBox<K>>],
     from: usize,
     c: &Point<K>,
     region: &KBox<K>,
@@ -69,6 +146,8 @@ pub fn ask<const K: usize, I: Indexical<K>, L: Ledger>(
     requires fits { AllFit (map I.cond list.now) s.now }
     requires object { o.0 < length s.now }
     requires picks { ArePicks (length list.now) picks.now }
+    requires parts { AreParts K (map I.cond list.now) picks.now s.now o.0 place
+        (region_of region.now) parts.now }
     requires from { from ≤ length picks.now }
     requires inside { Has K region.now.lo.coordinates region.now.hi.coordinates c.now.coordinates }
     ensures pick { IfSome result (λ a. a.0 < length picks.now) }
@@ -90,12 +169,12 @@ pub fn ask<const K: usize, I: Indexical<K>, L: Ledger>(
     ensures asked { steps.new ≤ steps.old + length picks.now }
 {
     'ahead: for k in from..picks.len() {
-        if let Some(b) = ask_pick(s, o, place, list, picks, k, c, region, way, steps) {
+        if let Some(b) = ask_pick(s, o, place, list, picks, parts, k, c, region, way, steps) {
             return Some((k, b));
         }
     }
     'around: for k in 0..from {
-        if let Some(b) = ask_pick(s, o, place, list, picks, k, c, region, way, steps) {
+        if let Some(b) = ask_pick(s, o, place, list, picks, parts, k, c, region, way, steps) {
             return Some((k, b));
         }
     }

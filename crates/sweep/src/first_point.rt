@@ -6,6 +6,7 @@ ghost use Rattle.geo_conditions.specs.Regions.{region_of};
 ghost use Rattle.geo_conditions.specs.Supported.{IsFirstPoint, HasNoPoint};
 ghost use Rattle.derivation.specs.Events.{Grows};
 ghost use Rattle.indexical.specs.Disjunctions.{IsDisjunction};
+ghost use Rattle.sweep.specs.Parts.{AreParts};
 ghost use Rattle.sweep.specs.Picks.{ArePicks, picked};
 ghost use Rattle.sweep.specs.Sweep.{part_before, IsCovered};
 
@@ -19,6 +20,80 @@ use geo_conditions::{ObjId, State};
 use indexical::Indexical;
 use std::alloc::AllocError;
 use std::sync::ledger::Ledger;
+
+/// The same sweep, where what the conditions of some picks forbid of the region is known: a box in the place of the pick, which
+/// is looked at in place of the condition.
+pub fn sweep_parts<const K: usize, I: Indexical<K>, R: Recorder, L: Ledger>(
+    s: &State<K>,
+    o: ObjId,
+    place: u8,
+    region: &KBox<K>,
+    list: &[I],
+    picks: &[u32],
+    parts: &[Option<KBox<K>>],
+    way: &Way<K>,
+    rec: &mut R,
+    steps: &mut Steps<L>,
+) -> Result<Option<Point<K>>, AllocError>
+    requires fits { AllFit (map I.cond list.now) s.now }
+    requires object { o.0 < length s.now }
+    requires picks { ArePicks (length list.now) picks.now }
+    requires parts { AreParts K (map I.cond list.now) picks.now s.now o.0 place
+        (region_of region.now) parts.now }
+    requires small { IsSmallPoint K region.now.lo.coordinates
+        × IsSmallPoint K region.now.hi.coordinates }
+    ensures point { let cs = picked (map I.cond list.now) picks.now in
+        let b = region_of region.now in
+        IfOk result (λ r. MatchOption r (HasNoPoint cs s.now o.0 place b)
+        (λ p. IsFirstPoint K way.now.lead way.now.up cs s.now o.0 place b p.coordinates)) }
+    ensures covered { let cs = map I.cond list.now in
+        let b = region_of region.now in
+        IfOk result (λ r. R.keeps ≡ true → MatchOption r
+        (IsCovered K cs picks.now s.now o.0 place b (R.list rec.old) (R.list rec.new))
+        (λ p. IsCovered K cs picks.now s.now o.0 place
+        (part_before way.now.lead way.now.up p.coordinates b) (R.list rec.old) (R.list rec.new))) }
+    ensures asked { All (IsDisjunction o.0) (picked (map I.cond list.now) picks.now)
+        → steps.new ≤ steps.old + length picks.now * (length picks.now + 1) ^ K }
+    ensures events { R.keeps ≡ true
+        → All (IsDisjunction o.0) (picked (map I.cond list.now) picks.now)
+        → length (R.list rec.new)
+        ≤ length (R.list rec.old) + 2 * K * (length picks.now + 1) ^ K + 1 }
+    ensures grows { Grows R.keeps R.list R.refusals rec.old rec.new result }
+{
+    // The state has K dimensions, and so have the corners.
+    let _objects = s.objects();
+    let _low = region.lo.dimensions();
+    let _high = region.hi.dimensions();
+    if region.is_empty() {
+        rec.add(Event::By(1))?;
+        return Ok(None);
+    }
+    let first = way.start(region);
+    let past = way.one_past(way.end(region));
+    let mut c = *first;
+    let mut n = past;
+    let mut marks = Marks::new();
+    let mut from = 0;
+    open_chains(way, first, &past, &c, &n, 0, &mut marks, rec)?;
+    'turns: loop {
+        match ask(s, o, place, list, picks, parts, from, &c, region, way, steps) {
+            None => {
+                let _coordinates = c.dimensions();
+                stop(way, region, &past, &c, &n, &marks, rec)?;
+                return Ok(Some(c));
+            }
+            Some((k, b)) => {
+                let more = turn(
+                    way, region, &past, picks[k], &b, &mut c, &mut n, &mut marks, rec,
+                )?;
+                if !more {
+                    return Ok(None);
+                }
+                from = k;
+            }
+        }
+    }
+}
 
 /// The first point of the region, in the way's order, at which no picked condition is refuted: with
 /// the object at that place at the point, and all others as in the state. None where some picked
@@ -70,37 +145,5 @@ pub fn sweep<const K: usize, I: Indexical<K>, R: Recorder, L: Ledger>(
         ≤ length (R.list rec.old) + 2 * K * (length picks.now + 1) ^ K + 1 }
     ensures grows { Grows R.keeps R.list R.refusals rec.old rec.new result }
 {
-    // The state has K dimensions, and so have the corners.
-    let _objects = s.objects();
-    let _low = region.lo.dimensions();
-    let _high = region.hi.dimensions();
-    if region.is_empty() {
-        rec.add(Event::By(1))?;
-        return Ok(None);
-    }
-    let first = way.start(region);
-    let past = way.one_past(way.end(region));
-    let mut c = *first;
-    let mut n = past;
-    let mut marks = Marks::new();
-    let mut from = 0;
-    open_chains(way, first, &past, &c, &n, 0, &mut marks, rec)?;
-    'turns: loop {
-        match ask(s, o, place, list, picks, from, &c, region, way, steps) {
-            None => {
-                let _coordinates = c.dimensions();
-                stop(way, region, &past, &c, &n, &marks, rec)?;
-                return Ok(Some(c));
-            }
-            Some((k, b)) => {
-                let more = turn(
-                    way, region, &past, picks[k], &b, &mut c, &mut n, &mut marks, rec,
-                )?;
-                if !more {
-                    return Ok(None);
-                }
-                from = k;
-            }
-        }
-    }
+    sweep_parts(s, o, place, region, list, picks, &[], way, rec, steps)
 }

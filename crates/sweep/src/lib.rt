@@ -7,4 +7,4 @@ mod marks;
 mod record;
 mod turn;
 
-pub use first_point::sweep;
+pub use first_point::{sweep, sweep_parts};

@@ -1,11 +1,12 @@
 use Rattle.std.proofs.Common.{◌<◌, length, rules}
 use Rattle.geo_conditions.specs.Regions.{region_of}
 use Rattle.indexical.specs.Apart.{SaysApart}
-use Rattle.indexical.proofs.PutBoxes.{matched_forbidden}
+use Rattle.indexical.proofs.Parts.{forbidden_at}
+use Rattle.indexical.proofs.PutBoxes.{matched_part}
 use Rattle.indexical.proofs.any.forbid_any.Goals as goal
 
-pub overlap-requires : goal.overlap-requires
-overlap-requires g c =
+pub overlap_part-requires : goal.overlap_part-requires
+overlap_part-requires g c =
     let x = c.in-Some.boxes in
     let says : SaysApart x.first x.second x.short c.args.x.now.cond = c.args.x.now.says x c.in-Some.is in
     let both = says.exist c.args.s.now c.requires.fits in
@@ -16,5 +17,9 @@ overlap-requires g c =
 pub returns-in-Some : goal.returns-in-Some
 returns-in-Some g c =
     let x = c.in-Some.boxes in
-    let says : SaysApart x.first x.second x.short c.args.x.now.cond = c.args.x.now.says x c.in-Some.is in
-    matched_forbidden x.first x.second x.short c.args.x.now.cond says c.args.s.now c.args.o.0 c.args.place c.args.c.now.coordinates (region_of c.args.region.now) c.overlap.result c.overlap.ensures
+    let cond = c.args.x.now.cond in
+    let region = region_of c.args.region.now in
+    let says : SaysApart x.first x.second x.short cond = c.args.x.now.says x c.in-Some.is in
+    forbidden_at cond c.args.s.now c.args.o.0 c.args.place region c.args.c.now.coordinates c.overlap_part.result c.box_with.result c.requires.inside
+    (matched_part x.first x.second x.short cond says c.args.s.now c.args.o.0 c.args.place region c.overlap_part.result c.overlap_part.ensures)
+    c.box_with.ensures.some c.box_with.ensures.none

@@ -2,16 +2,21 @@ use Rattle.std.proofs.Common.{◌<◌, length, rules}
 use Rattle.geo_conditions.specs.Regions.{region_of}
 use Rattle.indexical.specs.Apart.{apart}
 use Rattle.indexical.proofs.ApartForm.{apart_says_apart}
-use Rattle.indexical.proofs.PutBoxes.{matched_forbidden}
+use Rattle.indexical.proofs.Parts.{forbidden_at}
+use Rattle.indexical.proofs.PutBoxes.{matched_part}
 use Rattle.indexical.proofs.apart_forbid.forbid_apart.Goals as goal
 
 pub returns : goal.returns
 returns g c =
     let x = c.args.x.now in
-    matched_forbidden x.first x.second x.short (apart x.first x.second x.short) (apart_says_apart x.first x.second x.short x.some) c.args.s.now c.args.o.0 c.args.place c.args.c.now.coordinates (region_of c.args.region.now) c.overlap.result c.overlap.ensures
+    let region = region_of c.args.region.now in
+    let cond = apart x.first x.second x.short in
+    forbidden_at cond c.args.s.now c.args.o.0 c.args.place region c.args.c.now.coordinates c.overlap_part.result c.box_with.result c.requires.inside
+    (matched_part x.first x.second x.short cond (apart_says_apart x.first x.second x.short x.some) c.args.s.now c.args.o.0 c.args.place region c.overlap_part.result c.overlap_part.ensures)
+    c.box_with.ensures.some c.box_with.ensures.none
 
-pub overlap-requires : goal.overlap-requires
-overlap-requires g c =
+pub overlap_part-requires : goal.overlap_part-requires
+overlap_part-requires g c =
     let x = c.args.x.now in
     let both = (apart_says_apart x.first x.second x.short x.some).exist c.args.s.now c.requires.fits in
     let first : x.first.object.0 < length c.args.s.now = both.0 in

@@ -1,40 +1,32 @@
-use Rattle.std.proofs.Common.{◌≡◌, ◌+◌, ◌<◌, ℕ, List, length, map, set, slice_index, sym, ap, ◌∙◌, subst, arith}
-use Rattle.std.proofs.Math.ListN.{length-set}
-use Rattle.object_pruning.specs.Gathered.{AreGathered}
-use Rattle.object_pruning.proofs.LivePicks.{gathered_start, gathered_skip, gathered_more}
+use Rattle.std.proofs.Common.{◌≡◌, ◌-◌, ◌<◌, ℕ, get_or, length, map, subst, ◌∙◌, arith, rules}
+use Rattle.std.proofs.lemmas.List.{get_or_default}
+use Rattle.sweep.proofs.PickedConditions.{pick_in}
+use Rattle.std.specs.Prelude.{slice_index}
+use Rattle.object_pruning.specs.Gathered.{GoesOn}
+use Rattle.geo_conditions.specs.Regions.{region_of}
+use Rattle.object_pruning.proofs.LivePicks.{goes_nowhere, goes_pick, goes_as, gathered_picks, IsBelow}
 use Rattle.object_pruning.proofs.gathering.gather_all.Goals as goal
-use Rattle.object_pruning.proofs.gathering.gather_all.Goals.{then-not-is_pick_spared+else-count-live, else-not-is_pick_spared}
 
 pub loop-k-init : goal.loop-k-init
 loop-k-init g c = record {
-  room = omega arith;
-  gathered = gathered_start (map g.I.Indexical.cond c.args.list.now) c.args.s.now c.args.o.0 c.args.place c.args.picks.now c.args.live.now;
+  goes = goes_nowhere g.row.K (map g.I.Indexical.cond c.args.list.now) c.args.s.now c.args.o.0 c.args.place (region_of c.args.region.now) (IsBelow c.args.picks.now 0) 0 c.args.live.now (omega arith) (λ i p. absurd (omega (arith, p.1)));
+  parts = c.requires.parts;
 }
 
 pub loop-k-preserved : goal.loop-k-preserved
 loop-k-preserved g c =
-    let cs = map g.I.Indexical.cond c.args.list.now in
-    let S = c.args.s.now in
-    let o = c.args.o.0 in
-    let s = c.args.place in
     let picks = c.args.picks.now in
     let k = c.loop-k.k in
-    let n = c.loop-k.count in
-    let live = c.loop-k.live in
-    let i = c.loop-k.invariant in
-    elim c.if-not-is_pick_spared.branch [
-      | then-not-is_pick_spared+else-count-live w ↦
-          let room : n < length live = omega (arith, i.room, w.if-count-live.false) in
-          let more : AreGathered cs S o s picks (k + 1) (n + 1) (set live n (slice_index picks k)) = gathered_more cs S o s picks k n live i.gathered c.loop-k-test.true room in
-          let long : length c.if-not-is_pick_spared.live ≡ length live = ap length w.live-is ∙ length-set live n (slice_index picks k) in
-          record {
-            room = omega (arith, room, long, w.count-is);
-            gathered = subst (λ (m : ℕ). AreGathered cs S o s picks (k + 1) m c.if-not-is_pick_spared.live) (sym w.count-is) (subst (λ (l : List ℕ). AreGathered cs S o s picks (k + 1) (n + 1) l) (sym w.live-is) more);
-          }
-      | else-not-is_pick_spared w ↦
-          let skip : AreGathered cs S o s picks (k + 1) n live = gathered_skip cs S o s picks k n live i.gathered (c.is_pick_spared.ensures w.if-not-is_pick_spared.false) in
-          record {
-            room = omega (arith, i.room, ap length w.live-is, w.count-is);
-            gathered = subst (λ (m : ℕ). AreGathered cs S o s picks (k + 1) m c.if-not-is_pick_spared.live) (sym w.count-is) (subst (λ (l : List ℕ). AreGathered cs S o s picks (k + 1) n l) (sym w.live-is) skip);
-          }
-    ]
+    record {
+      goes = goes_pick g.row.K (map g.I.Indexical.cond c.args.list.now) c.args.s.now c.args.o.0 c.args.place (region_of c.args.region.now) picks k 0 c.loop-k.count c.in_ok-count.count c.args.live.now c.loop-k.live c.gather_number.new.live c.loop-k-test.true c.loop-k.invariant.goes
+          c.in_ok-count.ensures.goes;
+      parts = c.in_ok-count.ensures.parts;
+    }
+
+pub returns-clause-gathered : goal.returns-clause-gathered
+returns-clause-gathered g c =
+    gathered_picks g.row.K (map g.I.Indexical.cond c.args.list.now) c.args.s.now c.args.o.0 c.args.place (region_of c.args.region.now) c.args.picks.now c.loop-k.count c.args.live.now c.loop-k.live
+    (goes_as g.row.K (map g.I.Indexical.cond c.args.list.now) c.args.s.now c.args.o.0 c.args.place (region_of c.args.region.now) (IsBelow c.args.picks.now c.loop-k.k) (IsBelow c.args.picks.now (length c.args.picks.now)) 0 c.loop-k.count c.args.live.now c.loop-k.live
+    (λ i p. (p.0, p.2, p.2, p.3))
+    (λ i q. (q.0, omega (arith, q.1, c.loop-k-test.false), q.2, q.3))
+    c.loop-k.invariant.goes)

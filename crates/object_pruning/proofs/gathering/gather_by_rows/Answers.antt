@@ -5,6 +5,7 @@ use Rattle.object_pruning.specs.declared.rows.Group.{Group}
 use Rattle.object_pruning.specs.Gathered.{GoesOn}
 use Rattle.object_pruning.specs.InRows.{HaveNumber, IsSomeGroup, row}
 use Rattle.object_pruning.proofs.LivePicks.{rows_some, gathered_rows}
+use Rattle.geo_conditions.specs.Regions.{region_of}
 use Rattle.object_pruning.proofs.gathering.gather_by_rows.Goals as goal
 
 pub gather_row-requires : goal.gather_row-requires
@@ -29,6 +30,6 @@ returns-clause-gathered g c =
     let n = c.in_ok-count.count in
     let mid = c.gather_row.new.live in
     let new = c.gather_row-2.new.live in
-    let a : GoesOn cs S o s (HaveNumber (row rows.rows.items 0)) 0 c.args.live.now n mid = subst (λ (gs : List Group). GoesOn cs S o s (HaveNumber gs) 0 c.args.live.now n mid) c.row.ensures c.in_ok-count.ensures in
+    let a : GoesOn g.row.K cs S o s (region_of c.args.region.now) (HaveNumber (row rows.rows.items 0)) 0 c.args.live.now n mid = subst (λ (gs : List Group). GoesOn g.row.K cs S o s (region_of c.args.region.now) (HaveNumber gs) 0 c.args.live.now n mid) c.row.ensures c.in_ok-count.ensures.goes in
     let same : c.row-2.result.now ≡ row rows.rows.items s = c.row-2.ensures ∙ ap (row rows.rows.items) c.from.ensures in
-    some_with c.gather_row-2.result (λ m. GoesOn cs S o s (HaveNumber c.row-2.result.now) n mid m new) _ (λ m b. gathered_rows cs S o c.requires.fits c.requires.object c.args.picks.now rows c.requires.rows s n m c.args.live.now mid new a (subst (λ (gs : List Group). GoesOn cs S o s (HaveNumber gs) n mid m new) same b)) c.gather_row-2.ensures
+    some_with c.gather_row-2.result (λ m. GoesOn g.row.K cs S o s (region_of c.args.region.now) (HaveNumber c.row-2.result.now) n mid m new) _ (λ m b. gathered_rows cs S o c.requires.fits c.requires.object c.args.picks.now rows c.requires.rows g.row.K s (region_of c.args.region.now) n m c.args.live.now mid new a (subst (λ (gs : List Group). GoesOn g.row.K cs S o s (region_of c.args.region.now) (HaveNumber gs) n mid m new) same b)) c.gather_row-2.ensures.goes

@@ -12,7 +12,7 @@ use Rattle.sweep.specs.Sweep.{refutes_pick}
 use Rattle.sweep.proofs.Bound.{IsCounted}
 use Rattle.sweep.proofs.PickedConditions.{RefutedIn}
 use Rattle.sweep.proofs.Progress.{remaining}
-use Rattle.sweep.proofs.first_point.sweep.Given as goal
+use Rattle.sweep.proofs.first_point.sweep_parts.Given as goal
 
 abbrev pub invariant-turns : goal.invariant-turns
 invariant-turns g l =

@@ -14,7 +14,7 @@ use Rattle.sweep.proofs.PickedConditions.{RefutedIn, forbidden, refuted_at_point
 use Rattle.sweep.proofs.Promises.{no_point, first_point, covered, before_out, before_sizes}
 use Rattle.sweep.proofs.RecordSteps.{IsOpen-start}
 use Rattle.sweep.proofs.Turns.{IsPlaced-first, not_done_first, has_placed, IsDone-before, IsSmallPoint-inside, remaining_turn}
-use Rattle.sweep.proofs.first_point.sweep.Goals as goal
+use Rattle.sweep.proofs.first_point.sweep_parts.Goals as goal
 
 pub returns-then-is_empty-clause-covered : goal.returns-then-is_empty-clause-covered
 returns-then-is_empty-clause-covered g c = λ kept.

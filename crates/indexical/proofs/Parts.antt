@@ -1,0 +1,35 @@
+-- A box of the region that a condition forbids, if there is one: what it forbids of the region, and its forbidden box at a point.
+use Rattle.std.specs.Prelude.{MatchOption, IfSome, IfNone}
+use Rattle.std.proofs.Common.{◌≡◌, ℕ, true, false, List, ℤ, Option, None, Some, refl, sym, ap, ◌∙◌, subst, inl, inr}
+use Rattle.std.proofs.lemmas.Bool.{cases_Bool}
+use Rattle.std.proofs.lemmas.Option.{same_Some}
+use Rattle.geo_base.specs.declared.kbox.KBox.{KBox}
+use Rattle.geo_base.specs.Boxes.{Has}
+use Rattle.geo_conditions.specs.declared.cond.Cond.{Cond}
+use Rattle.geo_conditions.specs.Reach.{State, Region, just, with_at}
+use Rattle.geo_conditions.specs.Conditions.{possible, IsRefuted}
+use Rattle.geo_conditions.specs.Regions.{region_of}
+use Rattle.indexical.specs.declared.forbidden.ForbiddenPart.{ForbiddenPart}
+use Rattle.indexical.specs.declared.forbidden.ForbiddenPart.TheVariants.{Nothing, Exactly}
+use Rattle.indexical.specs.Forbidden.{Forbids, IsForbiddenBox, IsForbiddenPart}
+
+-- the box is what the condition forbids of the region; where there is none it forbids nothing
+abbrev pub ForbidsPart : {K : ℕ} → Cond → State → ℕ → ℕ → Region → Option (KBox K) → Type 0
+ForbidsPart {K} cond S o s region None = (q : List ℤ) → Has K region.lo region.hi q → possible cond (with_at S o s (just q)) ≡ true
+ForbidsPart {K} cond S o s region (Some b) = IsForbiddenPart K cond S o s region (region_of b)
+
+module _ {K : ℕ} (cond : Cond) (S : State) (o s : ℕ) (region : Region) where
+  -- as an answer about the whole region
+  pub forbids_exactly : (x : Option (KBox K)) (r : ForbiddenPart K) → ForbidsPart cond S o s region x → MatchOption x (r ≡ Nothing) (λ b. r ≡ Exactly b) → Forbids K cond S o s region r
+  forbids_exactly None r h e = subst (Forbids K cond S o s region) (sym e) h
+  forbids_exactly (Some b) r h e = subst (Forbids K cond S o s region) (sym e) h
+
+  -- as an answer at a point of it
+  pub forbidden_at : (c : List ℤ) (x r : Option (KBox K)) → Has K region.lo region.hi c → ForbidsPart cond S o s region x
+      → IfSome r (λ b. (x ≡ Some b) × Has K b.lo.coordinates b.hi.coordinates c) → IfNone r (IfSome x (λ b. Has K b.lo.coordinates b.hi.coordinates c → ⊥))
+      → MatchOption r (possible cond (with_at S o s (just c)) ≡ true) (λ b. IsForbiddenBox K cond S o s c region (region_of b))
+  forbidden_at c x (Some b) inside h some none =
+      let w : IsForbiddenPart K cond S o s region (region_of b) = subst (ForbidsPart cond S o s region) some.0 h in
+      record { has = some.1; low = w.low; high = w.high; refuted = w.refuted; whole = λ d q has f. w.whole q has f }
+  forbidden_at c None None inside h some none = h c inside
+  forbidden_at c (Some b) None inside h some none = elim (cases_Bool (possible cond (with_at S o s (just c)))) [ inl e ↦ e | inr e ↦ absurd (none (h.whole c inside e)) ]

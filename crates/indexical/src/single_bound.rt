@@ -1,0 +1,74 @@
+//! The bound on one coordinate that a condition is.
+
+ghost use Rattle.std.specs.Prelude.{◌≡◌, ℕ, IfSome, None, Some};
+ghost use Rattle.geo_conditions.specs.declared.cond.Cond.{Cond};
+ghost use Rattle.indexical.specs.Bound.{SaysBound, bound_sum};
+
+use super::bound::BoundIndexical;
+use geo_conditions::{Cond, ObjId};
+
+/// The limit of the number of a bound.
+const LIMIT: i64 = 100_000_000_000_000;
+
+/// The bound that a form of one coordinate is, with factor 1 or -1, in one of the K dimensions.
+fn bound_of_form<const K: usize>(c: &Cond, asked: Option<u8>) -> Option<BoundIndexical<K>>
+    ensures form { IfSome result (λ b.
+        c.now ≡ Cond.Lin (bound_sum b.least b.object b.dimension b.constant)) }
+    ensures asked { IfSome result (λ b. b.asked ≡ asked) }
+{
+    match c {
+        Cond::Lin(f) => {
+            let terms = f.terms();
+            let constant = f.constant();
+            if terms.len() != 1 || constant < -LIMIT || LIMIT < constant {
+                return None;
+            }
+            let term = terms[0];
+            if K <= term.dimension || (term.factor != 1 && term.factor != -1) {
+                return None;
+            }
+            Some(BoundIndexical::new(
+                term.object,
+                asked,
+                term.dimension,
+                term.factor == -1,
+                constant,
+            ))
+        }
+        _ => None,
+    }
+}
+
+/// The bound of a form behind a literal that its object has another place than one.
+fn bound_at_place<const K: usize>(spared: &Cond, form: &Cond) -> Option<BoundIndexical<K>>
+    ensures form { IfSome result (λ b.
+        form.now ≡ Cond.Lin (bound_sum b.least b.object b.dimension b.constant)) }
+    ensures asked { IfSome result (λ b. (p : ℕ) × (b.asked ≡ Some p)
+        × (spared.now ≡ Cond.NotShape b.object p)) }
+{
+    match spared {
+        Cond::NotShape(o, place) => {
+            let b = bound_of_form(form, Some(*place))?;
+            if b.is_of(*o) { Some(b) } else { None }
+        }
+        _ => None,
+    }
+}
+
+/// The bound that the condition is, if it is one.
+pub fn bound_of<const K: usize>(c: &Cond) -> Option<BoundIndexical<K>>
+    ensures { IfSome result (λ b. SaysBound b c.now) }
+{
+    match c {
+        Cond::Lin(_) => bound_of_form(c, None),
+        Cond::AtLeast(n, parts) => {
+            let parts = parts.as_slice();
+            if *n == 1 && parts.len() == 2 {
+                bound_at_place(&parts[0], &parts[1])
+            } else {
+                None
+            }
+        }
+        _ => None,
+    }
+}

@@ -1,0 +1,60 @@
+-- A box that stands for a pick answers as its condition does.
+use Rattle.std.specs.Prelude.{IfSome, IfNone, slice_get, slice_index}
+use Rattle.std.proofs.Common.{◌≡◌, ℕ, ◌-◌, ◌<◌, ◌≤◌, true, List, length, ℤ, Option, Some, None, inl, inr, sym, ap, subst, arith}
+use Rattle.std.proofs.lemmas.Bool.{cases_Bool}
+use Rattle.std.proofs.lemmas.Option.{slice_get_cases}
+use Rattle.geo_base.specs.declared.kbox.KBox.{KBox}
+use Rattle.geo_base.specs.Boxes.{Has}
+use Rattle.geo_conditions.specs.declared.cond.Cond.{Cond}
+use Rattle.geo_conditions.specs.Reach.{State, Region, just, with_at}
+use Rattle.geo_conditions.specs.Conditions.{possible, IsRefuted}
+use Rattle.geo_conditions.specs.Regions.{region_of}
+use Rattle.indexical.specs.Disjunctions.{IsDisjunction}
+use Rattle.indexical.specs.Forbidden.{IsForbiddenPart}
+use Rattle.sweep.specs.Parts.{AreParts}
+use Rattle.sweep.specs.Picks.{ArePicks, PicksAt}
+use Rattle.sweep.proofs.PickedConditions.{pick_in}
+
+-- each pick names a condition
+some_pick : (cs : List Cond) (picks : List ℕ) (k : ℕ) → ArePicks (length cs) picks → k < length picks → (x : Cond) × PicksAt cs picks k x
+some_pick cs picks k are h =
+    let p = pick_in (length cs) picks k are h in
+    elim (slice_get_cases cs (slice_index picks k - 1)).1 [
+      | inl w ↦ (w.0, (h, w.2))
+      | inr w ↦ absurd (omega (arith, w.0, p.1))
+    ]
+
+module _ (K : ℕ) (cs : List Cond) (picks : List ℕ) (S : State) (o s : ℕ) (region : KBox K) (parts : List (Option (KBox K))) (are : AreParts K cs picks S o s (region_of region) parts)
+    (k : ℕ) (part : KBox K) (at : slice_get parts k ≡ Some (Some part)) (numbers : ArePicks (length cs) picks) (h : k < length picks) (r : Option (KBox K)) (c : List ℤ)
+    (some : IfSome r (λ b. (b ≡ part) × Has K b.lo.coordinates b.hi.coordinates c)) (none : IfNone r (Has K part.lo.coordinates part.hi.coordinates c → ⊥)) where
+  pub part_refuted : IfSome r (λ b. (x : Cond) × PicksAt cs picks k x × IsRefuted x (with_at S o s (region_of b)))
+  part_refuted = of r some
+    where
+      of : (r : Option (KBox K)) → IfSome r (λ b. (b ≡ part) × Has K b.lo.coordinates b.hi.coordinates c) → IfSome r (λ b. (x : Cond) × PicksAt cs picks k x × IsRefuted x (with_at S o s (region_of b)))
+      of None e = tt
+      of (Some b) e = let p = some_pick cs picks k numbers h in (p.0, p.1, subst (λ (z : KBox K). IsRefuted p.0 (with_at S o s (region_of z))) (sym e.0) (are k part p.0 at p.1).refuted)
+
+  pub part_within : IfSome r (λ b. Has K region.lo.coordinates region.hi.coordinates b.lo.coordinates × Has K region.lo.coordinates region.hi.coordinates b.hi.coordinates)
+  part_within = of r some
+    where
+      of : (r : Option (KBox K)) → IfSome r (λ b. (b ≡ part) × Has K b.lo.coordinates b.hi.coordinates c) → IfSome r (λ b. Has K region.lo.coordinates region.hi.coordinates b.lo.coordinates × Has K region.lo.coordinates region.hi.coordinates b.hi.coordinates)
+      of None e = tt
+      of (Some b) e =
+          let p = some_pick cs picks k numbers h in
+          let w = are k part p.0 at p.1 in
+          subst (λ (z : KBox K). Has K region.lo.coordinates region.hi.coordinates z.lo.coordinates × Has K region.lo.coordinates region.hi.coordinates z.hi.coordinates) (sym e.0) (w.low, w.high)
+
+  pub part_whole : IfSome r (λ b. (x : Cond) → PicksAt cs picks k x → IsDisjunction o x → (q : List ℤ) → Has K region.lo.coordinates region.hi.coordinates q → IsRefuted x (with_at S o s (just q)) → Has K b.lo.coordinates b.hi.coordinates q)
+  part_whole = of r some
+    where
+      of : (r : Option (KBox K)) → IfSome r (λ b. (b ≡ part) × Has K b.lo.coordinates b.hi.coordinates c)
+          → IfSome r (λ b. (x : Cond) → PicksAt cs picks k x → IsDisjunction o x → (q : List ℤ) → Has K region.lo.coordinates region.hi.coordinates q → IsRefuted x (with_at S o s (just q)) → Has K b.lo.coordinates b.hi.coordinates q)
+      of None e = tt
+      of (Some b) e = λ x p d q has f. subst (λ (z : KBox K). Has K z.lo.coordinates z.hi.coordinates q) (sym e.0) ((are k part x at p).whole q has f)
+
+  pub part_none : Has K region.lo.coordinates region.hi.coordinates c → IfNone r ((x : Cond) → PicksAt cs picks k x → possible x (with_at S o s (just c)) ≡ true)
+  part_none inside = of r none
+    where
+      of : (r : Option (KBox K)) → IfNone r (Has K part.lo.coordinates part.hi.coordinates c → ⊥) → IfNone r ((x : Cond) → PicksAt cs picks k x → possible x (with_at S o s (just c)) ≡ true)
+      of (Some b) e = tt
+      of None e = λ x p. elim (cases_Bool (possible x (with_at S o s (just c)))) [ inl y ↦ y | inr f ↦ absurd (e ((are k part x at p).whole c inside f)) ]
