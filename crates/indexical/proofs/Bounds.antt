@@ -1,6 +1,6 @@
 -- When a condition on one coordinate of an object is refuted.
 use Rattle.std.specs.Prelude.{IfSome, IfNone, ◌≢◌}
-use Rattle.std.proofs.Common.{◌≡◌, not, ℕ, ◌+◌, ◌-◌, ◌<◌, ◌≤◌, Bool, true, false, List, [], ◌∷◌, length, get_or, refl, sym, ap, ◌∙◌, subst, inl, inr, arith, ℤ, pos, negsuc, ◌+ℤ◌, ◌-ℤ◌, ◌*ℤ◌, ◌<ℤ◌, ◌≤ℤ◌, Option, None, Some}
+use Rattle.std.proofs.Common.{◌≡◌, not, ℕ, ◌<◌, Bool, true, false, List, [], ◌∷◌, length, get_or, refl, sym, ap, ◌∙◌, subst, inl, inr, arith, ℤ, pos, ◌+ℤ◌, ◌-ℤ◌, ◌<ℤ◌, ◌≤ℤ◌, Option, None, Some}
 use Rattle.std.proofs.lemmas.Int.{ints}
 use Rattle.std.specs.Option.{ForSome}
 use Rattle.std.specs.Int.{int_min, int_max}
@@ -9,20 +9,18 @@ use Rattle.std.proofs.lemmas.Bool.{cases_Bool, cases_eq, true≢false, false≢t
 use Rattle.std.proofs.lemmas.Option.{same_Some, none-some}
 use Rattle.geo_base.specs.Boxes.{IsUncrossed}
 use Rattle.geo_base.specs.declared.point.Point.{Point}
-use lib.Signed.{le_z}
 use Rattle.geo_base.specs.declared.kbox.KBox.{KBox}
 use Rattle.geo_base.specs.Boxes.{coordinate, Has}
 use Rattle.geo_conditions.specs.declared.cond.Cond.{Cond, Lin, NotShape, AtLeast}
 use Rattle.geo_conditions.specs.declared.cond.Conds.{Conds}
 use Rattle.geo_conditions.specs.declared.object.ObjId.{ObjId}
 use Rattle.geo_conditions.specs.Reach.{State, Reach, Region, reach, low, high, is_only, only, just, with_at}
-use Rattle.geo_conditions.specs.Conditions.{possible, least_value, IsRefuted}
+use Rattle.geo_conditions.specs.Conditions.{possible, least_value}
 use Rattle.geo_conditions.specs.Regions.{region_of}
 use Rattle.geo_conditions.proofs.Children.{many_possible}
 use Rattle.geo_conditions.proofs.Points.{reach_same}
 use Rattle.indexical.specs.declared.bound.BoundIndexical.{BoundIndexical}
 use Rattle.indexical.specs.Bound.{IsPast, MustPass, PassesAt, SaysBound, bound_sum}
-use Rattle.indexical.specs.Forbidden.{IsForbiddenPart}
 use Rattle.indexical.proofs.Children.{counted_false, counted_none, refuted_at_least, few_of_refuted}
 use Rattle.indexical.proofs.Overlapping.{above, not_above}
 use Rattle.indexical.proofs.Parts.{ForbidsPart}

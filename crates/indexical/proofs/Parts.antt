@@ -1,13 +1,12 @@
 -- A box of the region that a condition forbids, if there is one: what it forbids of the region, and its forbidden box at a point.
 use Rattle.std.specs.Prelude.{MatchOption, IfSome, IfNone}
-use Rattle.std.proofs.Common.{◌≡◌, ℕ, true, false, List, ℤ, Option, None, Some, refl, sym, ap, ◌∙◌, subst, inl, inr}
+use Rattle.std.proofs.Common.{◌≡◌, ℕ, true, List, ℤ, Option, None, Some, sym, subst, inl, inr}
 use Rattle.std.proofs.lemmas.Bool.{cases_Bool}
-use Rattle.std.proofs.lemmas.Option.{same_Some}
 use Rattle.geo_base.specs.declared.kbox.KBox.{KBox}
 use Rattle.geo_base.specs.Boxes.{Has}
 use Rattle.geo_conditions.specs.declared.cond.Cond.{Cond}
 use Rattle.geo_conditions.specs.Reach.{State, Region, just, with_at}
-use Rattle.geo_conditions.specs.Conditions.{possible, IsRefuted}
+use Rattle.geo_conditions.specs.Conditions.{possible}
 use Rattle.geo_conditions.specs.Regions.{region_of}
 use Rattle.indexical.specs.declared.forbidden.ForbiddenPart.{ForbiddenPart}
 use Rattle.indexical.specs.declared.forbidden.ForbiddenPart.TheVariants.{Nothing, Exactly}

@@ -5,8 +5,8 @@ ghost use Rattle.geo_conditions.specs.Conditions.{possible, FitsIn};
 ghost use Rattle.geo_conditions.specs.Regions.{region_of};
 ghost use Rattle.indexical.specs.Forbidden.{Forbids, IsForbiddenBox, IsOnShape};
 
-use super::form::forbid_form;
 use super::forbidden::ForbiddenPart;
+use super::form::forbid_form;
 use super::indexical::Indexical;
 use super::point::tree_possible_at;
 use super::spared::tree_spares;

@@ -224,7 +224,17 @@ fn gather_by_rows<const K: usize, I: Indexical<K>>(
         live.new parts.new }
 {
     let count = gather_row(s, o, place, region, list, rows.row(0), live, parts, 0)?;
-    gather_row(s, o, place, region, list, rows.row(usize::from(place)), live, parts, count)
+    gather_row(
+        s,
+        o,
+        place,
+        region,
+        list,
+        rows.row(usize::from(place)),
+        live,
+        parts,
+        count,
+    )
 }
 
 // Gathers by going over all picks.

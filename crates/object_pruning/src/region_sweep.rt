@@ -167,17 +167,7 @@ pub fn first_point_in<const K: usize, I: Indexical<K>, R: Recorder>(
     match gather(
         s, o, place, region, list, picks, rows, &mut live, &mut parts,
     ) {
-        Some(count) => sweep_region(
-            s,
-            o,
-            place,
-            region,
-            list,
-            &live[0..count],
-            &parts,
-            way,
-            rec,
-        ),
+        Some(count) => sweep_region(s, o, place, region, list, &live[0..count], &parts, way, rec),
         None => sweep_region(s, o, place, region, list, picks, &[], way, rec),
     }
 }

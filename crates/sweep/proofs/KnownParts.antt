@@ -1,16 +1,15 @@
 -- A box that stands for a pick answers as its condition does.
 use Rattle.std.specs.Prelude.{IfSome, IfNone, slice_get, slice_index}
-use Rattle.std.proofs.Common.{◌≡◌, ℕ, ◌-◌, ◌<◌, ◌≤◌, true, List, length, ℤ, Option, Some, None, inl, inr, sym, ap, subst, arith}
+use Rattle.std.proofs.Common.{◌≡◌, ℕ, ◌-◌, ◌<◌, true, List, length, ℤ, Option, Some, None, inl, inr, sym, subst, arith}
 use Rattle.std.proofs.lemmas.Bool.{cases_Bool}
 use Rattle.std.proofs.lemmas.Option.{slice_get_cases}
 use Rattle.geo_base.specs.declared.kbox.KBox.{KBox}
 use Rattle.geo_base.specs.Boxes.{Has}
 use Rattle.geo_conditions.specs.declared.cond.Cond.{Cond}
-use Rattle.geo_conditions.specs.Reach.{State, Region, just, with_at}
+use Rattle.geo_conditions.specs.Reach.{State, just, with_at}
 use Rattle.geo_conditions.specs.Conditions.{possible, IsRefuted}
 use Rattle.geo_conditions.specs.Regions.{region_of}
 use Rattle.indexical.specs.Disjunctions.{IsDisjunction}
-use Rattle.indexical.specs.Forbidden.{IsForbiddenPart}
 use Rattle.sweep.specs.Parts.{AreParts}
 use Rattle.sweep.specs.Picks.{ArePicks, PicksAt}
 use Rattle.sweep.proofs.PickedConditions.{pick_in}

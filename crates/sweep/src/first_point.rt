@@ -76,7 +76,9 @@ pub fn sweep_parts<const K: usize, I: Indexical<K>, R: Recorder, L: Ledger>(
     let mut from = 0;
     open_chains(way, first, &past, &c, &n, 0, &mut marks, rec)?;
     'turns: loop {
-        match ask(s, o, place, list, picks, parts, from, &c, region, way, steps) {
+        match ask(
+            s, o, place, list, picks, parts, from, &c, region, way, steps,
+        ) {
             None => {
                 let _coordinates = c.dimensions();
                 stop(way, region, &past, &c, &n, &marks, rec)?;

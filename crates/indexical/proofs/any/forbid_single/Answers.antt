@@ -1,4 +1,4 @@
-use Rattle.std.proofs.Common.{◌≡◌, ℕ, ◌<◌, length, sym, subst}
+use Rattle.std.proofs.Common.{ℕ, ◌<◌, length, sym, subst}
 use Rattle.geo_conditions.specs.Regions.{region_of}
 use Rattle.indexical.proofs.Bounds.{bound_forbids}
 use Rattle.indexical.proofs.Parts.{ForbidsPart, forbidden_at}

@@ -1,8 +1,8 @@
-use Rattle.std.proofs.Common.{ℕ, ℤ, ◌≡◌, ◌≢◌, ◌≤ℤ◌, ◌<◌, ◌∙◌, ap, subst, sym, below_more, arith}
+use Rattle.std.proofs.Common.{ℕ, ℤ, ◌≡◌, ◌≢◌, ◌≤ℤ◌, ◌∙◌, ap, subst, sym, below_more, arith}
 use mir.Val.{to_z, of_z}
 use mir.Syntax.{w64, w128}
 use Rattle.std.specs.Int.{int_min, int_max}
-use Rattle.std.proofs.lemmas.Int.{ints, clamps}
+use Rattle.std.proofs.lemmas.Int.{ints}
 use Rattle.geo_base.specs.Boxes.{coordinate}
 use Rattle.geo_base.proofs.Loops.{mapped_more, left_more}
 use Rattle.geo_conditions.specs.declared.object.ObjId.{ObjId}
@@ -28,10 +28,10 @@ returns-in-None-clause-none g c =
     let left = i.lo_left d (omega arith) in
     let right = i.hi_left d (omega arith) in
     λ q has k.
-        let there = has d h in
-        let clash = k d h in
-        c.in-None.ensures.none (coordinate q d) (omega (arith, ints, there.0, left, c.get-low.ensures)) (omega (arith, ints, there.1, right, c.get-high.ensures))
-            (omega (arith, ints, clash.0, hi, before, c.first_past-first.ensures)) (omega (arith, ints, clash.1, lo, after, c.last_before-last.ensures))
+    let there = has d h in
+    let clash = k d h in
+    c.in-None.ensures.none (coordinate q d) (omega (arith, ints, there.0, left, c.get-low.ensures)) (omega (arith, ints, there.1, right, c.get-high.ensures))
+    (omega (arith, ints, clash.0, hi, before, c.first_past-first.ensures)) (omega (arith, ints, clash.1, lo, after, c.last_before-last.ensures))
 
 pub loop-d-preserved : goal.loop-d-preserved
 loop-d-preserved g c =

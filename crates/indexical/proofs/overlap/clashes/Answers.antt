@@ -1,4 +1,4 @@
-use Rattle.std.proofs.Common.{◌≡◌, ◌∙◌, ap, sym, below_more, arith, ◌≤ℤ◌}
+use Rattle.std.proofs.Common.{◌∙◌, ap, sym, below_more, arith, ◌≤ℤ◌}
 use Rattle.std.proofs.lemmas.Bool.{true≢false, false≢true}
 use Rattle.std.proofs.lemmas.Int.{ints}
 use Rattle.geo_base.specs.Boxes.{coordinate}

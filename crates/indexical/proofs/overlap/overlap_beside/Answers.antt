@@ -1,10 +1,7 @@
-use Rattle.std.specs.Prelude.{MatchOption}
-use Rattle.std.proofs.Common.{◌≡◌, Option, None, Some, sym, ◌∙◌}
-use Rattle.geo_base.specs.declared.kbox.KBox.{KBox}
+use Rattle.std.proofs.Common.{sym, ◌∙◌}
 use Rattle.geo_conditions.specs.Reach.{just}
 use Rattle.geo_conditions.specs.Regions.{region_of}
 use Rattle.std.proofs.lemmas.Bool.{true≢false}
-use Rattle.indexical.specs.Apart.{NeedNotOverlap, IsOverlapPart}
 use Rattle.indexical.proofs.PutBoxes.{clashing_part, stands_out, shape_out}
 use Rattle.indexical.proofs.overlap.overlap_beside.Goals as goal
 

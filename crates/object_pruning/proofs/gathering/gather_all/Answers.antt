@@ -1,8 +1,4 @@
-use Rattle.std.proofs.Common.{◌≡◌, ◌-◌, ◌<◌, ℕ, get_or, length, map, subst, ◌∙◌, arith, rules}
-use Rattle.std.proofs.lemmas.List.{get_or_default}
-use Rattle.sweep.proofs.PickedConditions.{pick_in}
-use Rattle.std.specs.Prelude.{slice_index}
-use Rattle.object_pruning.specs.Gathered.{GoesOn}
+use Rattle.std.proofs.Common.{length, map, arith}
 use Rattle.geo_conditions.specs.Regions.{region_of}
 use Rattle.object_pruning.proofs.LivePicks.{goes_nowhere, goes_pick, goes_as, gathered_picks, IsBelow}
 use Rattle.object_pruning.proofs.gathering.gather_all.Goals as goal

@@ -1,15 +1,10 @@
-use Rattle.std.specs.Prelude.{IfSome, slice_get}
-use Rattle.std.proofs.Common.{◌≡◌, ◌+◌, ◌-◌, ◌<◌, ℕ, List, Option, None, Some, length, map, set, sym, ◌∙◌, subst, arith, rules}
-use Rattle.std.proofs.lemmas.Option.{same_Some}
+use Rattle.std.specs.Prelude.{slice_get}
+use Rattle.std.proofs.Common.{◌≡◌, ◌-◌, ℕ, None, Some, map, subst, rules}
 use Rattle.derivation.proofs.Leaves.{all_at}
-use Rattle.geo_base.specs.declared.kbox.KBox.{KBox}
-use Rattle.geo_conditions.specs.declared.cond.Cond.{Cond}
 use Rattle.geo_conditions.specs.Conditions.{FitsIn}
 use Rattle.geo_conditions.specs.Regions.{region_of}
-use Rattle.indexical.specs.declared.forbidden.ForbiddenPart.{ForbiddenPart}
 use Rattle.indexical.specs.declared.forbidden.ForbiddenPart.TheVariants.{Nothing, Exactly}
-use Rattle.indexical.specs.Forbidden.{Forbids}
-use Rattle.object_pruning.specs.Gathered.{GoesOn, HoldParts, IsNumberPart, IsNumberSpared}
+use Rattle.object_pruning.specs.Gathered.{IsNumberPart}
 use Rattle.object_pruning.proofs.LivePicks.{at_number, goes_past, goes_put, holds_put, named_forbids}
 use Rattle.object_pruning.proofs.gathering.gather_number.Goals as goal
 

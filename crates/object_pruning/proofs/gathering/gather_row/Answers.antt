@@ -13,8 +13,11 @@ gather_group-requires g c =
     search rules
 
 pub loop-k-preserved : goal.loop-k-preserved
-loop-k-preserved g c = record { parts = c.in_ok-gathered.ensures.parts; goes =
-    goes_group g.row.K (map g.I.Indexical.cond c.args.list.now) c.args.s.now c.args.o.0 c.args.place (region_of c.args.region.now) c.args.groups.now c.loop-k.k _ c.args.count c.loop-k.gathered c.in_ok-gathered.gathered c.args.live.now c.loop-k.live c.gather_group.new.live c.loop-k-test.true c.loop-k.invariant.goes c.in_ok-gathered.ensures.goes; }
+loop-k-preserved g c = record {
+  parts = c.in_ok-gathered.ensures.parts;
+  goes =
+      goes_group g.row.K (map g.I.Indexical.cond c.args.list.now) c.args.s.now c.args.o.0 c.args.place (region_of c.args.region.now) c.args.groups.now c.loop-k.k _ c.args.count c.loop-k.gathered c.in_ok-gathered.gathered c.args.live.now c.loop-k.live c.gather_group.new.live c.loop-k-test.true c.loop-k.invariant.goes c.in_ok-gathered.ensures.goes;
+}
 
 pub returns-clause-goes : goal.returns-clause-goes
 returns-clause-goes g c =

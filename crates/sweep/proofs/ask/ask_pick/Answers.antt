@@ -1,6 +1,4 @@
-use Rattle.std.proofs.Common.{◌≡◌, Option, Some, map, rules}
-use Rattle.std.specs.Prelude.{slice_get}
-use Rattle.geo_base.specs.declared.kbox.KBox.{KBox}
+use Rattle.std.proofs.Common.{map}
 use Rattle.sweep.proofs.KnownParts.{part_refuted, part_within, part_whole, part_none}
 use Rattle.sweep.proofs.PickedConditions.{mapped_picks}
 use Rattle.sweep.proofs.ask.ask_pick.Goals as goal

@@ -1,4 +1,4 @@
-use Rattle.std.proofs.Common.{◌≡◌, ◌-ℤ◌, pos, arith}
+use Rattle.std.proofs.Common.{arith}
 use Rattle.std.proofs.lemmas.Int.{ints}
 use Rattle.indexical.proofs.Bounds.{IsPart, below_part, above_part}
 use Rattle.indexical.proofs.bound.BoundIndexical.broken_part.Goals as goal
