@@ -5,10 +5,8 @@ ghost use Rattle.geo_conditions.specs.declared.cond.Cond.{Cond};
 ghost use Rattle.indexical.specs.Bound.{SaysBound, bound_sum};
 
 use super::bound::BoundIndexical;
+use super::two_boxes::LIMIT;
 use geo_conditions::{Cond, ObjId};
-
-/// The limit of the number of a bound.
-const LIMIT: i64 = 100_000_000_000_000;
 
 /// The bound that a form of one coordinate is, with factor 1 or -1, in one of the K dimensions.
 fn bound_of_form<const K: usize>(c: &Cond, asked: Option<u8>) -> Option<BoundIndexical<K>>

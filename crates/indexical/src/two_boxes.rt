@@ -15,8 +15,8 @@ use super::placed::PlacedBox;
 use geo_base::{MAX_DIMS, Point};
 use geo_conditions::{Cond, ObjId, Term};
 
-/// The limit of the numbers of a placed box.
-const LIMIT: i64 = 100_000_000_000_000;
+/// The limit of the numbers of a placed box, and of a bound.
+pub const LIMIT: i64 = 100_000_000_000_000;
 
 fn same_term(t: &Term, u: &Term) -> bool
     ensures { IsTrue result ↔ (t.now ≡ u.now) }
