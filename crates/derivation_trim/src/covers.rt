@@ -41,21 +41,21 @@ impl<'a, const K: usize> Swept<'a, K> {
         self.conditions.get((i - 1) as usize)
     }
 
-    // The condition of this number, to be tried on boxes of the object.
-    fn tried(&self, number: u32) -> Tried<K>
+    // The boxes of the object on which the condition of this number is refuted.
+    fn boxes_of(&self, i: u32) -> RefutedBoxes<K>
         requires { K ≤ MAX_DIMS }
     {
-        let boxes = match self.condition(number) {
+        match self.condition(i) {
             Some(c) if (self.object.0 as usize) < self.state.objects() => {
                 RefutedBoxes::of(c, self.state, self.object, self.place)
             }
             _ => RefutedBoxes::Never,
-        };
-        Tried { number, boxes }
+        }
     }
 
-    // Whether there is a condition of this number, and it is refuted with the object in the box.
-    fn asked(&self, i: u32, b: &KBox<K>) -> bool
+    // Asks whether there is a condition of this number, and it is refuted with the object in the
+    // box.
+    fn ask(&self, i: u32, b: &KBox<K>) -> bool
         requires { K ≤ MAX_DIMS }
     {
         match self.condition(i) {
@@ -73,7 +73,7 @@ impl<'a, const K: usize> Swept<'a, K> {
         match &tried.boxes {
             RefutedBoxes::Never => false,
             RefutedBoxes::Within(outer) => lies_within(b, outer),
-            RefutedBoxes::Asked => self.asked(tried.number, b),
+            RefutedBoxes::Asked => self.ask(tried.number, b),
         }
     }
 
@@ -193,7 +193,7 @@ impl<const K: usize> Coverer<K> {
     }
 
     // The condition of this number among those that are tried.
-    fn noted(&self, number: u32) -> Option<Tried<K>> {
+    fn find(&self, number: u32) -> Option<Tried<K>> {
         for tried in self.tried.as_slice() {
             if tried.number == number {
                 return Some(*tried);
@@ -209,8 +209,11 @@ impl<const K: usize> Coverer<K> {
         self.tried.clear();
         for e in cover {
             if let Event::By(i) = e {
-                if self.tried.len() < MOST_TRIED && self.noted(*i).is_none() {
-                    self.tried.push(swept.tried(*i))?;
+                if self.tried.len() < MOST_TRIED && self.find(*i).is_none() {
+                    self.tried.push(Tried {
+                        number: *i,
+                        boxes: swept.boxes_of(*i),
+                    })?;
                 }
             }
         }
@@ -229,14 +232,18 @@ impl<const K: usize> Coverer<K> {
         None
     }
 
-    // The farthest side at which the condition of the first leaf covers the first part.
-    fn widened(&self, swept: &Swept<K>, leaf: u32, b: &KBox<K>, side: Side) -> Side
+    // The farthest side at which the condition of this number is still refuted on the first part.
+    fn widest_of(&self, swept: &Swept<K>, number: u32, b: &KBox<K>, side: Side) -> Side
         requires { K ≤ MAX_DIMS }
     {
-        match self.noted(leaf) {
-            Some(tried) => swept.widest(&tried, b, side),
-            None => swept.widest(&swept.tried(leaf), b, side),
-        }
+        let tried = match self.find(number) {
+            Some(tried) => tried,
+            None => Tried {
+                number,
+                boxes: RefutedBoxes::Asked,
+            },
+        };
+        swept.widest(&tried, b, side)
     }
 
     // A cut of a box that has points. It says how many of the events are done with.
@@ -255,7 +262,7 @@ impl<const K: usize> Coverer<K> {
             return Ok(cover_len(cover));
         }
         let side = match cover.get(1) {
-            Some(Event::By(i)) => self.widened(swept, *i, b, side),
+            Some(Event::By(i)) => self.widest_of(swept, *i, b, side),
             _ => side,
         };
         let (first, second) = (near(b, side), far(b, side));

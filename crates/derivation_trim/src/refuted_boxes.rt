@@ -104,7 +104,7 @@ impl<'a, const K: usize> Narrowing<'a, K> {
     }
 
     // A form is refuted where its least value is more than 0.
-    fn form(&mut self, f: &Form) -> Option<Part>
+    fn take_form(&mut self, f: &Form) -> Option<Part>
         requires { K ≤ MAX_DIMS }
     {
         let mut least = f.constant();
@@ -129,7 +129,7 @@ impl<'a, const K: usize> Narrowing<'a, K> {
         requires { K ≤ MAX_DIMS }
     {
         match c {
-            Cond::Lin(f) => self.form(f).unwrap_or(Part::Asked),
+            Cond::Lin(f) => self.take_form(f).unwrap_or(Part::Asked),
             Cond::Shape(o, place) => literal(self.has(*o, *place)),
             Cond::NotShape(o, place) => literal(self.has_other(*o, *place)),
             Cond::AtLeast(1, children) => {
