@@ -7,6 +7,7 @@
 ghost use Rattle.std.specs.Prelude.{◌≤◌, length};
 
 use crate::reach::{far, near};
+use crate::refuted_boxes::{RefutedBoxes, lies_within};
 use derivation::{Event, Log, Recorder, Side};
 use geo_base::{KBox, MAX_DIMS};
 use geo_conditions::{Cond, ObjId, State, fits, refuted_at};
@@ -24,25 +25,61 @@ pub struct Swept<'a, const K: usize> {
     pub place: u8,
 }
 
+/// A condition that is tried on the parts of a cover.
+#[derive(Clone, Copy)]
+struct Tried<const K: usize> {
+    number: u32,
+    boxes: RefutedBoxes<K>,
+}
+
 impl<'a, const K: usize> Swept<'a, K> {
-    // Whether there is a condition of this number, and it is refuted with the object in the box.
-    fn is_refuted(&self, i: u32, b: &KBox<K>) -> bool
+    // The condition of this number, where there is one.
+    fn condition(&self, i: u32) -> Option<&'a Cond> {
+        if i == 0 {
+            return None;
+        }
+        self.conditions.get((i - 1) as usize)
+    }
+
+    // The boxes of the object on which the condition of this number is refuted.
+    fn boxes_of(&self, i: u32) -> RefutedBoxes<K>
         requires { K ≤ MAX_DIMS }
     {
-        if i == 0 || (self.object.0 as usize) >= self.state.objects() {
-            return false;
+        match self.condition(i) {
+            Some(c) if (self.object.0 as usize) < self.state.objects() => {
+                RefutedBoxes::of(c, self.state, self.object, self.place)
+            }
+            _ => RefutedBoxes::Never,
         }
-        match self.conditions.get((i - 1) as usize) {
-            Some(c) => {
+    }
+
+    // Asks whether there is a condition of this number, and it is refuted with the object in the
+    // box.
+    fn ask(&self, i: u32, b: &KBox<K>) -> bool
+        requires { K ≤ MAX_DIMS }
+    {
+        match self.condition(i) {
+            Some(c) if (self.object.0 as usize) < self.state.objects() => {
                 fits(c, self.state) && refuted_at(c, self.state, self.object, self.place, b)
             }
-            None => false,
+            _ => false,
+        }
+    }
+
+    // Whether the condition is refuted with the object in the box.
+    fn is_refuted(&self, tried: &Tried<K>, b: &KBox<K>) -> bool
+        requires { K ≤ MAX_DIMS }
+    {
+        match &tried.boxes {
+            RefutedBoxes::Never => false,
+            RefutedBoxes::Within(outer) => lies_within(b, outer),
+            RefutedBoxes::Asked => self.ask(tried.number, b),
         }
     }
 
     // A side as far from `side` towards `bad` as bisection finds one on which the condition is
     // refuted. It is taken to be refuted on `side`, and not up to `bad`.
-    fn farthest(&self, i: u32, b: &KBox<K>, side: Side, bad: i64) -> Side
+    fn farthest(&self, tried: &Tried<K>, b: &KBox<K>, side: Side, bad: i64) -> Side
         requires { K ≤ MAX_DIMS }
     {
         let mut good = side;
@@ -51,7 +88,7 @@ impl<'a, const K: usize> Swept<'a, K> {
             match between(good, bad) {
                 None => return good,
                 Some(middle) => {
-                    if self.is_refuted(i, &near(b, middle)) {
+                    if self.is_refuted(tried, &near(b, middle)) {
                         good = middle;
                     } else {
                         bad = number_of(middle);
@@ -63,12 +100,12 @@ impl<'a, const K: usize> Swept<'a, K> {
     }
 
     // The farthest side at which the condition is still refuted on the first part.
-    fn widest(&self, i: u32, b: &KBox<K>, side: Side) -> Side
+    fn widest(&self, tried: &Tried<K>, b: &KBox<K>, side: Side) -> Side
         requires { K ≤ MAX_DIMS }
     {
         match side {
-            Side::Upto(d, _) if d < K => self.farthest(i, b, side, b.hi().get(d)),
-            Side::From(d, _) if d < K => self.farthest(i, b, side, b.lo().get(d)),
+            Side::Upto(d, _) if d < K => self.farthest(tried, b, side, b.hi().get(d)),
+            Side::From(d, _) if d < K => self.farthest(tried, b, side, b.lo().get(d)),
             _ => side,
         }
     }
@@ -144,7 +181,7 @@ pub struct Coverer<const K: usize> {
     /// The boxes that are still to be covered, the next one last.
     boxes: Vec<KBox<K>>,
     /// Conditions that the cover names.
-    tried: Vec<u32>,
+    tried: Vec<Tried<K>>,
 }
 
 impl<const K: usize> Coverer<K> {
@@ -155,13 +192,28 @@ impl<const K: usize> Coverer<K> {
         }
     }
 
+    // The condition of this number among those that are tried.
+    fn find(&self, number: u32) -> Option<Tried<K>> {
+        for tried in self.tried.as_slice() {
+            if tried.number == number {
+                return Some(*tried);
+            }
+        }
+        None
+    }
+
     // Notes the first conditions that the cover names.
-    fn gather(&mut self, cover: &[Event]) -> Result<(), AllocError> {
+    fn gather(&mut self, swept: &Swept<K>, cover: &[Event]) -> Result<(), AllocError>
+        requires { K ≤ MAX_DIMS }
+    {
         self.tried.clear();
         for e in cover {
             if let Event::By(i) = e {
-                if self.tried.len() < MOST_TRIED && !self.tried.contains(i) {
-                    self.tried.push(*i)?;
+                if self.tried.len() < MOST_TRIED && self.find(*i).is_none() {
+                    self.tried.push(Tried {
+                        number: *i,
+                        boxes: swept.boxes_of(*i),
+                    })?;
                 }
             }
         }
@@ -172,12 +224,26 @@ impl<const K: usize> Coverer<K> {
     fn whole(&self, swept: &Swept<K>, b: &KBox<K>) -> Option<u32>
         requires { K ≤ MAX_DIMS }
     {
-        for i in self.tried.as_slice() {
-            if swept.is_refuted(*i, b) {
-                return Some(*i);
+        for tried in self.tried.as_slice() {
+            if swept.is_refuted(tried, b) {
+                return Some(tried.number);
             }
         }
         None
+    }
+
+    // The farthest side at which the condition of this number is still refuted on the first part.
+    fn widest_of(&self, swept: &Swept<K>, number: u32, b: &KBox<K>, side: Side) -> Side
+        requires { K ≤ MAX_DIMS }
+    {
+        let tried = match self.find(number) {
+            Some(tried) => tried,
+            None => Tried {
+                number,
+                boxes: RefutedBoxes::Asked,
+            },
+        };
+        swept.widest(&tried, b, side)
     }
 
     // A cut of a box that has points. It says how many of the events are done with.
@@ -196,7 +262,7 @@ impl<const K: usize> Coverer<K> {
             return Ok(cover_len(cover));
         }
         let side = match cover.get(1) {
-            Some(Event::By(i)) => swept.widest(*i, b, side),
+            Some(Event::By(i)) => self.widest_of(swept, *i, b, side),
             _ => side,
         };
         let (first, second) = (near(b, side), far(b, side));
@@ -241,7 +307,7 @@ impl<const K: usize> Coverer<K> {
     ) -> Result<(), AllocError>
         requires { K ≤ MAX_DIMS }
     {
-        self.gather(cover)?;
+        self.gather(swept, cover)?;
         self.boxes.clear();
         self.boxes.push(*b)?;
         let mut next: usize = 0;

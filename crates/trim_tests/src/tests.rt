@@ -33,12 +33,29 @@ fn less(alloc: Global, a: ObjId, b: ObjId) -> Result<Cond, AllocError>
     Ok(Cond::Lin(Form::new(alloc, &[(a, 0, 1), (b, 0, -1)], 1)?))
 }
 
-/// A is less than B, B is less than C, and what never holds.
+/// At least so many of these are true: A is less than B, and B is less than C.
+fn some_less(alloc: Global, least: i64) -> Result<Cond, AllocError> {
+    let mut parts = Conds::new(alloc);
+    parts.push(less(alloc, A, B)?)?;
+    parts.push(less(alloc, B, C)?)?;
+    Ok(Cond::AtLeast(least, parts))
+}
+
+/// Twice B is at most A and 4 more.
+fn half(alloc: Global) -> Result<Cond, AllocError> {
+    Ok(Cond::Lin(Form::new(alloc, &[(A, 0, -1), (B, 0, 2)], -4)?))
+}
+
+/// A is less than B, B is less than C, what never holds, one of the first two, both of them, and B
+/// is small.
 fn conditions(alloc: Global) -> Result<Vec<Cond>, AllocError> {
     let mut list = Vec::new(alloc);
     list.push(less(alloc, A, B)?)?;
     list.push(less(alloc, B, C)?)?;
     list.push(Cond::AtLeast(1, Conds::new(alloc)))?;
+    list.push(some_less(alloc, 1)?)?;
+    list.push(some_less(alloc, 2)?)?;
+    list.push(half(alloc)?)?;
     Ok(list)
 }
 
@@ -271,6 +288,74 @@ const ROWS: &[Row] = &[
             Event::CutFrom(0, 1),
             Event::By(2),
             Event::By(1),
+            Event::EndCovers,
+        ],
+    },
+    // one of two orders of B holds below 3 and above 5, and B is small up to 5
+    Row {
+        ranges: &[(5, 6), (3, 9), (0, 3)],
+        events: &[
+            Event::Gone(B),
+            Event::Cover(1),
+            Event::Cut(0, 3),
+            Event::By(4),
+            Event::Cut(0, 5),
+            Event::By(4),
+            Event::Cut(0, 7),
+            Event::By(6),
+            Event::By(6),
+            Event::EndCovers,
+        ],
+        wanted: &[
+            Event::Gone(B),
+            Event::Cover(1),
+            Event::Cut(0, 5),
+            Event::By(4),
+            Event::By(6),
+            Event::EndCovers,
+        ],
+    },
+    // the same from the other end
+    Row {
+        ranges: &[(5, 6), (3, 9), (0, 3)],
+        events: &[
+            Event::Gone(B),
+            Event::Cover(1),
+            Event::CutFrom(0, 8),
+            Event::By(6),
+            Event::CutFrom(0, 6),
+            Event::By(6),
+            Event::By(4),
+            Event::EndCovers,
+        ],
+        wanted: &[
+            Event::Gone(B),
+            Event::Cover(1),
+            Event::CutFrom(0, 6),
+            Event::By(6),
+            Event::By(4),
+            Event::EndCovers,
+        ],
+    },
+    // both orders of B do not hold up to 5, and from 3 on, but on the whole they may
+    Row {
+        ranges: &[(5, 6), (0, 9), (0, 3)],
+        events: &[
+            Event::Gone(B),
+            Event::Cover(1),
+            Event::Cut(0, 2),
+            Event::By(5),
+            Event::Cut(0, 6),
+            Event::By(5),
+            Event::By(5),
+            Event::EndCovers,
+        ],
+        wanted: &[
+            Event::Gone(B),
+            Event::Cover(1),
+            Event::Cut(0, 5),
+            Event::By(5),
+            Event::By(5),
             Event::EndCovers,
         ],
     },
