@@ -13,10 +13,7 @@ use Rattle.object_pruning.specs.declared.rows.Group.{Group}
 use Rattle.object_pruning.specs.declared.rows.Rows.{Rows}
 use Rattle.object_pruning.specs.InRows.{row, IsInGroup, HaveNumber, IsGroup, AreRows}
 use Rattle.fixpoint.specs.declared.links.Links.{Links}
-use Rattle.fixpoint.specs.declared.pairs.Pairs.{Pairs}
-use Rattle.fixpoint.specs.declared.pairs.Run.{Run}
-use Rattle.fixpoint.specs.Links.{AreLinks}
-use Rattle.fixpoint.specs.Pairs.{IsInRun, IsSomewhere, IsPair, ArePairs}
+use Rattle.fixpoint.specs.Links.{AreLinks, AreOthers}
 use Rattle.fixpoint.proofs.Stable.{stable, both}
 
 decide_eq : (a b : ℕ) → Decided (a ≡ b)
@@ -110,51 +107,10 @@ stable_rows cs o picks rows h = record {
   each = λ k b. stable _ (decide_row rows.rows.items (slice_index picks k)) (∥∥₁_map h (λ a. a.each k b));
 }
 
--- ---- pairs
-
-decide_at : (r : Run) (i : ℕ) → Decided (IsInRun r i)
-decide_at r i = both _ _ (decide_le r.first i) (elim (cases_lt i (r.first + r.count)) [ inl h ↦ inl h | inr h ↦ inr (λ k. absurd (omega (arith, h, k))) ])
-
-somewhere_none : (i : ℕ) → IsSomewhere [] i → ⊥
-somewhere_none i h = at h.0 h.1.0 h.1.1
-  where
-    at : (u : ℕ) (r : Run) → slice_get [] u ≡ Some r → ⊥
-    at u r e = cc
-
-somewhere_either : (r : Run) (runs : List Run) (i : ℕ) → IsSomewhere (r ∷ runs) i → IsInRun r i ⊎ IsSomewhere runs i
-somewhere_either r runs i h = at h.0 h.1.0 h.1.1 h.1.2
-  where
-    at : (u : ℕ) (x : Run) → slice_get (r ∷ runs) u ≡ Some x → IsInRun x i → IsInRun r i ⊎ IsSomewhere runs i
-    at zero x e b = inl (subst (λ (y : Run). IsInRun y i) (sym (same_Some _ _ e)) b)
-    at (suc u) x e b = inr (u, (x, e, b))
-
-decide_somewhere : (runs : List Run) (i : ℕ) → Decided (IsSomewhere runs i)
-decide_somewhere [] i = inr (somewhere_none i)
-decide_somewhere (r ∷ runs) i = elim (decide_at r i) [
-  | inl b ↦ inl (0, (r, refl, b))
-  | inr n ↦ elim (decide_somewhere runs i) [
-    | inl h ↦ inl (suc h.0, h.1)
-    | inr m ↦ inr (λ h. elim (somewhere_either r runs i h) [ inl b ↦ n b | inr k ↦ m k ])
-  ]
-]
-
-stable_pair : (c : Cond) (o u : ℕ) → ∥ IsPair c o u ∥₁ → IsPair c o u
-stable_pair c o u h = record {
-  apart = λ e. ∥∥₁_elim h (hlevel props) (λ b. b.apart e);
-  named = λ v n. stable _ (either _ _ (decide_eq v o) (decide_eq v u)) (∥∥₁_map h (λ b. b.named v n));
-}
-
-stable_pairs : (cs : List Cond) (o : ℕ) (picks : List ℕ) (n : ℕ) (pairs : Pairs) → ∥ ArePairs cs o picks n pairs ∥₁ → ArePairs cs o picks n pairs
-stable_pairs cs o picks n pairs h = record {
-  objects = ∥∥₁_elim h (hlevel props) (λ a. a.objects);
-  picks = record {
-    named = record {
-      numbers = λ u i b. ∥∥₁_elim h (hlevel props) (λ a. a.picks.named.numbers u i b);
-      pairs = λ u i x b e. stable_pair x o u (∥∥₁_map h (λ a. a.picks.named.pairs u i x b e));
-      others = λ k d b. ∥∥₁_elim h (hlevel props) (λ a. a.picks.named.others k d b);
-    };
-    each = λ k b. stable _ (either _ _ (decide_somewhere pairs.runs.items (slice_index picks k)) (decide_contains pairs.others.items (slice_index picks k))) (∥∥₁_map h (λ a. a.picks.each k b));
-  };
+stable_others : (rows : Rows) (gs : List Group) → ∥ AreOthers rows gs ∥₁ → AreOthers rows gs
+stable_others rows gs h = record {
+  listed = λ i w. stable _ (decide_row rows.rows.items i) (∥∥₁_map h (λ a. a.listed i w));
+  each = λ r g i w e b. stable _ (decide_have gs i) (∥∥₁_map h (λ a. a.each r g i w e b));
 }
 
 -- the links can be taken out
@@ -169,8 +125,8 @@ links_taken cs n l h = record {
     objects = ∥∥₁_elim h (hlevel props) (λ a. a.rows.objects);
     each = λ o d b. stable_rows cs o _ (get_or l.rows.items o d) (∥∥₁_map h (λ a. a.rows.each o d b));
   };
-  pairs = record {
-    objects = ∥∥₁_elim h (hlevel props) (λ a. a.pairs.objects);
-    each = λ o d b. stable_pairs cs o _ n (get_or l.pairs.items o d) (∥∥₁_map h (λ a. a.pairs.each o d b));
+  others = record {
+    objects = ∥∥₁_elim h (hlevel props) (λ a. a.others.objects);
+    each = λ o d b. stable_others (get_or l.rows.items o d) (row l.others.items o) (∥∥₁_map h (λ a. a.others.each o d b));
   };
 }

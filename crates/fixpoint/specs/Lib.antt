@@ -1,5 +1,4 @@
 pub mod Near
-pub mod Pairs
 pub mod Links
 pub mod Marks
 pub mod Queue

@@ -5,7 +5,6 @@ mod apart;
 mod differences;
 mod kept;
 mod links;
-mod pairs;
 mod propagation;
 mod queue;
 mod waking;

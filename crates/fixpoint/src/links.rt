@@ -1,13 +1,12 @@
 //! Which objects the conditions name, and which conditions name an object.
 
-ghost use Rattle.std.specs.Prelude.{◌≡◌, ℕ, ◌<◌, ◌≤◌, [], length, map, IfOk};
+ghost use Rattle.std.specs.Prelude.{◌≡◌, ℕ, ◌<◌, ◌≤◌, [], length, map, IfOk, OnOk};
 ghost use Rattle.sweep.specs.Picks.{ArePicks};
-ghost use Rattle.fixpoint.specs.Links.{AreLinks, HavePairs, HaveRows, NamedBy, Numbers, row};
+ghost use Rattle.fixpoint.specs.Links.{AreLinks, AreOthers, HasGroup, HaveOthers, HaveRows, NamedBy, Numbers, PutsOthers, row};
 
-use super::pairs::{Pairs, pairs_of};
 use geo_conditions::{MAX_OBJECTS, ObjId};
 use indexical::AnyIndexical;
-use object_pruning::{Rows, rows_of};
+use object_pruning::{Group, Rows, rows_of};
 use std::alloc::{AllocError, Global};
 
 /// The links between conditions and objects. The numbers of the conditions count from 1.
@@ -21,8 +20,8 @@ pub struct Links {
     pub bare: Vec<u32>,
     /// For each object its numbers in rows, by the places that the conditions ask for.
     pub rows: Vec<Rows>,
-    /// For each object its numbers by the other objects that the conditions name.
-    pub pairs: Vec<Pairs>,
+    /// For each object the groups of its rows that name no one other object.
+    pub others: Vec<Vec<Group>>,
 }
 
 // The objects that the condition names. Each gets the number of the condition.
@@ -79,25 +78,49 @@ fn all_rows<const K: usize>(
     Ok(rows)
 }
 
-// The pairs of each object, by its numbers.
-fn all_pairs<const K: usize>(
-    alloc: Global,
-    list: &[AnyIndexical<K>],
-    picks: &[Vec<u32>],
-) -> Result<Vec<Pairs>, AllocError>
-    requires objects { length picks.now ≤ MAX_OBJECTS }
-    requires picks { (o : ℕ) → o < length picks.now
-        → ArePicks (length list.now) (row picks.now o) }
-    ensures { IfOk result (λ v. HavePairs (map (λ x. x.cond) list.now) picks.now
-        (length picks.now) (length picks.now) v.items) }
+// Puts the group behind the others, where it names no one other object.
+fn put_other(group: &Group, others: &mut Vec<Group>) -> Result<(), AllocError>
+    ensures { OnOk result (PutsOthers (λ g. g ≡ group.now) others.old.items others.new.items) }
 {
-    let objects = picks.len();
-    let mut pairs = Vec::new(alloc);
-    for o in 0..objects {
-        let own = pairs_of(alloc, list, &picks[o], ObjId(o as u16), objects)?;
-        pairs.push(own)?;
+    if let Some(_) = group.other {
+        return Ok(());
     }
-    Ok(pairs)
+    others.push(*group)?;
+    Ok(())
+}
+
+// The same for each group of a row.
+fn put_others(groups: &[Group], others: &mut Vec<Group>) -> Result<(), AllocError>
+    ensures { OnOk result
+        (PutsOthers (HasGroup groups.now) others.old.items others.new.items) }
+{
+    for k in 0..groups.len() {
+        put_other(&groups[k], others)?;
+    }
+    Ok(())
+}
+
+// The groups of the rows that name no one other object.
+fn others_of(alloc: Global, rows: &Rows) -> Result<Vec<Group>, AllocError>
+    ensures { IfOk result (λ v. AreOthers rows.now v.items) }
+{
+    let mut others = Vec::new(alloc);
+    for r in 0..rows.rows.len() {
+        put_others(rows.row(r), &mut others)?;
+    }
+    Ok(others)
+}
+
+// The same for each object.
+fn all_others(alloc: Global, rows: &[Rows]) -> Result<Vec<Vec<Group>>, AllocError>
+    ensures { IfOk result (λ v. HaveOthers rows.now (length rows.now) v.items) }
+{
+    let mut others = Vec::new(alloc);
+    for o in 0..rows.len() {
+        let own = others_of(alloc, &rows[o])?;
+        others.push(own)?;
+    }
+    Ok(others)
 }
 
 /// The links between the conditions and that number of objects. The answer is an error where memory
@@ -123,12 +146,12 @@ pub fn links_of<const K: usize>(
         named.push(those)?;
     }
     let rows = all_rows(alloc, list, &picks)?;
-    let pairs = all_pairs(alloc, list, &picks)?;
+    let others = all_others(alloc, &rows)?;
     Ok(Links {
         named,
         picks,
         bare,
         rows,
-        pairs,
+        others,
     })
 }
