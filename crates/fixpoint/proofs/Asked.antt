@@ -1,6 +1,6 @@
 -- Kept points are asked again by the conditions of marked objects.
-use Rattle.std.proofs.Common.{◌≡◌, ◌≢◌, ◌⊎◌, ℕ, ◌+◌, ◌-◌, ◌<◌, ◌≤◌, Bool, true, false, List, length, set, get_or, slice_index, refl, sym, ap, ◌∙◌, subst, inl, inr, arith, Some, None, Option}
-use Rattle.std.specs.Prelude.{slice_get, MatchOption}
+use Rattle.std.proofs.Common.{◌≡◌, ◌≢◌, ◌⊎◌, ℕ, ◌+◌, ◌-◌, ◌<◌, ◌≤◌, Bool, true, false, List, length, set, get_or, slice_index, refl, sym, ap, ◌∙◌, subst, inl, inr, arith, Some, None, Option, Vec, Global, []}
+use Rattle.std.specs.Prelude.{slice_get, IfSome, MatchOption}
 use Rattle.std.proofs.Math.ListN.{length-set}
 use Rattle.std.proofs.lemmas.Bool.{cases_eq, cases_lt}
 use Rattle.std.proofs.lemmas.List.{get_or_past, get_or-set_same, get_or-set_other}
@@ -9,22 +9,24 @@ use Rattle.geo_conditions.specs.declared.cond.Cond.{Cond}
 use Rattle.geo_conditions.specs.declared.object.ObjId.{ObjId}
 use Rattle.geo_conditions.specs.Conditions.{possible, AllFit}
 use Rattle.geo_conditions.specs.Reach.{State, is_only, reach}
+use Rattle.indexical.specs.Faces.{IsBeside}
 use Rattle.sweep.proofs.PickedConditions.{pick_in}
 use Rattle.object_pruning.specs.declared.kept.Placed.{Placed}
 use Rattle.object_pruning.specs.declared.rows.Group.{Group}
-use Rattle.object_pruning.specs.declared.rows.Rows.{Rows}
 use Rattle.object_pruning.specs.Gathered.{AllPossible}
-use Rattle.object_pruning.specs.InRows.{HaveNumber, IsInGroup, IsSomeGroup, facing_of}
+use Rattle.object_pruning.specs.InRows.{IsInGroup}
 use Rattle.object_pruning.specs.Kept.{placed}
-use Rattle.object_pruning.proofs.LivePicks.{HaveBelow, fit, group_number, group_spared}
+use Rattle.object_pruning.proofs.LivePicks.{fit, group_number, group_spared}
+use Rattle.object_pruning.proofs.InRows.{row_past}
 use Rattle.fixpoint.specs.declared.links.Links.{Links}
-use Rattle.fixpoint.specs.Links.{AreLinks, HaveTold, IsGroupOf, IsTold, IsToldIn, row}
+use Rattle.fixpoint.specs.Links.{AreLinks, row}
+use Rattle.fixpoint.specs.declared.pairs.Pairs.{Pairs}
+use Rattle.fixpoint.specs.declared.pairs.RowGroup.{RowGroup}
+use Rattle.fixpoint.specs.Pairs.{HaveBeside, HaveIn, IsGroupOf, IsOther}
 use Rattle.fixpoint.specs.Kept.{AsksSlot, RetriesMarked, RetriesThose, StandBut, Stand}
 use Rattle.fixpoint.specs.Marks.{NamesUnmarked}
 use Rattle.fixpoint.specs.Near.{IsPair}
-use Rattle.fixpoint.proofs.Names.{told}
 use Rattle.fixpoint.proofs.Linking.{each_named, nth}
-use Rattle.fixpoint.proofs.Others.{nothing_past}
 
 -- neither of the two objects is marked
 pair_unmarked : (c : Cond) (o u : ℕ) (marks : List Bool) → IsPair c o u → get_or marks o false ≡ false → get_or marks u false ≡ false → NamesUnmarked marks c
@@ -33,26 +35,28 @@ pair_unmarked c o u marks b own other v n = elim (b.named v n) [
   | inr e ↦ subst (λ (w : ℕ). get_or marks w false ≡ false) (sym e) other
 ]
 
--- a group names one other object, or not
-by_other : (u : Option ObjId) → (u ≡ None) ⊎ (u ≢ None)
-by_other None = inl refl
-by_other (Some v) = inr (λ e. cc)
+-- the other object of a group is the other one of its conditions
+pair_of : (c : Cond) (o p u : ℕ) (x : Option ObjId) → MatchOption x ⊥ (λ v. v.0 ≡ u) → IfSome x (λ w. IsBeside c o w.0 p) → IsPair c o u
+pair_of c o p u None m f = absurd m
+pair_of c o p u (Some v) m f = subst (IsPair c o) m (record { apart = f.apart; named = f.named })
 
--- the numbers of the others are those of conditions
-pub others_within : (cs : List Cond) (S : State) (o : ℕ) (l : Links) (d : Rows) → AreLinks cs (length S) l → AllFit cs S → o < length S → (i : ℕ) → HaveNumber (row l.others.items o) i → (0 < i) × (i - 1 < length cs)
-others_within cs S o l d a fits h i w =
-    let at = (a.others.each o d h).listed i w in
-    let group = (a.rows.each o d h).groups at.0 at.1.0 at.1.1 at.1.2 in
-    let some : IsSomeGroup cs o at.1.1 = (row l.picks.items o, at.0, (a.picks o h).within, group) in
-    group_number cs S o fits h at.1.1 some i at.1.3
+-- the numbers of the groups are those of conditions
+pub group_within : (cs : List Cond) (S : State) (o r : ℕ) (g : Group) → AllFit cs S → o < length S → IsGroupOf cs o r g → (i : ℕ) → IsInGroup g i → (0 < i) × (i - 1 < length cs)
+group_within cs S o r g fits h a = group_number cs S o fits h g (a.0, r, a.1, a.2)
 
--- of the first n groups some one that names one other object has the number
-abbrev pub ToldBelow : List Group → ℕ → ℕ → Type 0
-ToldBelow gs n i = (k : ℕ) × (g : Group) × (k < n) × (slice_get gs k ≡ Some g) × IsToldIn g i
+-- of the first n groups some one has the number
+abbrev pub InBelow : List RowGroup → ℕ → ℕ → Type 0
+InBelow bs n i = (k : ℕ) × (b : RowGroup) × (k < n) × (slice_get bs k ≡ Some b) × IsInGroup b.group i
 
--- one of the first n rows has it
-abbrev pub RowsBelow : Rows → ℕ → ℕ → Type 0
-RowsBelow rows n i = (r : ℕ) × (r < n) × HaveTold (row rows.rows.items r) i
+-- the groups of one of the first n objects have it
+abbrev pub BesideBelow : List (Vec RowGroup Global) → ℕ → ℕ → Type 0
+BesideBelow lists n i = (u : ℕ) × (u < n) × HaveIn (row lists u) i
+
+has_past : (lists : List (Vec RowGroup Global)) (u i : ℕ) → length lists ≤ u → HaveIn (row lists u) i → ⊥
+has_past lists u i h w = none w.0 w.1 (subst (λ (bs : List RowGroup). slice_get bs w.0 ≡ Some w.1) (row_past lists u h) w.2)
+  where
+    none : (k : ℕ) (b : RowGroup) → slice_get [] k ≡ Some b → ⊥
+    none k b e = cc
 
 module _ {K : ℕ} (cs : List Cond) (S : State) (o : ℕ) where
   -- ---- the slots
@@ -95,11 +99,14 @@ module _ {K : ℕ} (cs : List Cond) (S : State) (o : ℕ) (marks : List Bool) wh
         | inr l ↦ let past = get_or_past new i None (omega (arith, l, h)) in absurd (cc)
       ]
 
-  -- of a group of an object that is not marked
-  pub those_unmarked : (r : ℕ) (g : Group) (u : ObjId) (slots : List (Option (Placed K))) → IsGroupOf cs o r g → g.other ≡ Some u → get_or marks o false ≡ false → get_or marks u.0 false ≡ false → RetriesThose cs S o marks (IsInGroup g) slots slots
-  those_unmarked r g u slots a is own other = record {
+  -- of the groups of an object that is not marked
+  pub those_unmarked : (bs : List RowGroup) (u : ℕ) (slots : List (Option (Placed K))) → ((k : ℕ) (b : RowGroup) → slice_get bs k ≡ Some b → IsGroupOf cs o b.row b.group × IsOther b.group u) → get_or marks o false ≡ false → get_or marks u false ≡ false → RetriesThose cs S o marks (HaveIn bs) slots slots
+  those_unmarked bs u slots a own other = record {
     stay = λ i q e. e;
-    tried = λ i q e k x b at. inl (pair_unmarked x o u.0 marks (told x o (facing_of r g) u is (a.2.faces k x b at)) own other);
+    tried = λ i q e k x w at.
+        let b = a w.0 w.1 w.2 in
+        let g = w.1.group in
+        inl (pair_unmarked x o u marks (pair_of x o g.other_place u g.other b.1 (b.0.2.faces k x w.3 at).other) own other);
   }
 
   -- of a group that cannot be in the way
@@ -108,10 +115,6 @@ module _ {K : ℕ} (cs : List Cond) (S : State) (o : ℕ) (marks : List Bool) wh
     stay = λ i q e. e;
     tried = λ i q e k x b at. inr (group_spared cs S o fits here q.place g (a.0, r, a.1, a.2) m k b x at q.point.coordinates);
   }
-
-  -- of a group that names no one other object
-  pub those_untold : (g : Group) (slots : List (Option (Placed K))) → g.other ≡ None → RetriesThose cs S o marks (IsToldIn g) slots slots
-  those_untold g slots none = those_none (IsToldIn g) slots (λ i p. p.0 none)
 
   pub those_as : (P Q : ℕ → Type 0) (old new : List (Option (Placed K))) → ((i : ℕ) → Q i → P i) → RetriesThose cs S o marks P old new → RetriesThose cs S o marks Q old new
   those_as P Q old new back a = record { stay = a.stay; tried = λ i q e k x p. a.tried i q e k x (back k p) }
@@ -131,59 +134,41 @@ module _ {K : ℕ} (cs : List Cond) (S : State) (o : ℕ) (marks : List Bool) wh
   }
 
   -- of the groups, one after another
-  pub those_group : (gs : List Group) (n : ℕ) (d : Group) (old mid new : List (Option (Placed K))) → n < length gs → RetriesThose cs S o marks (HaveBelow gs n) old mid → RetriesThose cs S o marks (IsInGroup (get_or gs n d)) mid new → RetriesThose cs S o marks (HaveBelow gs (n + 1)) old new
-  those_group gs n d old mid new h =
-      those_both (HaveBelow gs n) (IsInGroup (get_or gs n d)) (HaveBelow gs (n + 1)) old mid new (λ i r. elim (cases_eq r.0 n) [
-        | inl e ↦ inr (subst (λ (x : Group). IsInGroup x i) (same_Some _ _ (sym r.3 ∙ ap (slice_get gs) e ∙ slice_get-get_or gs n d h)) r.4)
+  pub those_group : (bs : List RowGroup) (n : ℕ) (d : RowGroup) (old mid new : List (Option (Placed K))) → n < length bs → RetriesThose cs S o marks (InBelow bs n) old mid → RetriesThose cs S o marks (IsInGroup (get_or bs n d).group) mid new → RetriesThose cs S o marks (InBelow bs (n + 1)) old new
+  those_group bs n d old mid new h =
+      those_both (InBelow bs n) (IsInGroup (get_or bs n d).group) (InBelow bs (n + 1)) old mid new (λ i r. elim (cases_eq r.0 n) [
+        | inl e ↦ inr (subst (λ (x : RowGroup). IsInGroup x.group i) (same_Some _ _ (sym r.3 ∙ ap (slice_get bs) e ∙ slice_get-get_or bs n d h)) r.4)
         | inr ne ↦ inl (r.0, r.1, omega (arith, r.2, ne), r.3, r.4)
       ])
 
-  pub those_groups : (gs : List Group) (n : ℕ) (old new : List (Option (Placed K))) → length gs ≤ n → RetriesThose cs S o marks (HaveBelow gs n) old new → RetriesThose cs S o marks (HaveNumber gs) old new
-  those_groups gs n old new h = those_as (HaveBelow gs n) (HaveNumber gs) old new (λ i w. (w.0, w.1, omega (arith, h, slice_get_within gs w.0 w.1 w.2), w.2, w.3))
+  pub those_groups : (bs : List RowGroup) (n : ℕ) (old new : List (Option (Placed K))) → length bs ≤ n → RetriesThose cs S o marks (InBelow bs n) old new → RetriesThose cs S o marks (HaveIn bs) old new
+  those_groups bs n old new h = those_as (InBelow bs n) (HaveIn bs) old new (λ i w. (w.0, w.1, omega (arith, h, slice_get_within bs w.0 w.1 w.2), w.2, w.3))
 
-  -- of the groups that name one other object
-  pub those_told : (gs : List Group) (n : ℕ) (d : Group) (old mid new : List (Option (Placed K))) → n < length gs → RetriesThose cs S o marks (ToldBelow gs n) old mid → RetriesThose cs S o marks (IsToldIn (get_or gs n d)) mid new → RetriesThose cs S o marks (ToldBelow gs (n + 1)) old new
-  those_told gs n d old mid new h =
-      those_both (ToldBelow gs n) (IsToldIn (get_or gs n d)) (ToldBelow gs (n + 1)) old mid new (λ i r. elim (cases_eq r.0 n) [
-        | inl e ↦ inr (subst (λ (x : Group). IsToldIn x i) (same_Some _ _ (sym r.3 ∙ ap (slice_get gs) e ∙ slice_get-get_or gs n d h)) r.4)
-        | inr ne ↦ inl (r.0, r.1, omega (arith, r.2, ne), r.3, r.4)
-      ])
-
-  pub all_told : (gs : List Group) (n : ℕ) (old new : List (Option (Placed K))) → length gs ≤ n → RetriesThose cs S o marks (ToldBelow gs n) old new → RetriesThose cs S o marks (HaveTold gs) old new
-  all_told gs n old new h = those_as (ToldBelow gs n) (HaveTold gs) old new (λ i w. (w.0, w.1, omega (arith, h, slice_get_within gs w.0 w.1 w.2), w.2, w.3))
-
-  -- of the rows
-  pub those_row : (rows : Rows) (n : ℕ) (old mid new : List (Option (Placed K))) → RetriesThose cs S o marks (RowsBelow rows n) old mid → RetriesThose cs S o marks (HaveTold (row rows.rows.items n)) mid new → RetriesThose cs S o marks (RowsBelow rows (n + 1)) old new
-  those_row rows n old mid new =
-      those_both (RowsBelow rows n) (HaveTold (row rows.rows.items n)) (RowsBelow rows (n + 1)) old mid new (λ i w. elim (cases_eq w.0 n) [
-        | inl e ↦ inr (subst (λ (r : ℕ). HaveTold (row rows.rows.items r) i) e w.2)
+  -- of the objects
+  pub those_beside : (lists : List (Vec RowGroup Global)) (n : ℕ) (old mid new : List (Option (Placed K))) → RetriesThose cs S o marks (BesideBelow lists n) old mid → RetriesThose cs S o marks (HaveIn (row lists n)) mid new → RetriesThose cs S o marks (BesideBelow lists (n + 1)) old new
+  those_beside lists n old mid new =
+      those_both (BesideBelow lists n) (HaveIn (row lists n)) (BesideBelow lists (n + 1)) old mid new (λ i w. elim (cases_eq w.0 n) [
+        | inl e ↦ inr (subst (λ (u : ℕ). HaveIn (row lists u) i) e w.2)
         | inr ne ↦ inl (w.0, omega (arith, w.1, ne), w.2)
       ])
 
-  pub those_rows : (rows : Rows) (n : ℕ) (old new : List (Option (Placed K))) → length rows.rows.items ≤ n → RetriesThose cs S o marks (RowsBelow rows n) old new → RetriesThose cs S o marks (IsTold rows) old new
-  those_rows rows n old new h = those_as (RowsBelow rows n) (IsTold rows) old new (λ i w. elim (cases_lt w.0 (length rows.rows.items)) [
+  pub those_lists : (lists : List (Vec RowGroup Global)) (n : ℕ) (old new : List (Option (Placed K))) → length lists ≤ n → RetriesThose cs S o marks (BesideBelow lists n) old new → RetriesThose cs S o marks (HaveBeside lists) old new
+  those_lists lists n old new h = those_as (BesideBelow lists n) (HaveBeside lists) old new (λ i w. elim (cases_lt w.0 (length lists)) [
     | inl l ↦ (w.0, omega (arith, l, h), w.1)
-    | inr l ↦ absurd (nothing_past rows.rows.items w.0 w.1.1 l (w.1.0, w.1.2))
+    | inr l ↦ absurd (has_past lists w.0 i l w.1)
   ])
 
   -- both kinds of groups have all that name the object
-  pub all_asked : (l : Links) (d : Rows) (old mid new : List (Option (Placed K))) → AreLinks cs (length S) l → o < length S
-      → RetriesThose cs S o marks (IsTold (get_or l.rows.items o d)) old mid → RetriesThose cs S o marks (HaveNumber (row l.others.items o)) mid new → StandBut cs S o marks old → Stand cs S o new
-  all_asked l d old mid new a h first second f i q e m x hm nm =
-      let rows = get_or l.rows.items o d in
-      let others = row l.others.items o in
+  pub pairs_asked : (l : Links) (d : Pairs) (old mid new : List (Option (Placed K))) → AreLinks cs (length S) l → o < length S
+      → RetriesThose cs S o marks (HaveBeside (get_or l.pairs.items o d).beside.items) old mid → RetriesThose cs S o marks (HaveIn (get_or l.pairs.items o d).others.items) mid new → StandBut cs S o marks old → Stand cs S o new
+  pairs_asked l d old mid new a h first second f i q e m x hm nm =
+      let pairs = get_or l.pairs.items o d in
       let picks = row l.picks.items o in
-      let are = a.rows.each o d h in
-      let rest = a.others.each o d h in
-      let r = those_both (IsTold rows) (HaveNumber others) (λ j. IsTold rows j ⊎ HaveNumber others j) old mid new (λ j p. p) first second in
+      let are = a.pairs.each o d h in
+      let r = those_both (HaveBeside pairs.beside.items) (HaveIn pairs.others.items) (λ j. HaveBeside pairs.beside.items j ⊎ HaveIn pairs.others.items j) old mid new (λ j p. p) first second in
       let each : (j : ℕ) (y : Cond) → j < length picks → NamesUnmarked marks (get_or cs (nth l o j) y) ⊎ (possible (get_or cs (nth l o j) y) (placed S o q) ≡ true) = λ j y b.
       let k = pick_in (length cs) picks j (a.picks o h).within b in
-      let w = are.each j b in
-      let either : IsTold rows (slice_index picks j) ⊎ HaveNumber others (slice_index picks j) = elim (by_other w.1.1.other) [
-        | inl none ↦ inr (rest.each w.0 w.1.1 (slice_index picks j) (w.1.0, w.1.2) none w.1.3)
-        | inr some ↦ inl (w.0, (w.1.0, w.1.1, w.1.2, (some, w.1.3)))
-      ] in
-      r.tried i q e (slice_index picks j) (get_or cs (nth l o j) y) either (slice_get-get_or cs (nth l o j) y k.1) in
+      r.tried i q e (slice_index picks j) (get_or cs (nth l o j) y) (are.each j b) (slice_get-get_or cs (nth l o j) y k.1) in
       elim (each_named (λ c. NamesUnmarked marks c ⊎ (possible c (placed S o q) ≡ true)) cs (length S) o l a h each m x hm nm) [
         | inl u ↦ f i q (r.stay i q e) m x hm nm u
         | inr y ↦ y

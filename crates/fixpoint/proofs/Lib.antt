@@ -1,7 +1,7 @@
 pub mod Names
 pub mod Turns
 pub mod Linking
-pub mod Others
+pub mod Paired
 pub mod Effect
 pub mod Stable
 pub mod StableRows

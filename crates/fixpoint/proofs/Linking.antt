@@ -21,7 +21,7 @@ use Rattle.fixpoint.specs.declared.links.Links.{Links}
 use Rattle.object_pruning.specs.declared.rows.Rows.{Rows}
 use Rattle.object_pruning.specs.InRows.{AreRows}
 pub use Rattle.object_pruning.proofs.InRows.{row_get, row_empty, row_set_same, row_set_other, length_more}
-use Rattle.fixpoint.specs.Links.{NumbersOf, PicksOf, names_none, is_among, NamedBy, row, HaveOthers, HaveRows, AreLinks, put_where, Numbers}
+use Rattle.fixpoint.specs.Links.{NumbersOf, PicksOf, names_none, is_among, NamedBy, row, HavePairs, HaveRows, AreLinks, put_where, Numbers}
 
 -- the place of a number that is there
 pub index_of : (i : ℕ) (xs : List ℕ) → list_any (nat_eq i) xs ≡ true → (k : ℕ) × (k < length xs) × (slice_index xs k ≡ i)
@@ -243,15 +243,15 @@ links_more cs n i named picks new bare c v l at k m e = record {
   bare = numbers_put (names_none n) cs i bare (names_none n c) l.bare (λ d. ap (names_none n) (at d));
 }
 
-pub links_end : (cs : List Cond) (n i : ℕ) (l : Links) → i ≡ length cs → LinksBelow cs n i l.named.items l.picks.items l.bare.items → HaveRows cs l.picks.items n l.rows.items → HaveOthers l.rows.items n l.others.items → AreLinks cs n l
-links_end cs n i l e b rows others = record {
+pub links_end : (cs : List Cond) (n i : ℕ) (l : Links) → i ≡ length cs → LinksBelow cs n i l.named.items l.picks.items l.bare.items → HaveRows cs l.picks.items n l.rows.items → HavePairs cs l.picks.items n l.pairs.items → AreLinks cs n l
+links_end cs n i l e b rows pairs = record {
   conditions = b.conditions ∙ e;
   named = λ j d h. b.named j d (omega (arith, h, e));
   objects = b.objects;
   picks = λ o h. subst (λ (m : ℕ). NumbersOf (names o) cs m (row l.picks.items o)) e (b.picks o h);
   bare = subst (λ (m : ℕ). NumbersOf (names_none n) cs m l.bare.items) e b.bare;
   rows = rows;
-  others = others;
+  pairs = pairs;
 }
 
 -- the rows of one object more

@@ -1,4 +1,5 @@
 pub mod Near
+pub mod Pairs
 pub mod Links
 pub mod Marks
 pub mod Queue

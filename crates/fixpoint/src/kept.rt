@@ -4,17 +4,19 @@ ghost use Rattle.std.specs.Prelude.{◌≡◌, ℕ, ◌-◌, ◌<◌, ◌≤◌,
 ghost use Rattle.std.specs.List.{All, list_any};
 ghost use Rattle.geo_conditions.specs.Conditions.{AllFit, FitsIn};
 ghost use Rattle.object_pruning.specs.Kept.{retried};
-ghost use Rattle.object_pruning.specs.declared.rows.Group.{Group};
-ghost use Rattle.object_pruning.specs.InRows.{HaveNumber, IsInGroup};
-ghost use Rattle.fixpoint.specs.Links.{AreLinks, AreSomeRows, HaveTold, IsGroupOf, IsTold, IsToldIn, NamedBy};
+ghost use Rattle.object_pruning.specs.InRows.{IsInGroup};
+ghost use Rattle.fixpoint.specs.Links.{AreLinks, NamedBy};
+ghost use Rattle.fixpoint.specs.declared.pairs.RowGroup.{RowGroup};
+ghost use Rattle.fixpoint.specs.Pairs.{AreSomePairs, HaveBeside, HaveIn, IsGroupOf, IsOther};
 ghost use Rattle.fixpoint.specs.Kept.{AllStand, AsksSlot, IsBlank, RetriesMarked, RetriesThose, Stand, StandBut, StandsAlone};
 ghost use Rattle.fixpoint.specs.Marks.{IsCleared, IsSquare};
 
 use super::links::Links;
+use super::pairs::{Pairs, RowGroup};
 use geo_base::MAX_DIMS;
 use geo_conditions::{ObjId, State};
 use indexical::{AnyIndexical, Watched};
-use object_pruning::{Group, Placed, Rows, can_be_in_the_way, is_group_possible, retry, slots};
+use object_pruning::{Group, Placed, can_be_in_the_way, is_group_possible, retry, slots};
 use std::alloc::{AllocError, Global};
 
 /// The slots of an object, with nothing kept. The answer is an error where memory is short.
@@ -162,7 +164,7 @@ fn retry_group<const K: usize>(
 fn ask_others<const K: usize>(
     list: &[AnyIndexical<K>],
     links: &Links,
-    others: &[Group],
+    others: &[RowGroup],
     o: ObjId,
     s: &State<K>,
     marks: &[bool],
@@ -173,22 +175,22 @@ fn ask_others<const K: usize>(
     requires fits { AllFit (map (λ x. x.cond) list.now) s.now }
     requires links { AreLinks (map (λ x. x.cond) list.now) (length s.now) links.now }
     requires object { (o.0 < length s.now) × (length marks.now ≡ length s.now) }
-    requires numbers { (i : ℕ) → HaveNumber others.now i → (0 < i) × (i - 1 < length list.now) }
+    requires numbers { (i : ℕ) → HaveIn others.now i → (0 < i) × (i - 1 < length list.now) }
     requires watched { length watched.old ≡ length list.now }
     ensures { RetriesThose (map (λ x. x.cond) list.now) s.now o.0 marks.now
-        (HaveNumber others.now) kept.old kept.new }
+        (HaveIn others.now) kept.old kept.new }
 {
     for k in 0..others.len() {
-        retry_group(list, links, &others[k], o, s, marks, watched, kept);
+        retry_group(list, links, &others[k].group, o, s, marks, watched, kept);
     }
 }
 
 // Whether the object itself is marked, or the object u.
-fn is_either_marked(own: bool, marks: &[bool], u: ObjId) -> bool
-    requires { u.0 < length marks.now }
-    ensures { result ≡ false → (own ≡ false) × (slice_index_or marks.now u.0 false ≡ false) }
+fn is_either_marked(own: bool, marks: &[bool], u: usize) -> bool
+    requires { u < length marks.now }
+    ensures { result ≡ false → (own ≡ false) × (slice_index_or marks.now u false ≡ false) }
 {
-    own || marks[u.0 as usize]
+    own || marks[u]
 }
 
 // Forgets what is kept in a slot where a condition of the group is refuted. Those of a row of a place ask for that place of the
@@ -239,12 +241,53 @@ fn ask_slots<const K: usize>(
     }
 }
 
-// The same where the group names the object u and that is marked, or the object itself, and can be in the way.
+// The same, of which nothing is asked where the conditions cannot be in the way.
+fn ask_group<const K: usize>(
+    list: &[AnyIndexical<K>],
+    b: &RowGroup,
+    o: ObjId,
+    s: &State<K>,
+    kept: &mut [Option<Placed<K>>],
+)
+    requires k { K ≤ MAX_DIMS }
+    requires fits { AllFit (map (λ x. x.cond) list.now) s.now }
+    requires object { o.0 < length s.now }
+    requires group { IsGroupOf (map (λ x. x.cond) list.now) o.0 b.now.row b.now.group }
+    ensures { (marks : List Bool) → RetriesThose (map (λ x. x.cond) list.now) s.now o.0 marks
+        (IsInGroup b.now.group) kept.old kept.new }
+{
+    if !can_be_in_the_way(s, &b.group) {
+        return;
+    }
+    ask_slots(list, b.row, &b.group, o, s, kept);
+}
+
+// The same for each of the groups.
+fn ask_groups<const K: usize>(
+    list: &[AnyIndexical<K>],
+    groups: &[RowGroup],
+    o: ObjId,
+    s: &State<K>,
+    kept: &mut [Option<Placed<K>>],
+)
+    requires k { K ≤ MAX_DIMS }
+    requires fits { AllFit (map (λ x. x.cond) list.now) s.now }
+    requires object { o.0 < length s.now }
+    requires groups { (k : ℕ) (b : RowGroup) → slice_get groups.now k ≡ Some b
+        → IsGroupOf (map (λ x. x.cond) list.now) o.0 b.row b.group }
+    ensures { (marks : List Bool) → RetriesThose (map (λ x. x.cond) list.now) s.now o.0 marks
+        (HaveIn groups.now) kept.old kept.new }
+{
+    for k in 0..groups.len() {
+        ask_group(list, &groups[k], o, s, kept);
+    }
+}
+
+// The same where the object u of the groups is marked, or the object itself.
 fn ask_beside<const K: usize>(
     list: &[AnyIndexical<K>],
-    r: usize,
-    group: &Group,
-    u: ObjId,
+    groups: &[RowGroup],
+    u: usize,
     o: ObjId,
     s: &State<K>,
     marks: &[bool],
@@ -253,52 +296,23 @@ fn ask_beside<const K: usize>(
 )
     requires k { K ≤ MAX_DIMS }
     requires fits { AllFit (map (λ x. x.cond) list.now) s.now }
-    requires object { (o.0 < length s.now) × (length marks.now ≡ length s.now) }
-    requires group { IsGroupOf (map (λ x. x.cond) list.now) o.0 r group.now }
-    requires other { group.now.other ≡ Some u }
+    requires object { (o.0 < length s.now) × (u < length marks.now) }
+    requires groups { (k : ℕ) (b : RowGroup) → slice_get groups.now k ≡ Some b
+        → IsGroupOf (map (λ x. x.cond) list.now) o.0 b.row b.group × IsOther b.group u }
     requires own { own ≡ slice_index_or marks.now o.0 false }
     ensures { RetriesThose (map (λ x. x.cond) list.now) s.now o.0 marks.now
-        (IsInGroup group.now) kept.old kept.new }
+        (HaveIn groups.now) kept.old kept.new }
 {
     if !is_either_marked(own, marks, u) {
         return;
     }
-    if !can_be_in_the_way(s, group) {
-        return;
-    }
-    ask_slots(list, r, group, o, s, kept);
+    ask_groups(list, groups, o, s, kept);
 }
 
-// The same for a group of any kind, but not for one that names no one other object.
-fn ask_group<const K: usize>(
+// The same for the groups of each other object.
+fn ask_pairs<const K: usize>(
     list: &[AnyIndexical<K>],
-    r: usize,
-    group: &Group,
-    o: ObjId,
-    s: &State<K>,
-    marks: &[bool],
-    own: bool,
-    kept: &mut [Option<Placed<K>>],
-)
-    requires k { K ≤ MAX_DIMS }
-    requires fits { AllFit (map (λ x. x.cond) list.now) s.now }
-    requires object { (o.0 < length s.now) × (length marks.now ≡ length s.now) }
-    requires group { IsGroupOf (map (λ x. x.cond) list.now) o.0 r group.now }
-    requires own { own ≡ slice_index_or marks.now o.0 false }
-    ensures { RetriesThose (map (λ x. x.cond) list.now) s.now o.0 marks.now
-        (IsToldIn group.now) kept.old kept.new }
-{
-    match group.other {
-        Some(u) => ask_beside(list, r, group, u, o, s, marks, own, kept),
-        None => {}
-    }
-}
-
-// The same for each group of row r.
-fn ask_row<const K: usize>(
-    list: &[AnyIndexical<K>],
-    r: usize,
-    groups: &[Group],
+    pairs: &Pairs,
     o: ObjId,
     s: &State<K>,
     marks: &[bool],
@@ -307,35 +321,13 @@ fn ask_row<const K: usize>(
     requires k { K ≤ MAX_DIMS }
     requires fits { AllFit (map (λ x. x.cond) list.now) s.now }
     requires object { (o.0 < length s.now) × (length marks.now ≡ length s.now) }
-    requires groups { (k : ℕ) (g : Group) → slice_get groups.now k ≡ Some g
-        → IsGroupOf (map (λ x. x.cond) list.now) o.0 r g }
+    requires pairs { AreSomePairs (map (λ x. x.cond) list.now) o.0 (length s.now) pairs.now }
     ensures { RetriesThose (map (λ x. x.cond) list.now) s.now o.0 marks.now
-        (HaveTold groups.now) kept.old kept.new }
+        (HaveBeside pairs.now.beside.items) kept.old kept.new }
 {
     let own = marks[o.0 as usize];
-    for k in 0..groups.len() {
-        ask_group(list, r, &groups[k], o, s, marks, own, kept);
-    }
-}
-
-// The same for each row.
-fn ask_rows<const K: usize>(
-    list: &[AnyIndexical<K>],
-    rows: &Rows,
-    o: ObjId,
-    s: &State<K>,
-    marks: &[bool],
-    kept: &mut [Option<Placed<K>>],
-)
-    requires k { K ≤ MAX_DIMS }
-    requires fits { AllFit (map (λ x. x.cond) list.now) s.now }
-    requires object { (o.0 < length s.now) × (length marks.now ≡ length s.now) }
-    requires rows { AreSomeRows (map (λ x. x.cond) list.now) o.0 rows.now }
-    ensures { RetriesThose (map (λ x. x.cond) list.now) s.now o.0 marks.now
-        (IsTold rows.now) kept.old kept.new }
-{
-    for r in 0..rows.rows.len() {
-        ask_row(list, r, rows.row(r), o, s, marks, kept);
+    for u in 0..pairs.beside.len() {
+        ask_beside(list, &pairs.beside[u], u, o, s, marks, own, kept);
     }
 }
 
@@ -360,8 +352,9 @@ fn ask_again<const K: usize>(
 {
     let _objects = s.objects();
     let object = ObjId(o as u16);
-    ask_rows(list, &links.rows[o], object, s, marks, kept);
-    ask_others(list, links, &links.others[o], object, s, marks, watched, kept);
+    let pairs = &links.pairs[o];
+    ask_pairs(list, pairs, object, s, marks, kept);
+    ask_others(list, links, &pairs.others, object, s, marks, watched, kept);
 }
 
 // Takes all marks away.

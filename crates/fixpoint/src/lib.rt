@@ -5,6 +5,7 @@ mod apart;
 mod differences;
 mod kept;
 mod links;
+mod pairs;
 mod propagation;
 mod queue;
 mod waking;

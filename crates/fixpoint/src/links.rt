@@ -1,12 +1,13 @@
 //! Which objects the conditions name, and which conditions name an object.
 
-ghost use Rattle.std.specs.Prelude.{◌≡◌, ℕ, ◌<◌, ◌≤◌, [], length, map, IfOk, OnOk};
+ghost use Rattle.std.specs.Prelude.{◌≡◌, ℕ, ◌<◌, ◌≤◌, [], length, map, IfOk};
 ghost use Rattle.sweep.specs.Picks.{ArePicks};
-ghost use Rattle.fixpoint.specs.Links.{AreLinks, AreOthers, HasGroup, HaveOthers, HaveRows, NamedBy, Numbers, PutsOthers, row};
+ghost use Rattle.fixpoint.specs.Links.{AreLinks, HaveRows, NamedBy, Numbers, SortAllRows, row};
 
+use super::pairs::{Pairs, pairs_of};
 use geo_conditions::{MAX_OBJECTS, ObjId};
 use indexical::AnyIndexical;
-use object_pruning::{Group, Rows, rows_of};
+use object_pruning::{Rows, rows_of};
 use std::alloc::{AllocError, Global};
 
 /// The links between conditions and objects. The numbers of the conditions count from 1.
@@ -20,8 +21,8 @@ pub struct Links {
     pub bare: Vec<u32>,
     /// For each object its numbers in rows, by the places that the conditions ask for.
     pub rows: Vec<Rows>,
-    /// For each object the groups of its rows that name no one other object.
-    pub others: Vec<Vec<Group>>,
+    /// For each object the groups of its rows by the other objects that the conditions name.
+    pub pairs: Vec<Pairs>,
 }
 
 // The objects that the condition names. Each gets the number of the condition.
@@ -78,49 +79,17 @@ fn all_rows<const K: usize>(
     Ok(rows)
 }
 
-// Puts the group behind the others, where it names no one other object.
-fn put_other(group: &Group, others: &mut Vec<Group>) -> Result<(), AllocError>
-    ensures { OnOk result (PutsOthers (λ g. g ≡ group.now) others.old.items others.new.items) }
+// The pairs of each object, by its rows.
+fn all_pairs(alloc: Global, rows: &[Rows]) -> Result<Vec<Pairs>, AllocError>
+    ensures { IfOk result (λ v. SortAllRows rows.now (length rows.now) v.items) }
 {
-    if let Some(_) = group.other {
-        return Ok(());
+    let objects = rows.len();
+    let mut pairs = Vec::new(alloc);
+    for o in 0..objects {
+        let own = pairs_of(alloc, &rows[o], objects)?;
+        pairs.push(own)?;
     }
-    others.push(*group)?;
-    Ok(())
-}
-
-// The same for each group of a row.
-fn put_others(groups: &[Group], others: &mut Vec<Group>) -> Result<(), AllocError>
-    ensures { OnOk result
-        (PutsOthers (HasGroup groups.now) others.old.items others.new.items) }
-{
-    for k in 0..groups.len() {
-        put_other(&groups[k], others)?;
-    }
-    Ok(())
-}
-
-// The groups of the rows that name no one other object.
-fn others_of(alloc: Global, rows: &Rows) -> Result<Vec<Group>, AllocError>
-    ensures { IfOk result (λ v. AreOthers rows.now v.items) }
-{
-    let mut others = Vec::new(alloc);
-    for r in 0..rows.rows.len() {
-        put_others(rows.row(r), &mut others)?;
-    }
-    Ok(others)
-}
-
-// The same for each object.
-fn all_others(alloc: Global, rows: &[Rows]) -> Result<Vec<Vec<Group>>, AllocError>
-    ensures { IfOk result (λ v. HaveOthers rows.now (length rows.now) v.items) }
-{
-    let mut others = Vec::new(alloc);
-    for o in 0..rows.len() {
-        let own = others_of(alloc, &rows[o])?;
-        others.push(own)?;
-    }
-    Ok(others)
+    Ok(pairs)
 }
 
 /// The links between the conditions and that number of objects. The answer is an error where memory
@@ -146,12 +115,12 @@ pub fn links_of<const K: usize>(
         named.push(those)?;
     }
     let rows = all_rows(alloc, list, &picks)?;
-    let others = all_others(alloc, &rows)?;
+    let pairs = all_pairs(alloc, &rows)?;
     Ok(Links {
         named,
         picks,
         bare,
         rows,
-        others,
+        pairs,
     })
 }

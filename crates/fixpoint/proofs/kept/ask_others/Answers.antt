@@ -1,21 +1,20 @@
 use Rattle.std.proofs.Common.{◌≡◌, ℕ, ◌-◌, ◌<◌, None, length, map, get_or, ◌∙◌, arith, rules}
 use Rattle.std.proofs.lemmas.Option.{slice_get-get_or}
 use Rattle.indexical.specs.declared.any.AnyIndexical.{AnyIndexical}
-use Rattle.object_pruning.specs.declared.rows.Group.{Group}
+use Rattle.fixpoint.specs.declared.pairs.RowGroup.{RowGroup}
 use Rattle.object_pruning.specs.InRows.{IsInGroup}
-use Rattle.object_pruning.proofs.LivePicks.{HaveBelow}
-use Rattle.fixpoint.proofs.Asked.{those_none, those_group, those_groups}
+use Rattle.fixpoint.proofs.Asked.{InBelow, those_none, those_group, those_groups}
 use Rattle.fixpoint.proofs.kept.ask_others.Goals as goal
 
 pub loop-k-init : goal.loop-k-init
-loop-k-init g c = those_none (map (λ (x : AnyIndexical g.row.K). x.cond) c.args.list.now) c.args.s.now c.args.o.0 c.args.marks.now (HaveBelow c.args.others.now 0) c.args.kept.now (λ i p. absurd (omega (arith, p.2)))
+loop-k-init g c = those_none (map (λ (x : AnyIndexical g.row.K). x.cond) c.args.list.now) c.args.s.now c.args.o.0 c.args.marks.now (InBelow c.args.others.now 0) c.args.kept.now (λ i p. absurd (omega (arith, p.2)))
 
 pub retry_group-requires : goal.retry_group-requires
 retry_group-requires g c =
     let gs = c.args.others.now in
     let k = c.loop-k.k in
-    let none : Group = record { other = None; other_place = 0; first = 0; last = 0 } in
-    let numbers : (i : ℕ) → IsInGroup (get_or gs k none) i → (0 < i) × (i - 1 < length c.args.list.now) = λ i b. c.requires.numbers i (k, get_or gs k none, slice_get-get_or gs k none c.loop-k-test.true, b) in
+    let none : RowGroup = record { row = 0; group = record { other = None; other_place = 0; first = 0; last = 0 } } in
+    let numbers : (i : ℕ) → IsInGroup (get_or gs k none).group i → (0 < i) × (i - 1 < length c.args.list.now) = λ i b. c.requires.numbers i (k, get_or gs k none, slice_get-get_or gs k none c.loop-k-test.true, b) in
     let watched : length c.loop-k.watched ≡ length c.args.list.now = c.loop-k.auto.watched ∙ c.requires.watched in
     search rules
 

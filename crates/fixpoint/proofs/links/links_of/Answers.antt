@@ -9,8 +9,9 @@ use Rattle.indexical.specs.declared.any.AnyIndexical.{AnyIndexical}
 use Rattle.geo_conditions.specs.declared.object.TheConstants.{MAX_OBJECTS}
 use Rattle.sweep.specs.Picks.{ArePicks}
 use Rattle.object_pruning.specs.declared.rows.Rows.{Rows}
-use Rattle.fixpoint.specs.Links.{HaveOthers, HaveRows, NamedBy, Numbers, names_none, put_where, row}
+use Rattle.fixpoint.specs.Links.{HavePairs, SortAllRows, HaveRows, NamedBy, Numbers, names_none, put_where, row}
 use Rattle.fixpoint.proofs.Linking.{LinksBelow, links_start, links_more, links_end, named_empty}
+use Rattle.fixpoint.proofs.Paired.{have_pairs}
 use Rattle.fixpoint.proofs.links.links_of.Goals as goal
 use Rattle.fixpoint.proofs.links.links_of.Goals.{then-is_empty+in_ok-push, else-is_empty}
 
@@ -68,6 +69,6 @@ returns g c =
     let own = c.in_ok-rows.rows.items in
     let l = c.loop-i.invariant in
     let rows : HaveRows cs picks c.args.objects own = subst (λ (m : ℕ). HaveRows cs picks m own) l.objects (subst (λ (vs : List (Vec ℕ Global)). HaveRows cs vs (length vs) own) c.deref.ensures.value c.in_ok-rows.ensures) in
-    let beside = c.in_ok-others.others.items in
-    let others : HaveOthers own c.args.objects beside = subst (λ (m : ℕ). HaveOthers own m beside) rows.objects (subst (λ (vs : List Rows). HaveOthers vs (length vs) beside) c.deref-2.ensures.value c.in_ok-others.ensures) in
-    links_end _ c.args.objects c.loop-i.i _ (omega (arith, c.loop-i-test.false, c.loop-i.auto.i-end, length-map c.args.list.now (λ x. x.cond))) l rows others
+    let beside = c.in_ok-pairs.pairs.items in
+    let pairs : HavePairs cs picks c.args.objects beside = have_pairs cs picks c.args.objects own beside rows (subst (λ (vs : List Rows). SortAllRows vs (length vs) beside) c.deref-2.ensures.value c.in_ok-pairs.ensures) in
+    links_end _ c.args.objects c.loop-i.i _ (omega (arith, c.loop-i-test.false, c.loop-i.auto.i-end, length-map c.args.list.now (λ x. x.cond))) l rows pairs

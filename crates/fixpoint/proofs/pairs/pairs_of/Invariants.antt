@@ -1,0 +1,5 @@
+use Rattle.fixpoint.proofs.Paired.{SortedBelow}
+use Rattle.fixpoint.proofs.pairs.pairs_of.Given as goal
+
+abbrev pub invariant-loop-r : goal.invariant-loop-r
+invariant-loop-r l = SortedBelow l.rows l.objects l.r l.beside.items l.others.items
