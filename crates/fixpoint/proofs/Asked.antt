@@ -1,7 +1,6 @@
 -- Kept points are asked again by the conditions of marked objects.
 use Rattle.std.proofs.Common.{◌≡◌, ◌≢◌, ◌⊎◌, ℕ, ◌+◌, ◌-◌, ◌<◌, ◌≤◌, Bool, true, false, List, length, set, get_or, slice_index, refl, sym, ap, ◌∙◌, subst, inl, inr, arith, Some, None, Option, Vec, Global, []}
 use Rattle.std.specs.Prelude.{slice_get, IfSome, MatchOption}
-use Rattle.std.proofs.Math.ListN.{length-set}
 use Rattle.std.proofs.lemmas.Bool.{cases_eq, cases_lt}
 use Rattle.std.proofs.lemmas.List.{get_or_past, get_or-set_same, get_or-set_other}
 use Rattle.std.proofs.lemmas.Option.{same_Some, slice_get-get_or, slice_get_within}
@@ -63,8 +62,11 @@ module _ {K : ℕ} (cs : List Cond) (S : State) (o : ℕ) where
 
   -- a slot at which the conditions of a group ask for another place
   pub slot_elsewhere : (r : ℕ) (g : Group) (q : Placed K) → AllFit cs S → o < length S → IsGroupOf cs o r g → r ≢ 0 → r ≢ q.place → AsksSlot cs S o (IsInGroup g) (Some q) (Some q)
-  slot_elsewhere r g q fits here a nz ne p e = (e, λ i b x is. subst (λ (z : Placed K). possible x (placed S o z) ≡ true) (same_Some _ _ e)
-      ((a.2.faces i x b is).place nz S q.place (fit cs S o fits here i x is) here (λ z. ne (sym z)) q.point.coordinates))
+  slot_elsewhere r g q fits here a nz ne p e = (
+    e,
+    λ i b x is. subst (λ (z : Placed K). possible x (placed S o z) ≡ true) (same_Some _ _ e)
+        ((a.2.faces i x b is).place nz S q.place (fit cs S o fits here i x is) here (λ z. ne (sym z)) q.point.coordinates),
+  )
 
   -- the slots before n were asked, and the others are as they were
   pub record SlotsBelow (Those : ℕ → Type 0) (n : ℕ) (old new : List (Option (Placed K))) : Type 0 where

@@ -13,7 +13,7 @@ use Rattle.object_pruning.specs.InRows.{row, AreRows, IsInGroup}
 use Rattle.object_pruning.proofs.InRows.{row_past}
 use Rattle.fixpoint.specs.declared.pairs.Pairs.{Pairs}
 use Rattle.fixpoint.specs.declared.pairs.RowGroup.{RowGroup}
-use Rattle.fixpoint.specs.Pairs.{ArePairs, HasGroup, HaveBeside, HaveIn, IsOfRows, IsOther, Puts, SortsRows}
+use Rattle.fixpoint.specs.Pairs.{ArePairs, HasGroup, HaveIn, IsOfRows, IsOther, Puts, SortsRows}
 use Rattle.fixpoint.specs.Links.{HavePairs, HaveRows, SortAllRows}
 use Rattle.fixpoint.proofs.Linking.{length_more, row_set_same, row_set_other}
 
@@ -33,7 +33,6 @@ get_either [] zero y z e = inr (sym (same_Some _ _ e))
 get_either [] (suc j) y z e = absurd (cc)
 get_either (x ∷ xs) zero y z e = inl e
 get_either (x ∷ xs) (suc j) y z e = get_either xs j y z e
-
 
 have_left : (bs : List RowGroup) (b : RowGroup) (i : ℕ) → HaveIn bs i → HaveIn (bs ++ b ∷ []) i
 have_left bs b i w = (w.0, w.1, get_left bs w.0 b w.1 w.2, w.3)

@@ -1,5 +1,5 @@
 -- Rows and pairs are decided by a search through their groups.
-use Rattle.std.proofs.Common.{◌≡◌, ◌⊎◌, ℕ, zero, suc, ◌+◌, ◌≤◌, List, [], ◌∷◌, length, get_or, slice_index, refl, sym, subst, inl, inr, arith, Some, None, Option, Vec, Global}
+use Rattle.std.proofs.Common.{◌≡◌, ◌⊎◌, ℕ, zero, suc, ◌≤◌, List, [], ◌∷◌, length, get_or, slice_index, refl, sym, subst, inl, inr, arith, Some, None, Option, Vec, Global}
 use Rattle.std.specs.Prelude.{slice_get, IfSome, Contains, MatchOption}
 use Rattle.std.proofs.Props.{props}
 use Rattle.std.proofs.Math.Logic.{∥∥₁_elim, ∥∥₁_map}

@@ -1,4 +1,4 @@
-use Rattle.std.proofs.Common.{map, get_or, None, arith, rules}
+use Rattle.std.proofs.Common.{map, get_or, arith, rules}
 use Rattle.std.proofs.lemmas.Option.{slice_get-get_or}
 use Rattle.indexical.specs.declared.any.AnyIndexical.{AnyIndexical}
 use Rattle.fixpoint.specs.declared.pairs.RowGroup.{RowGroup}

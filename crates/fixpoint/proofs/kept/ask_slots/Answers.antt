@@ -1,4 +1,4 @@
-use Rattle.std.proofs.Common.{◌≡◌, ◌<◌, None, length, map, get_or, arith, ◌∙◌, subst, Option}
+use Rattle.std.proofs.Common.{◌≡◌, ◌<◌, None, length, map, get_or, arith, subst, Option}
 use Rattle.std.proofs.lemmas.List.{get_or_default}
 use Rattle.indexical.specs.declared.any.AnyIndexical.{AnyIndexical}
 use Rattle.object_pruning.specs.declared.kept.Placed.{Placed}

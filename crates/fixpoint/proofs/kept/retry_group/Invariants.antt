@@ -1,4 +1,4 @@
-use Rattle.std.proofs.Common.{ℕ, ◌<◌, map}
+use Rattle.std.proofs.Common.{◌<◌, map}
 use Rattle.object_pruning.specs.InRows.{IsInGroup}
 use Rattle.fixpoint.specs.Kept.{RetriesThose}
 use Rattle.fixpoint.proofs.kept.retry_group.Given as goal
