@@ -243,7 +243,7 @@ links_more cs n i named picks new bare c v l at k m e = record {
   bare = numbers_put (names_none n) cs i bare (names_none n c) l.bare (λ d. ap (names_none n) (at d));
 }
 
-pub links_end : (cs : List Cond) (n i : ℕ) (l : Links) → i ≡ length cs → LinksBelow cs n i l.named.items l.picks.items l.bare.items → HaveRows cs l.picks.items n l.rows.items → HavePairs cs l.picks.items n n l.pairs.items → AreLinks cs n l
+pub links_end : (cs : List Cond) (n i : ℕ) (l : Links) → i ≡ length cs → LinksBelow cs n i l.named.items l.picks.items l.bare.items → HaveRows cs l.picks.items n l.rows.items → HavePairs cs l.picks.items n l.pairs.items → AreLinks cs n l
 links_end cs n i l e b rows pairs = record {
   conditions = b.conditions ∙ e;
   named = λ j d h. b.named j d (omega (arith, h, e));

@@ -1,5 +1,6 @@
 -- A condition that does not name an object does not see it.
-use Rattle.std.proofs.Common.{◌≡◌, ◌≢◌, ℕ, zero, suc, ◌<◌, Bool, true, false, List, length, get_or, refl, sym, ap, ◌∙◌, subst, inl, inr, ◌⊎◌, arith, ℤ}
+use Rattle.std.proofs.Common.{◌≡◌, ◌≢◌, ℕ, zero, suc, ◌<◌, Bool, true, false, List, length, get_or, refl, sym, ap, ◌∙◌, subst, inl, inr, ◌⊎◌, arith, ℤ, Option, Some}
+use Rattle.std.specs.Prelude.{IfSome}
 use Rattle.std.proofs.lemmas.Bool.{cases_eq, cases_lt, false≢true}
 use Rattle.std.proofs.lemmas.List.{get_or_past}
 use Rattle.geo_base.specs.Boxes.{coordinate}
@@ -9,11 +10,14 @@ use Rattle.geo_conditions.specs.Conditions.{possible}
 use Rattle.geo_conditions.specs.Supported.{IsSupported, Supports, NoneRefuted}
 use Rattle.geo_conditions.proofs.Monotone.{possible_wider}
 use Rattle.geo_conditions.proofs.Points.{reach_same, reach_other, with_length, point_within, point_not_empty, place_from_1, put_inside, put_not_empty}
+use Rattle.geo_conditions.specs.declared.object.ObjId.{ObjId}
+use Rattle.indexical.specs.declared.facing.Facing.{Facing}
+use Rattle.indexical.specs.Faces.{Faces, IsBeside}
 use Rattle.indexical.specs.Free.{SparesAnywhere}
 use Rattle.indexical.specs.Names.{names}
 use Rattle.indexical.proofs.Unnamed.{same_answer}
 use Rattle.object_pruning.specs.Same.{SameBut}
-use Rattle.fixpoint.specs.Near.{Unhindered, IsUntouched, NearSupports, IsFine, BarePossible}
+use Rattle.fixpoint.specs.Near.{IsPair, Unhindered, IsUntouched, NearSupports, IsFine, BarePossible}
 
 abbrev place_of : Reach → ℕ → Bool
 place_of r s = place_in r.places s
@@ -140,3 +144,9 @@ all_fine cs S f bare =
       lows = λ o d h b. let y = (f o h).lows d b in (y.0, y.1, near_whole cs S o y.0 y.1 on_whole y.2, y.3);
       highs = λ o d h b. let y = (f o h).highs d b in (y.0, y.1, near_whole cs S o y.0 y.1 on_whole y.2, y.3);
     }
+
+-- the condition that tells of the other object names no third one
+pub told : (c : Cond) (o : ℕ) (f : Facing) (u : ObjId) → f.other ≡ Some u → Faces c o f → IsPair c o u.0
+told c o f u e faces =
+    let b : IsBeside c o u.0 f.other_place = subst (λ (v : Option ObjId). IfSome v (λ w. IsBeside c o w.0 f.other_place)) e faces.other in
+    record { apart = b.apart; named = b.named }

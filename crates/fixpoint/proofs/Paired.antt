@@ -1,67 +1,32 @@
--- The picks of an object by the other object, as they are put there.
-use Rattle.std.proofs.Common.{◌≡◌, ◌⊎◌, ℕ, zero, suc, ◌+◌, ◌-◌, ◌<◌, List, [], ◌∷◌, ◌++◌, length, set, get_or, slice_index, refl, sym, ap, ◌∙◌, subst, inl, inr, arith, Some, Option, Vec, Global}
-use Rattle.std.specs.Prelude.{slice_get, IfSome, Contains, ◌↔◌}
-use Rattle.std.specs.List.{All}
-use Rattle.std.proofs.lemmas.Bool.{cases_eq}
+-- The groups of rows by the other object, as they are put there.
+use Rattle.std.proofs.Common.{◌≡◌, ◌⊎◌, ℕ, zero, suc, ◌+◌, ◌<◌, ◌≤◌, List, [], ◌∷◌, ◌++◌, length, set, get_or, slice_index, refl, sym, ap, ◌∙◌, subst, inl, inr, arith, Some, Option, Vec, Global}
+use Rattle.std.specs.Prelude.{slice_get, MatchOption}
+use Rattle.std.proofs.Math.ListN.{length-set}
+use Rattle.std.proofs.lemmas.Bool.{cases_eq, cases_lt}
 use Rattle.std.proofs.lemmas.List.{get_or_push, get_or_append_left}
-use Rattle.std.proofs.lemmas.List.Elements.{All-append, Contains-append_left, Contains-push}
-use Rattle.std.proofs.lemmas.Option.{same_Some}
+use Rattle.std.proofs.lemmas.Option.{same_Some, slice_get_within, slice_get-get_or}
 use Rattle.geo_conditions.specs.declared.cond.Cond.{Cond}
 use Rattle.geo_conditions.specs.declared.object.ObjId.{ObjId}
-use Rattle.indexical.specs.declared.facing.Facing.{Facing}
-use Rattle.indexical.specs.Faces.{Faces, IsBeside}
-use Rattle.sweep.specs.Picks.{ArePicks}
-use Rattle.sweep.proofs.PickedConditions.{pick_in}
+use Rattle.object_pruning.specs.declared.rows.Group.{Group}
+use Rattle.object_pruning.specs.declared.rows.Rows.{Rows}
+use Rattle.object_pruning.specs.InRows.{row, AreRows, IsInGroup}
+use Rattle.object_pruning.proofs.InRows.{row_past}
 use Rattle.fixpoint.specs.declared.pairs.Pairs.{Pairs}
-use Rattle.fixpoint.specs.declared.pairs.Run.{Run}
-use Rattle.fixpoint.specs.Links.{row, HavePairs}
-use Rattle.fixpoint.specs.Pairs.{IsInRun, IsAt, IsSomewhere, IsPair, ArePairsBelow, ArePairs, PutsAt, PutsNumber}
-use Rattle.fixpoint.proofs.Linking.{length_more}
+use Rattle.fixpoint.specs.declared.pairs.RowGroup.{RowGroup}
+use Rattle.fixpoint.specs.Pairs.{ArePairs, HasGroup, HaveIn, IsOfRows, IsOther, Puts, SortsRows}
+use Rattle.fixpoint.specs.Links.{HavePairs, HaveRows, SortAllRows}
+use Rattle.fixpoint.proofs.Linking.{length_more, row_set_same, row_set_other}
 
--- ---- runs
+-- ---- one group more
 
-get_set_same : {X : Type 0} (xs : List X) (k : ℕ) (y : X) → k < length xs → slice_get (set xs k y) k ≡ Some y
-get_set_same [] k y h = absurd (omega arith)
-get_set_same (x ∷ xs) zero y h = refl
-get_set_same (x ∷ xs) (suc k) y h = get_set_same xs k y (omega arith)
+get_left : {X : Type 0} (xs : List X) (j : ℕ) (y z : X) → slice_get xs j ≡ Some z → slice_get (xs ++ y ∷ []) j ≡ Some z
+get_left [] j y z e = absurd (cc)
+get_left (x ∷ xs) zero y z e = e
+get_left (x ∷ xs) (suc j) y z e = get_left xs j y z e
 
-get_set_other : {X : Type 0} (xs : List X) (k j : ℕ) (y : X) → (j ≡ k → ⊥) → slice_get (set xs k y) j ≡ slice_get xs j
-get_set_other [] k j y n = refl
-get_set_other (x ∷ xs) zero zero y n = absurd (n refl)
-get_set_other (x ∷ xs) zero (suc j) y n = refl
-get_set_other (x ∷ xs) (suc k) zero y n = refl
-get_set_other (x ∷ xs) (suc k) (suc j) y n = get_set_other xs k j y (λ e. n (ap suc e))
-
--- what a condition tells of the other object
-pub told : (c : Cond) (o : ℕ) (f : Facing) (u : ObjId) → f.other ≡ Some u → Faces c o f → IsPair c o u.0
-told c o f u e faces =
-    let b : IsBeside c o u.0 f.other_place = subst (λ (v : Option ObjId). IfSome v (λ w. IsBeside c o w.0 f.other_place)) e faces.other in
-    record { apart = b.apart; named = b.named }
-
--- the run of u has the number too
-pub puts_at : (c : Cond) (o i u : ℕ) (runs : List Run) (was now : Run) → IsPair c o u → u < length runs → slice_get runs u ≡ Some was → ((j : ℕ) → IsInRun now j ↔ (IsInRun was j ⊎ (j ≡ i))) → PutsAt c o i runs (set runs u now)
-puts_at c o i u runs was now pair h at more = record {
-  other = u;
-  pair = pair;
-  put = (now, get_set_same runs u now h, (more i).1 (inr refl));
-  fresh = λ v j a. elim (cases_eq v u) [
-    | inl e ↦
-        let same : now ≡ a.0 = same_Some _ _ (sym (get_set_same runs u now h) ∙ subst (λ (w : ℕ). slice_get (set runs u now) w ≡ Some a.0) e a.1) in
-        elim ((more j).0 (subst (λ (r : Run). IsInRun r j) (sym same) a.2)) [
-          | inl b ↦ inl (was, subst (λ (w : ℕ). slice_get runs w ≡ Some was) (sym e) at, b)
-          | inr b ↦ inr (e, b)
-        ]
-    | inr ne ↦ inl (a.0, sym (get_set_other runs u v now ne) ∙ a.1, a.2)
-  ];
-  stay = λ v j a. elim (cases_eq v u) [
-    | inl e ↦
-        let same : was ≡ a.0 = same_Some _ _ (sym at ∙ subst (λ (w : ℕ). slice_get runs w ≡ Some a.0) e a.1) in
-        (now, subst (λ (w : ℕ). slice_get (set runs u now) w ≡ Some now) (sym e) (get_set_same runs u now h), (more j).1 (inl (subst (λ (r : Run). IsInRun r j) (sym same) a.2)))
-    | inr ne ↦ (a.0, get_set_other runs u v now ne ∙ a.1, a.2)
-  ];
-}
-
--- ---- one pick more
+get_last : {X : Type 0} (xs : List X) (y : X) → slice_get (xs ++ y ∷ []) (length xs) ≡ Some y
+get_last [] y = refl
+get_last (x ∷ xs) y = get_last xs y
 
 get_either : {X : Type 0} (xs : List X) (j : ℕ) (y z : X) → slice_get (xs ++ y ∷ []) j ≡ Some z → (slice_get xs j ≡ Some z) ⊎ (z ≡ y)
 get_either [] zero y z e = inr (sym (same_Some _ _ e))
@@ -69,78 +34,198 @@ get_either [] (suc j) y z e = absurd (cc)
 get_either (x ∷ xs) zero y z e = inl e
 get_either (x ∷ xs) (suc j) y z e = get_either xs j y z e
 
--- a run of no number more
-pub nowhere_more : (runs : List Run) (r : Run) → r.count ≡ 0 → ((i : ℕ) → IsSomewhere runs i → ⊥) → (i : ℕ) → IsSomewhere (runs ++ r ∷ []) i → ⊥
-nowhere_more runs r e none i a = elim (get_either runs a.0 r a.1.0 a.1.1) [
-  | inl g ↦ none i (a.0, (a.1.0, g, a.1.2))
-  | inr s ↦
-      let b : IsInRun r i = subst (λ (x : Run). IsInRun x i) s a.1.2 in
-      absurd (omega (arith, e, b.0, b.1))
-]
+have_left : (bs : List RowGroup) (b : RowGroup) (i : ℕ) → HaveIn bs i → HaveIn (bs ++ b ∷ []) i
+have_left bs b i w = (w.0, w.1, get_left bs w.0 b w.1 w.2, w.3)
 
-pub pairs_start : (cs : List Cond) (o : ℕ) (picks : List ℕ) (runs : List Run) → ((i : ℕ) → IsSomewhere runs i → ⊥) → ArePairsBelow cs o picks 0 runs []
-pairs_start cs o picks runs none = record {
-  named = record {
-    numbers = λ u i a. absurd (none i (u, a));
-    pairs = λ u i x a g. absurd (none i (u, a));
-    others = λ k d h. absurd (omega arith);
-  };
-  each = λ k h. absurd (omega arith);
+have_last : (bs : List RowGroup) (b a : RowGroup) (i : ℕ) → a ≡ b → IsInGroup a.group i → HaveIn (bs ++ b ∷ []) i
+have_last bs b a i e m = (length bs, b, get_last bs b, subst (λ (x : RowGroup). IsInGroup x.group i) e m)
+
+has_either : (bs : List RowGroup) (b a : RowGroup) → HasGroup (bs ++ b ∷ []) a → HasGroup bs a ⊎ (a ≡ b)
+has_either bs b a w = elim (get_either bs w.0 b a w.1) [ inl p ↦ inl (w.0, p) | inr e ↦ inr e ]
+
+other_of : (b a : RowGroup) (u : ObjId) (w : ℕ) → b.group.other ≡ Some u → a ≡ b → w ≡ u.0 → IsOther a.group w
+other_of b a u w is s e =
+    let here : IsOther b.group w = subst (λ (x : Option ObjId). MatchOption x ⊥ (λ v. v.0 ≡ w)) (sym is) (sym e) in
+    subst (λ (x : RowGroup). IsOther x.group w) (sym s) here
+
+-- the group is put to those of the other object
+pub puts_there : (b : RowGroup) (u : ObjId) (old : List (Vec RowGroup Global)) (others : List RowGroup) (v : Vec RowGroup Global) → b.group.other ≡ Some u → u.0 < length old → v.items ≡ row old u.0 ++ b ∷ [] → Puts (λ a. a ≡ b) old others (set old u.0 v) others
+puts_there b u old others v is h items = record {
+  objects = length-set old u.0 v;
+  stay = λ i w. elim (cases_eq w.0 u.0) [
+    | inl e ↦ (u.0, subst (λ (l : List RowGroup). HaveIn l i) (sym here) (have_left (row old u.0) b i (subst (λ (z : ℕ). HaveIn (row old z) i) e w.1)))
+    | inr ne ↦ (w.0, subst (λ (l : List RowGroup). HaveIn l i) (sym (row_set_other old u.0 w.0 v ne)) w.1)
+  ];
+  rest = λ i w. w;
+  beside = λ w a m. elim (cases_eq w u.0) [
+    | inl e ↦ elim (has_either (row old u.0) b a (subst (λ (l : List RowGroup). HasGroup l a) here (subst (λ (z : ℕ). HasGroup (row (set old u.0 v) z) a) e m))) [
+      | inl p ↦ inl (subst (λ (z : ℕ). HasGroup (row old z) a) (sym e) p)
+      | inr s ↦ inr (s, other_of b a u w is s e)
+    ]
+    | inr ne ↦ inl (subst (λ (l : List RowGroup). HasGroup l a) (row_set_other old u.0 w v ne) m)
+  ];
+  further = λ a m. inl m;
+  each = λ a i s m. inl (u.0, subst (λ (l : List RowGroup). HaveIn l i) (sym here) (have_last (row old u.0) b a i s m));
+}
+  where
+    here : row (set old u.0 v) u.0 ≡ row old u.0 ++ b ∷ []
+    here = row_set_same old u.0 v h ∙ items
+
+-- the group is put behind the others
+pub puts_behind : (b : RowGroup) (old : List (Vec RowGroup Global)) (others more : List RowGroup) → more ≡ others ++ b ∷ [] → Puts (λ a. a ≡ b) old others old more
+puts_behind b old others more e = subst (Puts (λ a. a ≡ b) old others old) (sym e) (record {
+  objects = refl;
+  stay = λ i w. w;
+  rest = λ i w. have_left others b i w;
+  beside = λ u a m. inl m;
+  further = λ a m. has_either others b a m;
+  each = λ a i s m. inr (have_last others b a i s m);
+})
+
+-- ---- one after the other
+
+pub puts_none : (P : RowGroup → Type 0) (lists : List (Vec RowGroup Global)) (others : List RowGroup) → ((b : RowGroup) → P b → ⊥) → Puts P lists others lists others
+puts_none P lists others none = record {
+  objects = refl;
+  stay = λ i w. w;
+  rest = λ i w. w;
+  beside = λ u b m. inl m;
+  further = λ b m. inl m;
+  each = λ b i p m. absurd (none b p);
 }
 
-module _ (cs : List Cond) (o : ℕ) (picks : List ℕ) (k : ℕ) (c : Cond) (within : ArePicks (length cs) picks) (h : k < length picks) (at : slice_get cs (slice_index picks k - 1) ≡ Some c) where
-  one : All (λ i. (0 < i) × (i - 1 < length cs)) (slice_index picks k ∷ [])
-  one zero d b = pick_in (length cs) picks k within h
-  one (suc j) d b = absurd (omega arith)
-
-  pub pairs_more : (runs new : List Run) (others more : List ℕ) → ArePairsBelow cs o picks k runs others → PutsNumber c o (slice_index picks k) runs others new more → ArePairsBelow cs o picks (k + 1) new more
-  pairs_more runs new others more b (inl w) =
-      let p = w.0 in
-      record {
-        named = record {
-          numbers = λ u j a. elim (p.fresh u j a) [
-            | inl y ↦ b.named.numbers u j y
-            | inr e ↦ subst (λ (n : ℕ). (0 < n) × (n - 1 < length cs)) (sym e.1) (pick_in (length cs) picks k within h)
-          ];
-          pairs = λ u j x a g. elim (p.fresh u j a) [
-            | inl y ↦ b.named.pairs u j x y g
-            | inr e ↦
-                let same : c ≡ x = same_Some _ _ (sym at ∙ subst (λ (n : ℕ). slice_get cs (n - 1) ≡ Some x) e.1 g) in
-                subst (λ (z : Cond). IsPair z o u) same (subst (λ (v : ℕ). IsPair c o v) (sym e.0) p.pair)
-          ];
-          others = subst (ArePicks (length cs)) (sym w.1) b.named.others;
-        };
-        each = λ j l. elim (cases_eq j k) [
-          | inl e ↦ inl (p.other, subst (λ (m : ℕ). IsAt new p.other (slice_index picks m)) (sym e) p.put)
-          | inr ne ↦ elim (b.each j (omega (arith, l, ne))) [
-            | inl y ↦ inl (y.0, p.stay y.0 (slice_index picks j) y.1)
-            | inr y ↦ inr (subst (λ (l : List ℕ). Contains l (slice_index picks j)) (sym w.1) y)
-          ]
-        ];
-      }
-  pairs_more runs new others more b (inr w) =
-      let pushed : ArePairsBelow cs o picks (k + 1) runs (others ++ slice_index picks k ∷ []) = record {
-        named = record {
-          numbers = b.named.numbers;
-          pairs = b.named.pairs;
-          others = All-append (λ i. (0 < i) × (i - 1 < length cs)) others (slice_index picks k ∷ []) b.named.others one;
-        };
-        each = λ j l. elim (cases_eq j k) [
-          | inl e ↦ inr (subst (λ (m : ℕ). Contains (others ++ slice_index picks k ∷ []) (slice_index picks m)) (sym e) (Contains-push others (slice_index picks k)))
-          | inr ne ↦ elim (b.each j (omega (arith, l, ne))) [
-            | inl y ↦ inl y
-            | inr y ↦ inr (Contains-append_left others (slice_index picks k ∷ []) (slice_index picks j) y)
-          ]
-        ];
-      } in
-      subst (λ (rs : List Run). ArePairsBelow cs o picks (k + 1) rs more) (sym w.0) (subst (λ (l : List ℕ). ArePairsBelow cs o picks (k + 1) runs l) (sym w.1) pushed)
-
--- the pairs of one object more
-pub have_pairs_more : (cs : List Cond) (picks : List (Vec ℕ Global)) (n m : ℕ) (pairs : List Pairs) (p : Pairs) → HavePairs cs picks n m pairs → ArePairs cs m (row picks m) n p → HavePairs cs picks n (m + 1) (pairs ++ p ∷ [])
-have_pairs_more cs picks n m pairs p h one = record {
-  objects = length_more pairs p ∙ ap (λ (k : ℕ). k + 1) h.objects;
-  each = λ o d b. elim (cases_eq o m) [
-    | inl e ↦ subst (λ (v : ℕ). ArePairs cs v (row picks v) n (get_or (pairs ++ p ∷ []) v d)) (sym e) (subst (ArePairs cs m (row picks m) n) (sym (get_or_push pairs p d m h.objects)) one)
-    | inr ne ↦ let low : o < m = omega (arith, b, ne) in subst (ArePairs cs o (row picks o) n) (sym (get_or_append_left pairs (p ∷ []) d o (omega (arith, low, h.objects)))) (h.each o d low)
+pub puts_both : (P Q R : RowGroup → Type 0) (old mid new : List (Vec RowGroup Global)) (others more most : List RowGroup) → ((b : RowGroup) → P b → R b) → ((b : RowGroup) → Q b → R b) → ((b : RowGroup) → R b → P b ⊎ Q b) → Puts P old others mid more → Puts Q mid more new most → Puts R old others new most
+puts_both P Q R old mid new others more most left right either a b = record {
+  objects = b.objects ∙ a.objects;
+  stay = λ i w. b.stay i (a.stay i w);
+  rest = λ i w. b.rest i (a.rest i w);
+  beside = λ u x m. elim (b.beside u x m) [
+    | inl n ↦ elim (a.beside u x n) [ inl w ↦ inl w | inr w ↦ inr (left x w.0, w.1) ]
+    | inr w ↦ inr (right x w.0, w.1)
+  ];
+  further = λ x m. elim (b.further x m) [
+    | inl n ↦ elim (a.further x n) [ inl w ↦ inl w | inr p ↦ inr (left x p) ]
+    | inr q ↦ inr (right x q)
+  ];
+  each = λ x i r m. elim (either x r) [
+    | inl p ↦ elim (a.each x i p m) [ inl w ↦ inl (b.stay i w) | inr w ↦ inr (b.rest i w) ]
+    | inr q ↦ b.each x i q m
   ];
 }
+
+pub puts_as : (P Q : RowGroup → Type 0) (old new : List (Vec RowGroup Global)) (others more : List RowGroup) → ((b : RowGroup) → P b → Q b) → ((b : RowGroup) → Q b → P b) → Puts P old others new more → Puts Q old others new more
+puts_as P Q old new others more to back a = record {
+  objects = a.objects;
+  stay = a.stay;
+  rest = a.rest;
+  beside = λ u x m. elim (a.beside u x m) [ inl w ↦ inl w | inr w ↦ inr (to x w.0, w.1) ];
+  further = λ x m. elim (a.further x m) [ inl w ↦ inl w | inr p ↦ inr (to x p) ];
+  each = λ x i q. a.each x i (back x q);
+}
+
+-- ---- the groups of a row
+
+-- a group of row r
+abbrev pub in_row : ℕ → Group → RowGroup
+in_row r g = record { row = r; group = g }
+
+-- the group is one of the first n of row r
+abbrev pub IsOfRow : ℕ → List Group → ℕ → RowGroup → Type 0
+IsOfRow r gs n b = (b.row ≡ r) × ((k : ℕ) × (k < n) × (slice_get gs k ≡ Some b.group))
+
+pub puts_group : (r : ℕ) (gs : List Group) (n : ℕ) (d : Group) (old mid new : List (Vec RowGroup Global)) (others more most : List RowGroup) → n < length gs → Puts (IsOfRow r gs n) old others mid more → Puts (λ b. b ≡ in_row r (get_or gs n d)) mid more new most → Puts (IsOfRow r gs (n + 1)) old others new most
+puts_group r gs n d old mid new others more most h =
+    let at : slice_get gs n ≡ Some (get_or gs n d) = slice_get-get_or gs n d h in
+    puts_both (IsOfRow r gs n) (λ b. b ≡ in_row r (get_or gs n d)) (IsOfRow r gs (n + 1)) old mid new others more most
+    (λ b w. (w.0, (w.1.0, omega (arith, w.1.1), w.1.2)))
+    (λ b e. (ap (λ (x : RowGroup). x.row) e, (n, omega arith, at ∙ ap (λ (x : RowGroup). Some x.group) (sym e))))
+    (λ b w. elim (cases_eq w.1.0 n) [
+      | inl e ↦
+          let here : b.row ≡ r = w.0 in
+          let same : b.group ≡ get_or gs n d = same_Some _ _ (sym w.1.2 ∙ ap (slice_get gs) e ∙ at) in
+          inr (ap (λ (z : ℕ). in_row z b.group) here ∙ ap (in_row r) same)
+      | inr ne ↦ inl (w.0, (w.1.0, omega (arith, w.1.1, ne), w.1.2))
+    ])
+
+pub puts_groups : (r : ℕ) (gs : List Group) (n : ℕ) (old new : List (Vec RowGroup Global)) (others more : List RowGroup) → length gs ≤ n → Puts (IsOfRow r gs n) old others new more → Puts (λ b. (b.row ≡ r) × HasGroup gs b.group) old others new more
+puts_groups r gs n old new others more h = puts_as (IsOfRow r gs n) (λ b. (b.row ≡ r) × HasGroup gs b.group) old new others more
+    (λ b w. (w.0, (w.1.0, w.1.2)))
+    (λ b w. (w.0, (w.1.0, omega (arith, h, slice_get_within gs w.1.0 b.group w.1.1), w.1.1)))
+
+-- ---- the rows
+
+-- the group is of one of the first n rows
+abbrev pub IsBelow : Rows → ℕ → RowGroup → Type 0
+IsBelow rows n b = (b.row < n) × IsOfRows rows b
+
+pub puts_row : (rows : Rows) (n : ℕ) (old mid new : List (Vec RowGroup Global)) (others more most : List RowGroup) → Puts (IsBelow rows n) old others mid more → Puts (λ b. (b.row ≡ n) × HasGroup (row rows.rows.items n) b.group) mid more new most → Puts (IsBelow rows (n + 1)) old others new most
+puts_row rows n old mid new others more most = puts_both (IsBelow rows n) (λ b. (b.row ≡ n) × HasGroup (row rows.rows.items n) b.group) (IsBelow rows (n + 1)) old mid new others more most
+    (λ b w. (omega (arith, w.0), w.1))
+    (λ b w. (omega (arith, w.0), subst (λ (r : ℕ). HasGroup (row rows.rows.items r) b.group) (sym w.0) w.1))
+    (λ b w. elim (cases_eq b.row n) [
+      | inl e ↦ inr (e, subst (λ (r : ℕ). HasGroup (row rows.rows.items r) b.group) e w.1)
+      | inr ne ↦ inl (omega (arith, w.0, ne), w.1)
+    ])
+
+has_none : {X : Type 0} (x : X) → HasGroup [] x → ⊥
+has_none x w = none w.0 w.1
+  where
+    none : (k : ℕ) → slice_get [] k ≡ Some x → ⊥
+    none k e = cc
+
+-- the groups of the first m rows are sorted
+abbrev pub SortedBelow : Rows → ℕ → ℕ → List (Vec RowGroup Global) → List RowGroup → Type 0
+SortedBelow rows n m lists others = (start : List (Vec RowGroup Global)) × (length start ≡ n) × ((u : ℕ) → row start u ≡ []) × Puts (IsBelow rows m) start [] lists others
+
+pub sorts_start : (rows : Rows) (n : ℕ) (start : List (Vec RowGroup Global)) → length start ≡ n → ((u : ℕ) → row start u ≡ []) → SortedBelow rows n 0 start []
+sorts_start rows n start long none = (start, long, none, puts_none (IsBelow rows 0) start [] (λ b w. absurd (omega (arith, w.0))))
+
+pub sorts_more : (rows : Rows) (n m : ℕ) (mid new : List (Vec RowGroup Global)) (more most : List RowGroup) → SortedBelow rows n m mid more → Puts (λ b. (b.row ≡ m) × HasGroup (row rows.rows.items m) b.group) mid more new most → SortedBelow rows n (m + 1) new most
+sorts_more rows n m mid new more most w p = (w.0, w.1, w.2, puts_row rows m w.0 mid new [] more most w.3 p)
+
+pub sorts_rows : (rows : Rows) (n m : ℕ) (p : Pairs) → length rows.rows.items ≤ m → SortedBelow rows n m p.beside.items p.others.items → SortsRows rows n p
+sorts_rows rows n m p h w = record {
+  objects = w.3.objects ∙ w.1;
+  beside = λ u b x. elim (w.3.beside u b x) [
+    | inl v ↦ absurd (has_none b (subst (λ (l : List RowGroup). HasGroup l b) (w.2 u) v))
+    | inr v ↦ (v.0.1, v.1)
+  ];
+  others = λ b x. elim (w.3.further b x) [ inl v ↦ absurd (has_none b v) | inr v ↦ v.1 ];
+  each = λ b i x. elim (cases_lt b.row (length rows.rows.items)) [
+    | inl l ↦ w.3.each b i (omega (arith, l, h), x)
+    | inr l ↦ absurd (has_none b.group (subst (λ (gs : List Group). HasGroup gs b.group) (row_past rows.rows.items b.row l) x))
+  ];
+}
+
+-- those of one object more
+pub sort_more : (rows : List Rows) (n : ℕ) (pairs : List Pairs) (p : Pairs) → SortAllRows rows n pairs → ((d : Rows) → SortsRows (get_or rows n d) (length rows) p) → SortAllRows rows (n + 1) (pairs ++ p ∷ [])
+sort_more rows n pairs p h one = record {
+  objects = length_more pairs p ∙ ap (λ (k : ℕ). k + 1) h.objects;
+  each = λ o d q b. elim (cases_eq o n) [
+    | inl e ↦ subst (λ (u : ℕ). SortsRows (get_or rows u d) (length rows) (get_or (pairs ++ p ∷ []) u q)) (sym e) (subst (SortsRows (get_or rows n d) (length rows)) (sym (get_or_push pairs p q n h.objects)) (one d))
+    | inr ne ↦ let low : o < n = omega (arith, b, ne) in subst (SortsRows (get_or rows o d) (length rows)) (sym (get_or_append_left pairs (p ∷ []) q o (omega (arith, low, h.objects)))) (h.each o d q low)
+  ];
+}
+
+-- ---- what the rows say of their groups
+
+pairs_of_rows : (cs : List Cond) (o : ℕ) (picks : List ℕ) (rows : Rows) (n : ℕ) (p : Pairs) → AreRows cs o picks rows → SortsRows rows n p → ArePairs cs o picks n p
+pairs_of_rows cs o picks rows n p a s = record {
+  objects = s.objects;
+  beside = λ u b w. let v = s.beside u b w in (a.groups b.row v.0.0 b.group v.0.1, v.1);
+  others = λ b w. let v = s.others b w in a.groups b.row v.0 b.group v.1;
+  each = λ k h. let w = a.each k h in s.each (in_row w.0 w.1.1) (slice_index picks k) (w.1.0, w.1.2) w.1.3;
+}
+
+pub have_pairs : (cs : List Cond) (picks : List (Vec ℕ Global)) (n : ℕ) (rows : List Rows) (pairs : List Pairs) → HaveRows cs picks n rows → SortAllRows rows (length rows) pairs → HavePairs cs picks n pairs
+have_pairs cs picks n rows pairs r s = record {
+  objects = s.objects ∙ r.objects;
+  each = λ o d h.
+      let b : o < length rows = omega (arith, h, r.objects) in
+      let one = first rows o b in
+      subst (λ (m : ℕ). ArePairs cs o (row picks o) m (get_or pairs o d)) r.objects (pairs_of_rows cs o (row picks o) (get_or rows o one) (length rows) (get_or pairs o d) (r.each o one h) (s.each o one d b));
+}
+  where
+    first : (xs : List Rows) (i : ℕ) → i < length xs → Rows
+    first [] i h = absurd (omega arith)
+    first (x ∷ xs) i h = x

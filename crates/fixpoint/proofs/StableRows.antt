@@ -1,6 +1,6 @@
--- Rows are decided by a search through their groups.
-use Rattle.std.proofs.Common.{◌≡◌, ◌⊎◌, ℕ, zero, suc, ◌+◌, ◌≤◌, List, [], ◌∷◌, length, get_or, slice_index, refl, sym, subst, inl, inr, arith, Some, None, Option, Vec, Global}
-use Rattle.std.specs.Prelude.{slice_get, IfSome, Contains}
+-- Rows and pairs are decided by a search through their groups.
+use Rattle.std.proofs.Common.{◌≡◌, ◌⊎◌, ℕ, zero, suc, ◌≤◌, List, [], ◌∷◌, length, get_or, slice_index, refl, sym, subst, inl, inr, arith, Some, None, Option, Vec, Global}
+use Rattle.std.specs.Prelude.{slice_get, IfSome, Contains, MatchOption}
 use Rattle.std.proofs.Props.{props}
 use Rattle.std.proofs.Math.Logic.{∥∥₁_elim, ∥∥₁_map}
 use Rattle.std.proofs.lemmas.Bool.{cases_eq, cases_lt}
@@ -11,12 +11,12 @@ use Rattle.geo_conditions.proofs.Decide.{Decided, search_below}
 use Rattle.indexical.specs.Faces.{IsBeside}
 use Rattle.object_pruning.specs.declared.rows.Group.{Group}
 use Rattle.object_pruning.specs.declared.rows.Rows.{Rows}
-use Rattle.object_pruning.specs.InRows.{row, IsInGroup, HaveNumber, IsGroup, AreRows}
+use Rattle.object_pruning.specs.InRows.{row, IsInGroup, IsGroup, AreRows}
 use Rattle.fixpoint.specs.declared.links.Links.{Links}
 use Rattle.fixpoint.specs.declared.pairs.Pairs.{Pairs}
-use Rattle.fixpoint.specs.declared.pairs.Run.{Run}
+use Rattle.fixpoint.specs.declared.pairs.RowGroup.{RowGroup}
+use Rattle.fixpoint.specs.Pairs.{ArePairs}
 use Rattle.fixpoint.specs.Links.{AreLinks}
-use Rattle.fixpoint.specs.Pairs.{IsInRun, IsSomewhere, IsPair, ArePairs}
 use Rattle.fixpoint.proofs.Stable.{stable, both}
 
 decide_eq : (a b : ℕ) → Decided (a ≡ b)
@@ -36,47 +36,53 @@ decide_contains xs i = elim (search_below (λ k. get_or xs k i ≡ i) (λ k. dec
   | inr n ↦ inr (λ h. n h.0 h.1 h.2)
 ]
 
--- ---- the number of a group
+-- ---- what is somewhere in a list, or in a list of lists
 
-pub have_none : (i : ℕ) → HaveNumber [] i → ⊥
-have_none i h = at h.0 h.1 h.2
+abbrev Somewhere : {X : Type 0} → (X → Type 0) → List X → Type 0
+Somewhere {X} P xs = (k : ℕ) × (x : X) × (slice_get xs k ≡ Some x) × P x
+
+nowhere : {X : Type 0} (P : X → Type 0) → Somewhere P [] → ⊥
+nowhere {X} P h = at h.0 h.1 h.2
   where
-    at : (k : ℕ) (g : Group) → slice_get [] k ≡ Some g → ⊥
-    at k g e = cc
+    at : (k : ℕ) (x : X) → slice_get [] k ≡ Some x → ⊥
+    at k x e = cc
 
-have_either : (g : Group) (gs : List Group) (i : ℕ) → HaveNumber (g ∷ gs) i → IsInGroup g i ⊎ HaveNumber gs i
-have_either g gs i h = at h.0 h.1 h.2 h.3
+first_or_rest : {X : Type 0} (P : X → Type 0) (x : X) (xs : List X) → Somewhere P (x ∷ xs) → P x ⊎ Somewhere P xs
+first_or_rest {X} P x xs h = at h.0 h.1 h.2 h.3
   where
-    at : (k : ℕ) (x : Group) → slice_get (g ∷ gs) k ≡ Some x → IsInGroup x i → IsInGroup g i ⊎ HaveNumber gs i
-    at zero x e b = inl (subst (λ (y : Group). IsInGroup y i) (sym (same_Some _ _ e)) b)
-    at (suc k) x e b = inr (k, x, e, b)
+    at : (k : ℕ) (y : X) → slice_get (x ∷ xs) k ≡ Some y → P y → P x ⊎ Somewhere P xs
+    at zero y e p = inl (subst P (sym (same_Some _ _ e)) p)
+    at (suc k) y e p = inr (k, y, e, p)
 
-decide_have : (gs : List Group) (i : ℕ) → Decided (HaveNumber gs i)
-decide_have [] i = inr (have_none i)
-decide_have (g ∷ gs) i = elim (both _ _ (decide_le g.first i) (decide_le i g.last)) [
-  | inl b ↦ inl (0, g, refl, b)
-  | inr n ↦ elim (decide_have gs i) [
+decide_in : {X : Type 0} (P : X → Type 0) → ((x : X) → Decided (P x)) → (xs : List X) → Decided (Somewhere P xs)
+decide_in P f [] = inr (nowhere P)
+decide_in P f (x ∷ xs) = elim (f x) [
+  | inl p ↦ inl (0, x, refl, p)
+  | inr n ↦ elim (decide_in P f xs) [
     | inl h ↦ inl (suc h.0, h.1, h.2, h.3)
-    | inr m ↦ inr (λ h. elim (have_either g gs i h) [ inl b ↦ n b | inr k ↦ m k ])
+    | inr m ↦ inr (λ h. elim (first_or_rest P x xs h) [ inl p ↦ n p | inr k ↦ m k ])
   ]
 ]
 
-abbrev SomeRow : List (Vec Group Global) → ℕ → Type 0
-SomeRow vs i = (r : ℕ) × HaveNumber (row vs r) i
+abbrev InSomeRow : {X : Type 0} → (X → Type 0) → List (Vec X Global) → Type 0
+InSomeRow P vs = (r : ℕ) × Somewhere P (row vs r)
 
-row_either : (v : Vec Group Global) (vs : List (Vec Group Global)) (i r : ℕ) → HaveNumber (row (v ∷ vs) r) i → HaveNumber v.items i ⊎ SomeRow vs i
-row_either v vs i zero h = inl h
-row_either v vs i (suc r) h = inr (r, h)
+row_or_rest : {X : Type 0} (P : X → Type 0) (v : Vec X Global) (vs : List (Vec X Global)) (r : ℕ) → Somewhere P (row (v ∷ vs) r) → Somewhere P v.items ⊎ InSomeRow P vs
+row_or_rest P v vs zero h = inl h
+row_or_rest P v vs (suc r) h = inr (r, h)
 
-decide_row : (vs : List (Vec Group Global)) (i : ℕ) → Decided (SomeRow vs i)
-decide_row [] i = inr (λ h. have_none i h.1)
-decide_row (v ∷ vs) i = elim (decide_have v.items i) [
+decide_rows : {X : Type 0} (P : X → Type 0) → ((x : X) → Decided (P x)) → (vs : List (Vec X Global)) → Decided (InSomeRow P vs)
+decide_rows P f [] = inr (λ h. nowhere P h.1)
+decide_rows P f (v ∷ vs) = elim (decide_in P f v.items) [
   | inl h ↦ inl (0, h)
-  | inr n ↦ elim (decide_row vs i) [
+  | inr n ↦ elim (decide_rows P f vs) [
     | inl h ↦ inl (suc h.0, h.1)
-    | inr m ↦ inr (λ h. elim (row_either v vs i h.0 h.1) [ inl k ↦ n k | inr k ↦ m k ])
+    | inr m ↦ inr (λ h. elim (row_or_rest P v vs h.0 h.1) [ inl k ↦ n k | inr k ↦ m k ])
   ]
 ]
+
+in_group : (i : ℕ) (g : Group) → Decided (IsInGroup g i)
+in_group i g = both _ _ (decide_le g.first i) (decide_le i g.last)
 
 -- ---- what merely holds
 
@@ -107,54 +113,22 @@ stable_rows : (cs : List Cond) (o : ℕ) (picks : List ℕ) (rows : Rows) → �
 stable_rows cs o picks rows h = record {
   count = ∥∥₁_elim h (hlevel props) (λ a. a.count);
   groups = λ r k g e. stable_group cs o picks r g (∥∥₁_map h (λ a. a.groups r k g e));
-  each = λ k b. stable _ (decide_row rows.rows.items (slice_index picks k)) (∥∥₁_map h (λ a. a.each k b));
+  each = λ k b. stable _ (decide_rows (λ (g : Group). IsInGroup g (slice_index picks k)) (in_group (slice_index picks k)) rows.rows.items) (∥∥₁_map h (λ a. a.each k b));
 }
 
--- ---- pairs
+stable_named : (u : Option ObjId) (w : ℕ) → ∥ MatchOption u ⊥ (λ v. v.0 ≡ w) ∥₁ → MatchOption u ⊥ (λ v. v.0 ≡ w)
+stable_named None w h = ∥∥₁_elim h (hlevel props) (λ b. b)
+stable_named (Some u) w h = ∥∥₁_elim h (hlevel props) (λ b. b)
 
-decide_at : (r : Run) (i : ℕ) → Decided (IsInRun r i)
-decide_at r i = both _ _ (decide_le r.first i) (elim (cases_lt i (r.first + r.count)) [ inl h ↦ inl h | inr h ↦ inr (λ k. absurd (omega (arith, h, k))) ])
-
-somewhere_none : (i : ℕ) → IsSomewhere [] i → ⊥
-somewhere_none i h = at h.0 h.1.0 h.1.1
-  where
-    at : (u : ℕ) (r : Run) → slice_get [] u ≡ Some r → ⊥
-    at u r e = cc
-
-somewhere_either : (r : Run) (runs : List Run) (i : ℕ) → IsSomewhere (r ∷ runs) i → IsInRun r i ⊎ IsSomewhere runs i
-somewhere_either r runs i h = at h.0 h.1.0 h.1.1 h.1.2
-  where
-    at : (u : ℕ) (x : Run) → slice_get (r ∷ runs) u ≡ Some x → IsInRun x i → IsInRun r i ⊎ IsSomewhere runs i
-    at zero x e b = inl (subst (λ (y : Run). IsInRun y i) (sym (same_Some _ _ e)) b)
-    at (suc u) x e b = inr (u, (x, e, b))
-
-decide_somewhere : (runs : List Run) (i : ℕ) → Decided (IsSomewhere runs i)
-decide_somewhere [] i = inr (somewhere_none i)
-decide_somewhere (r ∷ runs) i = elim (decide_at r i) [
-  | inl b ↦ inl (0, (r, refl, b))
-  | inr n ↦ elim (decide_somewhere runs i) [
-    | inl h ↦ inl (suc h.0, h.1)
-    | inr m ↦ inr (λ h. elim (somewhere_either r runs i h) [ inl b ↦ n b | inr k ↦ m k ])
-  ]
-]
-
-stable_pair : (c : Cond) (o u : ℕ) → ∥ IsPair c o u ∥₁ → IsPair c o u
-stable_pair c o u h = record {
-  apart = λ e. ∥∥₁_elim h (hlevel props) (λ b. b.apart e);
-  named = λ v n. stable _ (either _ _ (decide_eq v o) (decide_eq v u)) (∥∥₁_map h (λ b. b.named v n));
-}
-
-stable_pairs : (cs : List Cond) (o : ℕ) (picks : List ℕ) (n : ℕ) (pairs : Pairs) → ∥ ArePairs cs o picks n pairs ∥₁ → ArePairs cs o picks n pairs
-stable_pairs cs o picks n pairs h = record {
+stable_pairs : (cs : List Cond) (o : ℕ) (picks : List ℕ) (n : ℕ) (p : Pairs) → ∥ ArePairs cs o picks n p ∥₁ → ArePairs cs o picks n p
+stable_pairs cs o picks n p h = record {
   objects = ∥∥₁_elim h (hlevel props) (λ a. a.objects);
-  picks = record {
-    named = record {
-      numbers = λ u i b. ∥∥₁_elim h (hlevel props) (λ a. a.picks.named.numbers u i b);
-      pairs = λ u i x b e. stable_pair x o u (∥∥₁_map h (λ a. a.picks.named.pairs u i x b e));
-      others = λ k d b. ∥∥₁_elim h (hlevel props) (λ a. a.picks.named.others k d b);
-    };
-    each = λ k b. stable _ (either _ _ (decide_somewhere pairs.runs.items (slice_index picks k)) (decide_contains pairs.others.items (slice_index picks k))) (∥∥₁_map h (λ a. a.picks.each k b));
-  };
+  beside = λ u b w. (stable_group cs o picks b.row b.group (∥∥₁_map h (λ a. (a.beside u b w).0)), stable_named b.group.other u (∥∥₁_map h (λ a. (a.beside u b w).1)));
+  others = λ b w. stable_group cs o picks b.row b.group (∥∥₁_map h (λ a. a.others b w));
+  each = λ k b.
+      let i = slice_index picks k in
+      let f : (x : RowGroup) → Decided (IsInGroup x.group i) = λ x. in_group i x.group in
+      stable _ (either _ _ (decide_rows (λ (x : RowGroup). IsInGroup x.group i) f p.beside.items) (decide_in (λ (x : RowGroup). IsInGroup x.group i) f p.others.items)) (∥∥₁_map h (λ a. a.each k b));
 }
 
 -- the links can be taken out

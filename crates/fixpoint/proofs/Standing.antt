@@ -7,11 +7,9 @@ use Rattle.std.proofs.lemmas.List.{get_or_past, get_or_default}
 use Rattle.std.proofs.lemmas.Option.{slice_get-get_or, same_Some}
 use Rattle.geo_conditions.specs.declared.cond.Cond.{Cond}
 use Rattle.geo_conditions.specs.declared.object.ObjId.{ObjId}
-use Rattle.geo_conditions.specs.Conditions.{possible, FitsIn}
+use Rattle.geo_conditions.specs.Conditions.{possible}
 use Rattle.geo_conditions.specs.Reach.{State, reach}
 use Rattle.geo_conditions.specs.Supported.{NoneRefuted}
-use Rattle.indexical.specs.declared.facing.Facing.{Facing}
-use Rattle.indexical.specs.Faces.{Faces, IsBeside}
 use Rattle.indexical.specs.Names.{names}
 use Rattle.indexical.specs.Free.{SparesAnywhere}
 use Rattle.sweep.specs.Picks.{picked}
@@ -50,12 +48,6 @@ retried_anywhere {K} c S o f (None ∷ xs) = ap (λ (l : List (Option (Placed K)
 retried_anywhere {K} c S o f (Some q ∷ xs) =
     ap (λ (b : Bool). (if b then Some q else None) ∷ map (retried c S o) xs) (f q.place q.point.coordinates)
     ∙ ap (λ (l : List (Option (Placed K))). Some q ∷ l) (retried_anywhere c S o f xs)
-
--- the other object that is told is there
-pub other_there : (c : Cond) (S : State) (o : ℕ) (f : Facing) (u : ObjId) → f.other ≡ Some u → Faces c o f → FitsIn c S → u.0 < length S
-other_there c S o f u is faces fits =
-    let b : IsBeside c o u.0 f.other_place = subst (λ (v : Option ObjId). IfSome v (λ w. IsBeside c o w.0 f.other_place)) is faces.other in
-    b.exists S fits
 
 -- asked again, points stay at which the condition is possible
 pub retries_asked : {K : ℕ} (c : Cond) (S : State) (o : ℕ) (marks : List Bool) (old new : List (Option (Placed K))) → new ≡ map (retried c S o) old → RetriesMarked c S o marks old new

@@ -1,15 +1,14 @@
 -- What propagation of parts says of the conditions that were taken apart.
-use Rattle.std.proofs.Common.{◌≡◌, ℕ, zero, suc, ◌+◌, ◌-◌, ◌<◌, ◌≤◌, Bool, true, false, List, [], ◌∷◌, ◌++◌, length, map, take, drop, get_or, refl, sym, ap, ◌∙◌, subst, inl, inr, arith, ℤ, Result, Ok, Err, Some, Option}
+use Rattle.std.proofs.Common.{◌≡◌, ℕ, ◌+◌, ◌-◌, ◌<◌, Bool, true, List, [], ◌∷◌, ◌++◌, length, map, take, drop, get_or, refl, sym, ap, ◌∙◌, subst, inl, inr, arith, ℤ, Result, Ok, Err, Some}
 use Rattle.std.proofs.Props.{props}
 use Rattle.std.proofs.Math.Logic.{∥∥₁_elim}
 use Rattle.std.specs.Prelude.{slice_get, IfOk}
-use Rattle.std.specs.List.{All}
-use Rattle.std.proofs.lemmas.Bool.{cases_Bool, cases_lt, false≢true}
+use Rattle.std.proofs.lemmas.Bool.{cases_Bool, cases_lt}
 use Rattle.std.proofs.lemmas.List.{append_cancel_left, get_or-take, length-take}
 use Rattle.std.proofs.Math.Seq.{take-append_seam, drop-append_seam}
 use Rattle.std.proofs.lemmas.Option.{slice_get-get_or, get_or_from_slice_get, slice_get_within}
 use Rattle.geo_conditions.specs.declared.cond.Cond.{Cond, Lin, Shape, NotShape, AtLeast', Row_of-Cond, end_of-Cond, more_of-Cond}
-use Rattle.geo_conditions.specs.Reach.{State, just, with_at, Exists}
+use Rattle.geo_conditions.specs.Reach.{State, just, with_at}
 use Rattle.geo_conditions.specs.Conditions.{possible, FitsIn, AllFitIn, AllFit}
 use Rattle.geo_conditions.specs.Supported.{NoneRefuted, Supports, IsSupported}
 use Rattle.geo_conditions.proofs.Defaults.{any_default}

@@ -17,8 +17,7 @@ use Rattle.fixpoint.specs.declared.links.Links.{Links}
 use Rattle.geo_conditions.specs.declared.object.ObjId.{ObjId}
 use Rattle.fixpoint.specs.Links.{AreLinks, AreSomeRows, IsByPlace, row, is_among}
 use Rattle.fixpoint.specs.Marks.{MarkRows, is_marked, IsSquare, MarksAt, NotesChanges}
-use Rattle.fixpoint.specs.Near.{Unhinders, Unhindered, UnhinderedBy}
-use Rattle.fixpoint.specs.Pairs.{IsPair}
+use Rattle.fixpoint.specs.Near.{IsPair, Unhinders, Unhindered, UnhinderedBy}
 use Rattle.fixpoint.specs.Queue.{Queues, CatchesUp}
 use Rattle.fixpoint.proofs.Linking.{row_set_same, row_set_other, row_before, row_last, length_more, nth, each_named, among_not}
 

@@ -9,6 +9,7 @@ use Rattle.geo_conditions.specs.Conditions.{possible}
 use Rattle.geo_conditions.specs.Reach.{State}
 use Rattle.indexical.specs.Names.{names}
 use Rattle.object_pruning.specs.declared.kept.Placed.{Placed}
+use Rattle.object_pruning.specs.Gathered.{AllPossible}
 use Rattle.object_pruning.specs.Kept.{placed}
 use Rattle.fixpoint.specs.Links.{row}
 use Rattle.fixpoint.specs.Marks.{MarkRows, NamesUnmarked}
@@ -47,10 +48,18 @@ pub record StandsAlone {K : ℕ} (cs : List Cond) (S : State) (o : ℕ) (old new
   pub others : (u : ℕ) → u ≢ o → row new u ≡ row old u
   pub itself : Stand cs S o (row new o)
 
--- what is kept was kept, and each condition of those numbers is possible there, or it names no marked object
+-- with the object at q each condition of those numbers is possible, or it names no marked object
+abbrev pub AreAsked : {K : ℕ} → List Cond → State → ℕ → List Bool → (ℕ → Type 0) → Placed K → Type 0
+AreAsked cs S o marks Those q = (k : ℕ) (x : Cond) → Those k → slice_get cs (k - 1) ≡ Some x → NamesUnmarked marks x ⊎ (possible x (placed S o q) ≡ true)
+
+-- what is kept in the slot was kept, and each condition of those numbers is possible there
+abbrev pub AsksSlot : {K : ℕ} → List Cond → State → ℕ → (ℕ → Type 0) → Option (Placed K) → Option (Placed K) → Type 0
+AsksSlot {K} cs S o Those old new = (q : Placed K) → new ≡ Some q → (old ≡ Some q) × AllPossible cs (placed S o q) Those
+
+-- what is kept was kept, and those conditions were asked there
 pub record RetriesThose {K : ℕ} (cs : List Cond) (S : State) (o : ℕ) (marks : List Bool) (Those : ℕ → Type 0) (old new : List (Option (Placed K))) : Type 0 where
   pub stay : (i : ℕ) (q : Placed K) → slice_index_or new i None ≡ Some q → slice_index_or old i None ≡ Some q
-  pub tried : (k : ℕ) (x : Cond) → Those k → slice_get cs (k - 1) ≡ Some x → (i : ℕ) (q : Placed K) → slice_index_or new i None ≡ Some q → NamesUnmarked marks x ⊎ (possible x (placed S o q) ≡ true)
+  pub tried : (i : ℕ) (q : Placed K) → slice_index_or new i None ≡ Some q → AreAsked cs S o marks Those q
 
 -- what is kept was kept, and the condition is possible there if it names a marked object
 pub record RetriesMarked {K : ℕ} (c : Cond) (S : State) (o : ℕ) (marks : List Bool) (old new : List (Option (Placed K))) : Type 0 where

@@ -12,7 +12,7 @@ use Rattle.object_pruning.specs.InRows.{AreRows, HaveNumber}
 pub use Rattle.object_pruning.specs.InRows.{row}
 use Rattle.fixpoint.specs.declared.links.Links.{Links}
 use Rattle.fixpoint.specs.declared.pairs.Pairs.{Pairs}
-use Rattle.fixpoint.specs.Pairs.{ArePairs}
+use Rattle.fixpoint.specs.Pairs.{ArePairs, SortsRows}
 
 -- the numbers, from 1 and rising, are those of the first n conditions that meet the test
 pub record NumbersOf (test : Cond → Bool) (cs : List Cond) (n : ℕ) (numbers : List ℕ) : Type 0 where
@@ -55,10 +55,15 @@ pub record HaveRows (cs : List Cond) (picks : List (Vec ℕ Global)) (n : ℕ) (
   pub objects : length rows ≡ n
   pub each : (o : ℕ) (d : Rows) → o < n → AreRows cs o (row picks o) (slice_index_or rows o d)
 
--- there are pairs for each of the first m of n objects, and they have its picks
-pub record HavePairs (cs : List Cond) (picks : List (Vec ℕ Global)) (n m : ℕ) (pairs : List Pairs) : Type 0 where
-  pub objects : length pairs ≡ m
-  pub each : (o : ℕ) (d : Pairs) → o < m → ArePairs cs o (row picks o) n (slice_index_or pairs o d)
+-- there are pairs for the rows of each of the first n objects
+pub record SortAllRows (rows : List Rows) (n : ℕ) (pairs : List Pairs) : Type 0 where
+  pub objects : length pairs ≡ n
+  pub each : (o : ℕ) (d : Rows) (p : Pairs) → o < n → SortsRows (slice_index_or rows o d) (length rows) (slice_index_or pairs o p)
+
+-- there are pairs for each of n objects, and they have its picks
+pub record HavePairs (cs : List Cond) (picks : List (Vec ℕ Global)) (n : ℕ) (pairs : List Pairs) : Type 0 where
+  pub objects : length pairs ≡ n
+  pub each : (o : ℕ) (d : Pairs) → o < n → ArePairs cs o (row picks o) n (slice_index_or pairs o d)
 
 -- the links between the conditions and n objects
 pub record AreLinks (cs : List Cond) (n : ℕ) (l : Links) : Type 0 where
@@ -68,7 +73,7 @@ pub record AreLinks (cs : List Cond) (n : ℕ) (l : Links) : Type 0 where
   pub picks : (o : ℕ) → o < n → PicksOf cs o (row l.picks.items o)
   pub bare : BareOf cs n l.bare.items
   pub rows : HaveRows cs l.picks.items n l.rows.items
-  pub pairs : HavePairs cs l.picks.items n n l.pairs.items
+  pub pairs : HavePairs cs l.picks.items n l.pairs.items
 
 -- the list, with the number at its end where the test is met
 abbrev pub put_where : Bool → ℕ → List ℕ → List ℕ

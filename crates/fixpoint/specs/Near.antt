@@ -1,5 +1,5 @@
 -- What the conditions that name an object say of it.
-use Rattle.std.specs.Prelude.{◌≡◌, ◌⊎◌, ℕ, ◌-◌, ◌<◌, true, false, List, length, slice_get, Some, ℤ}
+use Rattle.std.specs.Prelude.{◌≡◌, ◌≢◌, ◌⊎◌, ℕ, ◌-◌, ◌<◌, true, false, List, length, slice_get, Some, ℤ}
 use Rattle.std.specs.List.{All}
 use Rattle.geo_base.specs.Boxes.{coordinate}
 use Rattle.geo_conditions.specs.declared.cond.Cond.{Cond}
@@ -7,6 +7,11 @@ use Rattle.geo_conditions.specs.Reach.{State, reach, has, low, high, dims, just,
 use Rattle.geo_conditions.specs.Conditions.{possible}
 use Rattle.indexical.specs.Free.{SparesAnywhere}
 use Rattle.indexical.specs.Names.{names}
+
+-- u is another object than o, and the condition names no third one
+pub record IsPair (c : Cond) (o u : ℕ) : Type 0 where
+  pub apart : u ≢ o
+  pub named : (v : ℕ) → names v c ≡ true → (v ≡ o) ⊎ (v ≡ u)
 
 -- if the condition names the object, it is possible wherever that is put
 abbrev pub Unhinders : Cond → State → ℕ → Type 0

@@ -1,22 +1,22 @@
 //! Points that are kept of the objects, and asked again where something changed.
 
-ghost use Rattle.std.specs.Prelude.{◌≡◌, ℕ, ◌-◌, ◌<◌, ◌≤◌, Bool, Contains, false, None, List, length, map, slice_index_or, IfOk, IsTrue};
+ghost use Rattle.std.specs.Prelude.{◌≡◌, ℕ, ◌-◌, ◌<◌, ◌≤◌, Bool, false, List, None, Some, length, map, slice_get, slice_index_or, IfOk, IsTrue};
 ghost use Rattle.std.specs.List.{All, list_any};
 ghost use Rattle.geo_conditions.specs.Conditions.{AllFit, FitsIn};
-ghost use Rattle.indexical.specs.Free.{SparesAnywhere};
-ghost use Rattle.sweep.specs.Picks.{ArePicks};
 ghost use Rattle.object_pruning.specs.Kept.{retried};
-ghost use Rattle.fixpoint.specs.Pairs.{IsInRun, IsSomewhere, NamePairs};
+ghost use Rattle.object_pruning.specs.InRows.{IsInGroup};
 ghost use Rattle.fixpoint.specs.Links.{AreLinks, NamedBy};
-ghost use Rattle.fixpoint.specs.Kept.{AllStand, IsBlank, RetriesMarked, RetriesThose, Stand, StandBut, StandsAlone};
+ghost use Rattle.fixpoint.specs.declared.pairs.RowGroup.{RowGroup};
+ghost use Rattle.fixpoint.specs.Pairs.{AreSomePairs, HaveBeside, HaveIn, IsGroupOf, IsOther};
+ghost use Rattle.fixpoint.specs.Kept.{AllStand, AsksSlot, IsBlank, RetriesMarked, RetriesThose, Stand, StandBut, StandsAlone};
 ghost use Rattle.fixpoint.specs.Marks.{IsCleared, IsSquare};
 
 use super::links::Links;
-use super::pairs::{Pairs, Run};
+use super::pairs::{Pairs, RowGroup};
 use geo_base::MAX_DIMS;
 use geo_conditions::{ObjId, State};
 use indexical::{AnyIndexical, Watched};
-use object_pruning::{Placed, retry, slots};
+use object_pruning::{Group, Placed, can_be_in_the_way, is_group_possible, retry, slots};
 use std::alloc::{AllocError, Global};
 
 /// The slots of an object, with nothing kept. The answer is an error where memory is short.
@@ -46,62 +46,8 @@ pub fn all_blank<const K: usize>(
     Ok(kept)
 }
 
-// Whether the condition is surely possible wherever the object is put: it asks for a place of another object, which has not that
-// place alone.
-fn is_spared_by_other<const K: usize>(x: &AnyIndexical<K>, o: ObjId, s: &State<K>) -> bool
-    requires k { K ≤ MAX_DIMS }
-    requires fits { FitsIn x.now.cond s.now }
-    requires object { o.0 < length s.now }
-    ensures { IsTrue result → SparesAnywhere x.now.cond s.now o.0 }
-{
-    let facing = x.facing(o);
-    if facing.other_place == 0 {
-        return false;
-    }
-    match facing.other {
-        Some(u) => !s.is_only_shape(u, facing.other_place),
-        None => false,
-    }
-}
-
-// Asks the condition again at what is kept of the object, and forgets where it is refuted. Where it is possible wherever the object
-// is, since another one has not the place that it asks for, there is nothing to ask.
-fn retry_faced<const K: usize>(
-    x: &AnyIndexical<K>,
-    o: ObjId,
-    s: &State<K>,
-    kept: &mut [Option<Placed<K>>],
-)
-    requires k { K ≤ MAX_DIMS }
-    requires fits { FitsIn x.now.cond s.now }
-    requires object { o.0 < length s.now }
-    ensures { kept.new ≡ map (retried x.now.cond s.now o.0) kept.old }
-{
-    if is_spared_by_other(x, o, s) {
-        return;
-    }
-    retry(kept, s, o, x);
-}
-
-// The same. Nor is there where enough parts are possible that do not name the object.
-fn retry_object<const K: usize>(
-    x: &AnyIndexical<K>,
-    o: ObjId,
-    s: &State<K>,
-    kept: &mut [Option<Placed<K>>],
-)
-    requires k { K ≤ MAX_DIMS }
-    requires fits { FitsIn x.now.cond s.now }
-    requires object { o.0 < length s.now }
-    ensures { kept.new ≡ map (retried x.now.cond s.now o.0) kept.old }
-{
-    if x.surely_spares_anywhere(s, o) {
-        return;
-    }
-    retry_faced(x, o, s, kept);
-}
-
-// The same, with what is watched of the condition.
+// Asks the condition again at what is kept of the object, and forgets where it is refuted. Where enough parts are possible that do
+// not name the object, by what is watched of them, there is nothing to ask.
 fn retry_watched<const K: usize>(
     x: &AnyIndexical<K>,
     o: ObjId,
@@ -117,7 +63,7 @@ fn retry_watched<const K: usize>(
     if x.surely_spares_watched(s, o, watched) {
         return;
     }
-    retry_faced(x, o, s, kept);
+    retry(kept, s, o, x);
 }
 
 // Whether one of the objects is marked.
@@ -187,25 +133,55 @@ fn retry_number<const K: usize>(
     );
 }
 
-// Asks the conditions of a run again at what is kept of the object, and forgets where one is refuted.
-fn retry_run<const K: usize>(
+// Asks the conditions of a group again that name a marked object.
+fn retry_group<const K: usize>(
     list: &[AnyIndexical<K>],
+    links: &Links,
+    group: &Group,
     o: ObjId,
     s: &State<K>,
-    run: &Run,
+    marks: &[bool],
+    watched: &mut [Watched],
     kept: &mut [Option<Placed<K>>],
 )
     requires k { K ≤ MAX_DIMS }
     requires fits { AllFit (map (λ x. x.cond) list.now) s.now }
-    requires object { o.0 < length s.now }
-    requires numbers { (i : ℕ) → IsInRun run.now i → (0 < i) × (i - 1 < length list.now) }
-    ensures { (marks : List Bool) → RetriesThose (map (λ x. x.cond) list.now) s.now o.0 marks
-        (IsInRun run.now) kept.old kept.new }
+    requires links { AreLinks (map (λ x. x.cond) list.now) (length s.now) links.now }
+    requires object { (o.0 < length s.now) × (length marks.now ≡ length s.now) }
+    requires numbers { (i : ℕ) → IsInGroup group.now i → (0 < i) × (i - 1 < length list.now) }
+    requires watched { length watched.old ≡ length list.now }
+    ensures { RetriesThose (map (λ x. x.cond) list.now) s.now o.0 marks.now
+        (IsInGroup group.now) kept.old kept.new }
 {
-    let first = run.first as usize;
-    let end = first + run.count as usize;
+    let first = group.first as usize;
+    let end = group.last as usize + 1;
     for i in first..end {
-        retry_object(&list[i - 1], o, s, kept);
+        retry_number(list, links, o, s, marks, i as u32, watched, kept);
+    }
+}
+
+// The same for each of the groups.
+fn ask_others<const K: usize>(
+    list: &[AnyIndexical<K>],
+    links: &Links,
+    others: &[RowGroup],
+    o: ObjId,
+    s: &State<K>,
+    marks: &[bool],
+    watched: &mut [Watched],
+    kept: &mut [Option<Placed<K>>],
+)
+    requires k { K ≤ MAX_DIMS }
+    requires fits { AllFit (map (λ x. x.cond) list.now) s.now }
+    requires links { AreLinks (map (λ x. x.cond) list.now) (length s.now) links.now }
+    requires object { (o.0 < length s.now) × (length marks.now ≡ length s.now) }
+    requires numbers { (i : ℕ) → HaveIn others.now i → (0 < i) × (i - 1 < length list.now) }
+    requires watched { length watched.old ≡ length list.now }
+    ensures { RetriesThose (map (λ x. x.cond) list.now) s.now o.0 marks.now
+        (HaveIn others.now) kept.old kept.new }
+{
+    for k in 0..others.len() {
+        retry_group(list, links, &others[k].group, o, s, marks, watched, kept);
     }
 }
 
@@ -217,7 +193,123 @@ fn is_either_marked(own: bool, marks: &[bool], u: usize) -> bool
     own || marks[u]
 }
 
-// The same for the run of each marked object, or of each one where the object itself is marked.
+// Forgets what is kept in a slot where a condition of the group is refuted. Those of a row of a place ask for that place of the
+// object.
+fn ask_slot<const K: usize>(
+    list: &[AnyIndexical<K>],
+    r: usize,
+    group: &Group,
+    o: ObjId,
+    s: &State<K>,
+    slot: &mut Option<Placed<K>>,
+)
+    requires k { K ≤ MAX_DIMS }
+    requires fits { AllFit (map (λ x. x.cond) list.now) s.now }
+    requires object { o.0 < length s.now }
+    requires group { IsGroupOf (map (λ x. x.cond) list.now) o.0 r group.now }
+    ensures { AsksSlot (map (λ x. x.cond) list.now) s.now o.0 (IsInGroup group.now)
+        slot.old slot.new }
+{
+    if let Some(q) = slot {
+        if r != 0 && r != usize::from(q.place) {
+            return;
+        }
+        if !is_group_possible(s, o, q, list, group) {
+            *slot = None;
+        }
+    }
+}
+
+// The same for all slots of the object.
+fn ask_slots<const K: usize>(
+    list: &[AnyIndexical<K>],
+    r: usize,
+    group: &Group,
+    o: ObjId,
+    s: &State<K>,
+    kept: &mut [Option<Placed<K>>],
+)
+    requires k { K ≤ MAX_DIMS }
+    requires fits { AllFit (map (λ x. x.cond) list.now) s.now }
+    requires object { o.0 < length s.now }
+    requires group { IsGroupOf (map (λ x. x.cond) list.now) o.0 r group.now }
+    ensures { (marks : List Bool) → RetriesThose (map (λ x. x.cond) list.now) s.now o.0 marks
+        (IsInGroup group.now) kept.old kept.new }
+{
+    for i in 0..kept.len() {
+        ask_slot(list, r, group, o, s, &mut kept[i]);
+    }
+}
+
+// The same, of which nothing is asked where the conditions cannot be in the way.
+fn ask_group<const K: usize>(
+    list: &[AnyIndexical<K>],
+    b: &RowGroup,
+    o: ObjId,
+    s: &State<K>,
+    kept: &mut [Option<Placed<K>>],
+)
+    requires k { K ≤ MAX_DIMS }
+    requires fits { AllFit (map (λ x. x.cond) list.now) s.now }
+    requires object { o.0 < length s.now }
+    requires group { IsGroupOf (map (λ x. x.cond) list.now) o.0 b.now.row b.now.group }
+    ensures { (marks : List Bool) → RetriesThose (map (λ x. x.cond) list.now) s.now o.0 marks
+        (IsInGroup b.now.group) kept.old kept.new }
+{
+    if !can_be_in_the_way(s, &b.group) {
+        return;
+    }
+    ask_slots(list, b.row, &b.group, o, s, kept);
+}
+
+// The same for each of the groups.
+fn ask_groups<const K: usize>(
+    list: &[AnyIndexical<K>],
+    groups: &[RowGroup],
+    o: ObjId,
+    s: &State<K>,
+    kept: &mut [Option<Placed<K>>],
+)
+    requires k { K ≤ MAX_DIMS }
+    requires fits { AllFit (map (λ x. x.cond) list.now) s.now }
+    requires object { o.0 < length s.now }
+    requires groups { (k : ℕ) (b : RowGroup) → slice_get groups.now k ≡ Some b
+        → IsGroupOf (map (λ x. x.cond) list.now) o.0 b.row b.group }
+    ensures { (marks : List Bool) → RetriesThose (map (λ x. x.cond) list.now) s.now o.0 marks
+        (HaveIn groups.now) kept.old kept.new }
+{
+    for k in 0..groups.len() {
+        ask_group(list, &groups[k], o, s, kept);
+    }
+}
+
+// The same where the object u of the groups is marked, or the object itself.
+fn ask_beside<const K: usize>(
+    list: &[AnyIndexical<K>],
+    groups: &[RowGroup],
+    u: usize,
+    o: ObjId,
+    s: &State<K>,
+    marks: &[bool],
+    own: bool,
+    kept: &mut [Option<Placed<K>>],
+)
+    requires k { K ≤ MAX_DIMS }
+    requires fits { AllFit (map (λ x. x.cond) list.now) s.now }
+    requires object { (o.0 < length s.now) × (u < length marks.now) }
+    requires groups { (k : ℕ) (b : RowGroup) → slice_get groups.now k ≡ Some b
+        → IsGroupOf (map (λ x. x.cond) list.now) o.0 b.row b.group × IsOther b.group u }
+    requires own { own ≡ slice_index_or marks.now o.0 false }
+    ensures { RetriesThose (map (λ x. x.cond) list.now) s.now o.0 marks.now
+        (HaveIn groups.now) kept.old kept.new }
+{
+    if !is_either_marked(own, marks, u) {
+        return;
+    }
+    ask_groups(list, groups, o, s, kept);
+}
+
+// The same for the groups of each other object.
 fn ask_pairs<const K: usize>(
     list: &[AnyIndexical<K>],
     pairs: &Pairs,
@@ -229,43 +321,13 @@ fn ask_pairs<const K: usize>(
     requires k { K ≤ MAX_DIMS }
     requires fits { AllFit (map (λ x. x.cond) list.now) s.now }
     requires object { (o.0 < length s.now) × (length marks.now ≡ length s.now) }
-    requires runs { length pairs.now.runs.items ≡ length s.now }
-    requires pairs { NamePairs (map (λ x. x.cond) list.now) o.0
-        pairs.now.runs.items pairs.now.others.items }
+    requires pairs { AreSomePairs (map (λ x. x.cond) list.now) o.0 (length s.now) pairs.now }
     ensures { RetriesThose (map (λ x. x.cond) list.now) s.now o.0 marks.now
-        (IsSomewhere pairs.now.runs.items) kept.old kept.new }
+        (HaveBeside pairs.now.beside.items) kept.old kept.new }
 {
-    let runs = pairs.runs.as_slice();
     let own = marks[o.0 as usize];
-    for u in 0..runs.len() {
-        if is_either_marked(own, marks, u) {
-            retry_run(list, o, s, &runs[u], kept);
-        }
-    }
-}
-
-// The same for each of the numbers whose condition names a marked object.
-fn ask_others<const K: usize>(
-    list: &[AnyIndexical<K>],
-    links: &Links,
-    others: &[u32],
-    o: ObjId,
-    s: &State<K>,
-    marks: &[bool],
-    watched: &mut [Watched],
-    kept: &mut [Option<Placed<K>>],
-)
-    requires k { K ≤ MAX_DIMS }
-    requires fits { AllFit (map (λ x. x.cond) list.now) s.now }
-    requires links { AreLinks (map (λ x. x.cond) list.now) (length s.now) links.now }
-    requires object { (o.0 < length s.now) × (length marks.now ≡ length s.now) }
-    requires others { ArePicks (length list.now) others.now }
-    requires watched { length watched.old ≡ length list.now }
-    ensures { RetriesThose (map (λ x. x.cond) list.now) s.now o.0 marks.now
-        (Contains others.now) kept.old kept.new }
-{
-    for k in 0..others.len() {
-        retry_number(list, links, o, s, marks, others[k], watched, kept);
+    for u in 0..pairs.beside.len() {
+        ask_beside(list, &pairs.beside[u], u, o, s, marks, own, kept);
     }
 }
 

@@ -2,7 +2,7 @@
 
 ghost use Rattle.std.specs.Prelude.{◌≡◌, ℕ, ◌<◌, ◌≤◌, [], length, map, IfOk};
 ghost use Rattle.sweep.specs.Picks.{ArePicks};
-ghost use Rattle.fixpoint.specs.Links.{AreLinks, HavePairs, HaveRows, NamedBy, Numbers, row};
+ghost use Rattle.fixpoint.specs.Links.{AreLinks, HaveRows, NamedBy, Numbers, SortAllRows, row};
 
 use super::pairs::{Pairs, pairs_of};
 use geo_conditions::{MAX_OBJECTS, ObjId};
@@ -21,7 +21,7 @@ pub struct Links {
     pub bare: Vec<u32>,
     /// For each object its numbers in rows, by the places that the conditions ask for.
     pub rows: Vec<Rows>,
-    /// For each object its numbers by the other objects that the conditions name.
+    /// For each object the groups of its rows by the other objects that the conditions name.
     pub pairs: Vec<Pairs>,
 }
 
@@ -79,22 +79,14 @@ fn all_rows<const K: usize>(
     Ok(rows)
 }
 
-// The pairs of each object, by its numbers.
-fn all_pairs<const K: usize>(
-    alloc: Global,
-    list: &[AnyIndexical<K>],
-    picks: &[Vec<u32>],
-) -> Result<Vec<Pairs>, AllocError>
-    requires objects { length picks.now ≤ MAX_OBJECTS }
-    requires picks { (o : ℕ) → o < length picks.now
-        → ArePicks (length list.now) (row picks.now o) }
-    ensures { IfOk result (λ v. HavePairs (map (λ x. x.cond) list.now) picks.now
-        (length picks.now) (length picks.now) v.items) }
+// The pairs of each object, by its rows.
+fn all_pairs(alloc: Global, rows: &[Rows]) -> Result<Vec<Pairs>, AllocError>
+    ensures { IfOk result (λ v. SortAllRows rows.now (length rows.now) v.items) }
 {
-    let objects = picks.len();
+    let objects = rows.len();
     let mut pairs = Vec::new(alloc);
     for o in 0..objects {
-        let own = pairs_of(alloc, list, &picks[o], ObjId(o as u16), objects)?;
+        let own = pairs_of(alloc, &rows[o], objects)?;
         pairs.push(own)?;
     }
     Ok(pairs)
@@ -123,7 +115,7 @@ pub fn links_of<const K: usize>(
         named.push(those)?;
     }
     let rows = all_rows(alloc, list, &picks)?;
-    let pairs = all_pairs(alloc, list, &picks)?;
+    let pairs = all_pairs(alloc, &rows)?;
     Ok(Links {
         named,
         picks,

@@ -9,8 +9,7 @@ ghost use Rattle.object_pruning.specs.declared.rows.Group.{Group};
 ghost use Rattle.object_pruning.specs.InRows.{HaveNumber, IsInGroup, IsSomeGroup};
 ghost use Rattle.fixpoint.specs.Links.{AreLinks, AreSomeRows, IsByPlace, NamedBy, is_among};
 ghost use Rattle.fixpoint.specs.Marks.{IsSquare, MarksAt, is_marked};
-ghost use Rattle.fixpoint.specs.Near.{Unhindered, UnhinderedBy, Unhinders};
-ghost use Rattle.fixpoint.specs.Pairs.{IsPair};
+ghost use Rattle.fixpoint.specs.Near.{IsPair, Unhindered, UnhinderedBy, Unhinders};
 ghost use Rattle.fixpoint.specs.Queue.{Queues};
 
 use super::links::Links;

@@ -24,7 +24,7 @@ fn is_number_possible<const K: usize, I: Indexical<K>>(
     list: &[I],
     number: u32,
 ) -> bool
-    requires k { (0 < K) × (K ≤ MAX_DIMS) }
+    requires k { K ≤ MAX_DIMS }
     requires fits { AllFit (map I.cond list.now) s.now }
     requires object { o.0 < length s.now }
     requires number { (0 < number) × (number - 1 < length list.now) }
@@ -42,7 +42,7 @@ fn are_possible<const K: usize, I: Indexical<K>>(
     list: &[I],
     group: &Group,
 ) -> bool
-    requires k { (0 < K) × (K ≤ MAX_DIMS) }
+    requires k { K ≤ MAX_DIMS }
     requires fits { AllFit (map I.cond list.now) s.now }
     requires object { o.0 < length s.now }
     requires numbers { (i : ℕ) → IsInGroup group.now i → (0 < i) × (i - 1 < length list.now) }
@@ -59,15 +59,15 @@ fn are_possible<const K: usize, I: Indexical<K>>(
     true
 }
 
-// The same, of which nothing is asked where the conditions cannot be in the way.
-fn is_group_possible<const K: usize, I: Indexical<K>>(
+/// Whether all conditions of a group are possible with the object there. Nothing is asked where they cannot be in the way.
+pub fn is_group_possible<const K: usize, I: Indexical<K>>(
     s: &State<K>,
     o: ObjId,
     q: &Placed<K>,
     list: &[I],
     group: &Group,
 ) -> bool
-    requires k { (0 < K) × (K ≤ MAX_DIMS) }
+    requires k { K ≤ MAX_DIMS }
     requires fits { AllFit (map I.cond list.now) s.now }
     requires object { o.0 < length s.now }
     requires group { IsSomeGroup (map I.cond list.now) o.0 group.now }

@@ -1,29 +1,25 @@
-use Rattle.std.proofs.Common.{◌≡◌, ◌+◌, length, map, arith, rules, slice_index}
-use Rattle.std.specs.Prelude.{Contains}
+use Rattle.std.proofs.Common.{◌≡◌, ℕ, ◌-◌, ◌<◌, None, length, map, get_or, ◌∙◌, arith, rules}
+use Rattle.std.proofs.lemmas.Option.{slice_get-get_or}
 use Rattle.indexical.specs.declared.any.AnyIndexical.{AnyIndexical}
-use Rattle.sweep.proofs.PickedConditions.{pick_in}
-use Rattle.fixpoint.proofs.Asked.{AmongFirst, those_none, those_both, those_as, among_more, among_all}
+use Rattle.fixpoint.specs.declared.pairs.RowGroup.{RowGroup}
+use Rattle.object_pruning.specs.InRows.{IsInGroup}
+use Rattle.fixpoint.proofs.Asked.{InBelow, those_none, those_group, those_groups}
 use Rattle.fixpoint.proofs.kept.ask_others.Goals as goal
 
 pub loop-k-init : goal.loop-k-init
-loop-k-init g c = those_none (map (λ (x : AnyIndexical g.row.K). x.cond) c.args.list.now) c.args.s.now c.args.o.0 c.args.marks.now (AmongFirst c.args.others.now 0) c.args.kept.now (λ i p. absurd (omega (arith, p.1)))
+loop-k-init g c = those_none (map (λ (x : AnyIndexical g.row.K). x.cond) c.args.list.now) c.args.s.now c.args.o.0 c.args.marks.now (InBelow c.args.others.now 0) c.args.kept.now (λ i p. absurd (omega (arith, p.2)))
 
-pub retry_number-requires : goal.retry_number-requires
-retry_number-requires g c =
-    let number = pick_in (length c.args.list.now) c.args.others.now c.loop-k.k c.requires.others c.loop-k-test.true in
+pub retry_group-requires : goal.retry_group-requires
+retry_group-requires g c =
+    let gs = c.args.others.now in
+    let k = c.loop-k.k in
+    let none : RowGroup = record { row = 0; group = record { other = None; other_place = 0; first = 0; last = 0 } } in
+    let numbers : (i : ℕ) → IsInGroup (get_or gs k none).group i → (0 < i) × (i - 1 < length c.args.list.now) = λ i b. c.requires.numbers i (k, get_or gs k none, slice_get-get_or gs k none c.loop-k-test.true, b) in
+    let watched : length c.loop-k.watched ≡ length c.args.list.now = c.loop-k.auto.watched ∙ c.requires.watched in
     search rules
 
 pub loop-k-preserved : goal.loop-k-preserved
-loop-k-preserved g c =
-    let others = c.args.others.now in
-    let k = c.loop-k.k in
-    those_both (map (λ (x : AnyIndexical g.row.K). x.cond) c.args.list.now) c.args.s.now c.args.o.0 c.args.marks.now (AmongFirst others k) (λ i. i ≡ slice_index others k) (AmongFirst others (k + 1)) c.args.kept.now c.loop-k.kept c.retry_number.new.kept
-    (among_more others k)
-    c.loop-k.invariant
-    c.retry_number.ensures
+loop-k-preserved g c = those_group (map (λ (x : AnyIndexical g.row.K). x.cond) c.args.list.now) c.args.s.now c.args.o.0 c.args.marks.now c.args.others.now c.loop-k.k _ c.args.kept.now c.loop-k.kept c.retry_group.new.kept c.loop-k-test.true c.loop-k.invariant c.retry_group.ensures
 
 pub returns : goal.returns
-returns g c =
-    let others = c.args.others.now in
-    let k = c.loop-k.k in
-    those_as (map (λ (x : AnyIndexical g.row.K). x.cond) c.args.list.now) c.args.s.now c.args.o.0 c.args.marks.now (AmongFirst others k) (Contains others) c.args.kept.now c.loop-k.kept (λ i a. among_all others k i (omega (arith, c.loop-k-test.false)) a) c.loop-k.invariant
+returns g c = those_groups (map (λ (x : AnyIndexical g.row.K). x.cond) c.args.list.now) c.args.s.now c.args.o.0 c.args.marks.now c.args.others.now c.loop-k.k c.args.kept.now c.loop-k.kept c.loop-k-test.false c.loop-k.invariant

@@ -1,62 +1,40 @@
-use Rattle.std.proofs.Common.{ℕ, ◌<◌, ◌+◌, ◌-◌, length, map, get_or, ap, sym, subst, arith, rules, List, Option}
-use Rattle.std.proofs.lemmas.List.{length-map}
-use Rattle.std.proofs.lemmas.Option.{slice_get-get_or}
+use Rattle.std.proofs.Common.{◌≡◌, ◌<◌, ℕ, List, length, map, ap, sym, ◌∙◌, subst, arith, rules, Some, Vec, Global}
+use Rattle.std.specs.Prelude.{slice_get}
 use Rattle.indexical.specs.declared.any.AnyIndexical.{AnyIndexical}
-use Rattle.object_pruning.specs.declared.kept.Placed.{Placed}
-use Rattle.fixpoint.specs.declared.pairs.Run.{Run}
+use Rattle.fixpoint.specs.declared.pairs.RowGroup.{RowGroup}
+use Rattle.fixpoint.specs.Links.{row}
+use Rattle.fixpoint.specs.Pairs.{HaveIn, IsGroupOf, IsOther}
 use Rattle.fixpoint.specs.Kept.{RetriesThose}
-use Rattle.fixpoint.specs.Pairs.{IsInRun, IsSomewhere, NamePairs}
-use Rattle.fixpoint.proofs.Asked.{AtBelow, those_none, those_both, those_unmarked, those_as, at_more, at_all}
+use Rattle.fixpoint.proofs.Linking.{row_get}
+use Rattle.fixpoint.proofs.Asked.{BesideBelow, those_none, those_beside, those_lists}
 use Rattle.fixpoint.proofs.kept.ask_pairs.Goals as goal
-use Rattle.fixpoint.proofs.kept.ask_pairs.Goals.{then-is_either_marked, else-is_either_marked}
 
 pub loop-u-init : goal.loop-u-init
-loop-u-init g c = those_none (map (λ (x : AnyIndexical g.row.K). x.cond) c.args.list.now) c.args.s.now c.args.o.0 c.args.marks.now (AtBelow c.as_slice-runs.result.now 0) c.args.kept.now (λ i p. absurd (omega (arith, p.1)))
+loop-u-init g c = those_none (map (λ (x : AnyIndexical g.row.K). x.cond) c.args.list.now) c.args.s.now c.args.o.0 c.args.marks.now (BesideBelow c.args.pairs.now.beside.items 0) c.args.kept.now (λ i p. absurd (omega (arith, p.1)))
 
-pub is_either_marked-requires : goal.is_either_marked-requires
-is_either_marked-requires g c =
-    let same = ap length c.as_slice-runs.ensures.value in
-    omega (arith, c.loop-u-test.true, same, c.requires.runs, c.requires.object.1)
-
-pub retry_run-requires : goal.retry_run-requires
-retry_run-requires g c =
-    let f = λ (x : AnyIndexical g.row.K). x.cond in
-    let cs = map f c.args.list.now in
-    let runs = c.as_slice-runs.result.now in
+pub ask_beside-requires : goal.ask_beside-requires
+ask_beside-requires g c =
+    let cs = map (λ (x : AnyIndexical g.row.K). x.cond) c.args.list.now in
+    let a = c.requires.pairs in
+    let lists = c.args.pairs.now.beside.items in
     let u = c.loop-u.u in
-    let others = c.args.pairs.now.others.items in
-    let p : NamePairs cs c.args.o.0 runs others = subst (λ (rs : List Run). NamePairs cs c.args.o.0 rs others) (sym c.as_slice-runs.ensures.value) c.requires.pairs in
-    let long = length-map c.args.list.now f in
-    let h : u < length runs = c.loop-u-test.true in
-    let numbers : (d : Run) (i : ℕ) → IsInRun (get_or runs u d) i → (0 < i) × (i - 1 < length c.args.list.now) = λ d i b.
-    let w = p.numbers u i (get_or runs u d, slice_get-get_or runs u d h, b) in (w.0, omega (arith, w.1, long)) in
+    let h : u < length lists = omega (arith, c.loop-u-test.true, c.len-u-end.ensures) in
+    let same : c.deref.result.now ≡ row lists u = c.deref.ensures.value ∙ ap (λ (v : Vec RowGroup Global). v.items) c.index.ensures ∙ sym (row_get lists u c.index.result.now h) in
+    let groups : (k : ℕ) (b : RowGroup) → slice_get c.deref.result.now k ≡ Some b → IsGroupOf cs c.args.o.0 b.row b.group × IsOther b.group u = λ k b e.
+    let w = a.2.beside u b (k, subst (λ (bs : List RowGroup). slice_get bs k ≡ Some b) same e) in ((a.0, a.1, w.0), w.1) in
+    let there : u < length c.args.marks.now = omega (arith, h, a.2.objects, c.requires.object.1) in
     search rules
 
 pub loop-u-preserved : goal.loop-u-preserved
 loop-u-preserved g c =
     let cs = map (λ (x : AnyIndexical g.row.K). x.cond) c.args.list.now in
-    let S = c.args.s.now in
-    let o = c.args.o.0 in
-    let marks = c.args.marks.now in
-    let runs = c.as_slice-runs.result.now in
-    let others = c.args.pairs.now.others.items in
+    let lists = c.args.pairs.now.beside.items in
     let u = c.loop-u.u in
-    let old = c.args.kept.now in
     let mid = c.loop-u.kept in
-    let p : NamePairs cs o runs others = subst (λ (rs : List Run). NamePairs cs o rs others) (sym c.as_slice-runs.ensures.value) c.requires.pairs in
-    elim c.if-is_either_marked.branch [
-      | then-is_either_marked w ↦
-          subst (λ (slots : List (Option (Placed g.row.K))). RetriesThose cs S o marks (AtBelow runs (u + 1)) old slots) (sym w.kept-is)
-          (those_both cs S o marks (AtBelow runs u) (IsInRun (get_or runs u _)) (AtBelow runs (u + 1)) old mid w.retry_run.new.kept (λ i. at_more runs u _ i c.loop-u-test.true) c.loop-u.invariant (w.retry_run.ensures marks))
-      | else-is_either_marked w ↦
-          let none = c.is_either_marked.ensures w.if-is_either_marked.false in
-          subst (λ (slots : List (Option (Placed g.row.K))). RetriesThose cs S o marks (AtBelow runs (u + 1)) old slots) (sym w.kept-is)
-          (those_unmarked cs S o marks runs others u old mid p none.0 none.1 c.loop-u.invariant)
-    ]
+    let new = c.ask_beside.new.kept in
+    let h : u < length lists = omega (arith, c.loop-u-test.true, c.len-u-end.ensures) in
+    let same : c.deref.result.now ≡ row lists u = c.deref.ensures.value ∙ ap (λ (v : Vec RowGroup Global). v.items) c.index.ensures ∙ sym (row_get lists u c.index.result.now h) in
+    those_beside cs c.args.s.now c.args.o.0 c.args.marks.now lists u c.args.kept.now mid new c.loop-u.invariant (subst (λ (bs : List RowGroup). RetriesThose cs c.args.s.now c.args.o.0 c.args.marks.now (HaveIn bs) mid new) same c.ask_beside.ensures)
 
 pub returns : goal.returns
-returns g c =
-    let cs = map (λ (x : AnyIndexical g.row.K). x.cond) c.args.list.now in
-    let runs = c.as_slice-runs.result.now in
-    subst (λ (rs : List Run). RetriesThose cs c.args.s.now c.args.o.0 c.args.marks.now (IsSomewhere rs) c.args.kept.now c.loop-u.kept) c.as_slice-runs.ensures.value
-    (those_as cs c.args.s.now c.args.o.0 c.args.marks.now (AtBelow runs c.loop-u.u) (IsSomewhere runs) c.args.kept.now c.loop-u.kept (λ i a. at_all runs c.loop-u.u i (omega (arith, c.loop-u-test.false)) a) c.loop-u.invariant)
+returns g c = those_lists (map (λ (x : AnyIndexical g.row.K). x.cond) c.args.list.now) c.args.s.now c.args.o.0 c.args.marks.now c.args.pairs.now.beside.items c.loop-u.u c.args.kept.now c.loop-u.kept (omega (arith, c.loop-u-test.false, c.len-u-end.ensures)) c.loop-u.invariant

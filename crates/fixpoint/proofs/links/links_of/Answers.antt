@@ -8,8 +8,10 @@ use Rattle.geo_conditions.specs.declared.cond.Cond.{Cond}
 use Rattle.indexical.specs.declared.any.AnyIndexical.{AnyIndexical}
 use Rattle.geo_conditions.specs.declared.object.TheConstants.{MAX_OBJECTS}
 use Rattle.sweep.specs.Picks.{ArePicks}
-use Rattle.fixpoint.specs.Links.{HavePairs, HaveRows, NamedBy, Numbers, names_none, put_where, row}
+use Rattle.object_pruning.specs.declared.rows.Rows.{Rows}
+use Rattle.fixpoint.specs.Links.{HavePairs, SortAllRows, HaveRows, NamedBy, Numbers, names_none, put_where, row}
 use Rattle.fixpoint.proofs.Linking.{LinksBelow, links_start, links_more, links_end, named_empty}
+use Rattle.fixpoint.proofs.Paired.{have_pairs}
 use Rattle.fixpoint.proofs.links.links_of.Goals as goal
 use Rattle.fixpoint.proofs.links.links_of.Goals.{then-is_empty+in_ok-push, else-is_empty}
 
@@ -60,18 +62,6 @@ all_rows-requires g c =
     subst (λ (vs : List (Vec ℕ Global)). ArePicks n (row vs o)) (sym e) (subst (λ (m : ℕ). ArePicks m (row c.loop-i.picks.items o)) end (l.picks o (omega (arith, h, ap length e, l.objects))).within) in
     search rules
 
-pub all_pairs-requires : goal.all_pairs-requires
-all_pairs-requires g c =
-    let those = c.deref-2.result.now in
-    let n = length c.args.list.now in
-    let l = c.loop-i.invariant in
-    let e : those ≡ c.loop-i.picks.items = c.deref-2.ensures.value in
-    let end : c.loop-i.i ≡ n = omega (arith, c.loop-i-test.false, c.loop-i.auto.i-end) in
-    let objects : length those ≤ MAX_OBJECTS = omega (arith, ap length e, l.objects, c.requires.objects) in
-    let within : (o : ℕ) → o < length those → ArePicks n (row those o) = λ o h.
-    subst (λ (vs : List (Vec ℕ Global)). ArePicks n (row vs o)) (sym e) (subst (λ (m : ℕ). ArePicks m (row c.loop-i.picks.items o)) end (l.picks o (omega (arith, h, ap length e, l.objects))).within) in
-    search rules
-
 pub returns : goal.returns
 returns g c =
     let cs = map (λ (x : AnyIndexical g.row.K). x.cond) c.args.list.now in
@@ -80,5 +70,5 @@ returns g c =
     let l = c.loop-i.invariant in
     let rows : HaveRows cs picks c.args.objects own = subst (λ (m : ℕ). HaveRows cs picks m own) l.objects (subst (λ (vs : List (Vec ℕ Global)). HaveRows cs vs (length vs) own) c.deref.ensures.value c.in_ok-rows.ensures) in
     let beside = c.in_ok-pairs.pairs.items in
-    let pairs : HavePairs cs picks c.args.objects c.args.objects beside = subst (λ (m : ℕ). HavePairs cs picks m m beside) l.objects (subst (λ (vs : List (Vec ℕ Global)). HavePairs cs vs (length vs) (length vs) beside) c.deref-2.ensures.value c.in_ok-pairs.ensures) in
+    let pairs : HavePairs cs picks c.args.objects beside = have_pairs cs picks c.args.objects own beside rows (subst (λ (vs : List Rows). SortAllRows vs (length vs) beside) c.deref-2.ensures.value c.in_ok-pairs.ensures) in
     links_end _ c.args.objects c.loop-i.i _ (omega (arith, c.loop-i-test.false, c.loop-i.auto.i-end, length-map c.args.list.now (λ x. x.cond))) l rows pairs

@@ -1,23 +1,35 @@
-use Rattle.std.proofs.Common.{◌≡◌, ℕ, List, length, map, sym, subst, arith}
-use Rattle.indexical.specs.declared.any.AnyIndexical.{AnyIndexical}
-use Rattle.fixpoint.specs.Pairs.{ArePairsBelow}
-use Rattle.fixpoint.proofs.Paired.{pairs_start}
+use Rattle.std.proofs.Common.{◌≡◌, ◌+◌, List, sym, subst, arith, length, ap, ◌∙◌, Vec, Global}
+use Rattle.std.proofs.lemmas.List.{with_items_is}
+use Rattle.std.specs.Vec.{with_items}
+use Rattle.object_pruning.specs.declared.rows.Group.{Group}
+use Rattle.object_pruning.specs.InRows.{row}
+use Rattle.fixpoint.specs.declared.pairs.RowGroup.{RowGroup}
+use Rattle.fixpoint.specs.Pairs.{HasGroup, Puts}
+use Rattle.fixpoint.proofs.Paired.{SortedBelow, sorts_start, sorts_more, sorts_rows}
 use Rattle.fixpoint.proofs.pairs.pairs_of.Goals as goal
 
-pub loop-k-init : goal.loop-k-init
-loop-k-init g c =
-    let cs = map (λ (x : AnyIndexical g.row.K). x.cond) c.args.list.now in
-    let o = c.args.o.0 in
-    let picks = c.args.picks.now in
-    let runs = c.in_ok-runs.runs.items in
-    (c.in_ok-runs.ensures.0, subst (λ (l : List ℕ). ArePairsBelow cs o picks 0 runs l) (sym c.new-others.ensures.items) (pairs_start cs o picks runs c.in_ok-runs.ensures.1))
+pub loop-r-init : goal.loop-r-init
+loop-r-init c =
+    let rows = c.args.rows.now in
+    let start = c.in_ok-beside.beside.items in
+    subst (λ (l : List RowGroup). SortedBelow rows c.args.objects 0 start l) (sym c.new-others.ensures.items) (sorts_start rows c.args.objects start c.in_ok-beside.ensures.0 c.in_ok-beside.ensures.1)
+
+pub loop-r-preserved : goal.loop-r-preserved
+loop-r-preserved c =
+    let rows = c.args.rows.now in
+    let n = c.args.objects in
+    let r = c.loop-r.r in
+    let old = c.loop-r.beside in
+    let more = c.loop-r.others.items in
+    let new = c.put_row.new.beside in
+    let most = c.put_row.new.others.items in
+    let value : c.deref_mut.result.now ≡ old.items = c.deref_mut.ensures.value in
+    let long : length new ≡ length old.items = c.put_row.auto.beside ∙ ap length value in
+    let back : (with_items old new).items ≡ new = with_items_is old new (omega (arith, long, old.ok)) in
+    let put : Puts (λ b. (b.row ≡ r) × HasGroup (row rows.rows.items r) b.group) old.items more new most =
+    subst (λ (lists : List (Vec RowGroup Global)). Puts (λ b. (b.row ≡ r) × HasGroup (row rows.rows.items r) b.group) lists more new most) value
+    (subst (λ (gs : List Group). Puts (λ b. (b.row ≡ r) × HasGroup gs b.group) c.deref_mut.result.now more new most) c.row.ensures c.in_ok-put_row.ensures) in
+    subst (λ (lists : List (Vec RowGroup Global)). SortedBelow rows n (r + 1) lists most) (sym back) (sorts_more rows n r old.items new more most c.loop-r.invariant put)
 
 pub returns : goal.returns
-returns g c =
-    let cs = map (λ (x : AnyIndexical g.row.K). x.cond) c.args.list.now in
-    let picks = c.args.picks.now in
-    let end : c.loop-k.k ≡ length picks = omega (arith, c.loop-k-test.false, c.loop-k.auto.k-end) in
-    record {
-      objects = c.loop-k.invariant.0;
-      picks = subst (λ (n : ℕ). ArePairsBelow cs c.args.o.0 picks n c.loop-k.runs.items c.loop-k.others.items) end c.loop-k.invariant.1;
-    }
+returns c = sorts_rows c.args.rows.now c.args.objects c.loop-r.r _ (omega (arith, c.loop-r-test.false, c.len-r-end.ensures)) c.loop-r.invariant

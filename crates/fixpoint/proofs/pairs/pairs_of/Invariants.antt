@@ -1,6 +1,5 @@
-use Rattle.std.proofs.Common.{◌≡◌, map, length}
-use Rattle.fixpoint.specs.Pairs.{ArePairsBelow}
+use Rattle.fixpoint.proofs.Paired.{SortedBelow}
 use Rattle.fixpoint.proofs.pairs.pairs_of.Given as goal
 
-abbrev pub invariant-loop-k : goal.invariant-loop-k
-invariant-loop-k g l = (length l.runs.items ≡ l.objects) × ArePairsBelow (map (λ x. x.cond) l.list) l.fn.o.0 l.picks l.k l.runs.items l.others.items
+abbrev pub invariant-loop-r : goal.invariant-loop-r
+invariant-loop-r l = SortedBelow l.rows l.objects l.r l.beside.items l.others.items

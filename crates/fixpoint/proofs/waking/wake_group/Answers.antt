@@ -6,8 +6,8 @@ use Rattle.geo_conditions.specs.declared.object.ObjId.{ObjId}
 use Rattle.indexical.specs.declared.any.AnyIndexical.{AnyIndexical}
 use Rattle.object_pruning.specs.InRows.{IsInGroup, facing_of}
 use Rattle.object_pruning.proofs.LivePicks.{group_number, group_fits}
-use Rattle.fixpoint.specs.Pairs.{IsPair}
-use Rattle.fixpoint.proofs.Paired.{told}
+use Rattle.fixpoint.specs.Near.{IsPair}
+use Rattle.fixpoint.proofs.Names.{told}
 use Rattle.fixpoint.proofs.waking.wake_group.Goals as goal
 
 pub wake_one-requires : goal.wake_one-requires

@@ -1,8 +1,6 @@
-use Rattle.std.proofs.Common.{◌≡◌, ◌++◌, ℕ, Bool, true, List, map, take, drop, length, subst, rules}
-use Rattle.geo_conditions.specs.declared.cond.Cond.{Cond}
+use Rattle.std.proofs.Common.{◌≡◌, ◌++◌, ℕ, true, map, take, drop, length, subst, rules}
 use Rattle.geo_conditions.specs.Conditions.{AllFit}
 use Rattle.indexical.specs.declared.any.AnyIndexical.{AnyIndexical}
-use Rattle.derivation.specs.declared.event.Event.{Event}
 use Rattle.derivation.specs.Renumbered.{renumbered}
 use Rattle.condition_parts.specs.Apart.{wholes_of}
 use Rattle.fixpoint.proofs.TakenApart.{parts_fit, settles_whole, records_whole, blames_whole}
