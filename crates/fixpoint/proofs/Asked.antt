@@ -15,7 +15,7 @@ use Rattle.object_pruning.specs.declared.rows.Group.{Group}
 use Rattle.object_pruning.specs.Gathered.{AllPossible}
 use Rattle.object_pruning.specs.InRows.{IsInGroup}
 use Rattle.object_pruning.specs.Kept.{placed}
-use Rattle.object_pruning.proofs.LivePicks.{fit, group_number, group_spared}
+use Rattle.object_pruning.proofs.LivePicks.{fit, group_number, group_free}
 use Rattle.object_pruning.proofs.InRows.{row_past}
 use Rattle.fixpoint.specs.declared.links.Links.{Links}
 use Rattle.fixpoint.specs.Links.{AreLinks, row}
@@ -115,7 +115,7 @@ module _ {K : ℕ} (cs : List Cond) (S : State) (o : ℕ) (marks : List Bool) wh
   pub those_spared : (r : ℕ) (g : Group) (slots : List (Option (Placed K))) → AllFit cs S → o < length S → IsGroupOf cs o r g → MatchOption g.other ⊥ (λ u. (g.other_place ≢ 0) × (is_only (reach S u.0).places g.other_place ≡ false)) → RetriesThose cs S o marks (IsInGroup g) slots slots
   those_spared r g slots fits here a m = record {
     stay = λ i q e. e;
-    tried = λ i q e k x b at. inr (group_spared cs S o fits here q.place g (a.0, r, a.1, a.2) m k b x at q.point.coordinates);
+    tried = λ i q e k x b at. inr (group_free cs S o fits here g (a.0, r, a.1, a.2) m k x b at q.place q.point.coordinates);
   }
 
   pub those_as : (P Q : ℕ → Type 0) (old new : List (Option (Placed K))) → ((i : ℕ) → Q i → P i) → RetriesThose cs S o marks P old new → RetriesThose cs S o marks Q old new
