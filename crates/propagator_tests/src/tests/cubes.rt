@@ -125,6 +125,7 @@ fn fault(alloc: Global) -> Result<Option<&'static str>, TextFault> {
 
 #[test]
 fn thirty_cubes_are_placed(rt: HostRuntime) -> Result<(), Fail> {
-    assert_eq!(rt; fault(rt.alloc())?, None);
+    let fault = fault(rt.alloc())?;
+    assert!(rt; fault.is_none(), "{}", fault.unwrap_or(""));
     Ok(())
 }
