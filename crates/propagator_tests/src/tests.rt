@@ -73,9 +73,10 @@ fn answers_in<const K: usize>(
     requires dims { problem.now.dims ≡ K }
     requires ready { IsReady problem.now (map plain_rule_data rules.now) }
 {
-    let plain = plain_answers::<K>(alloc, problem, rules)?;
-    let queued = queued_answers::<K>(alloc, problem, rules)?;
-    Ok(vec![in alloc; plain, queued]?)
+    let mut all = Vec::new(alloc);
+    all.push(plain_answers::<K>(alloc, problem, rules)?)?;
+    all.push(queued_answers::<K>(alloc, problem, rules)?)?;
+    Ok(all)
 }
 
 /// What each propagator answers, in as many dimensions as the problem has.

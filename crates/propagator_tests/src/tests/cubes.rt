@@ -46,10 +46,12 @@ fn is_first(puts: &[Put]) -> bool {
 
 /// Whether each list comes behind the one before it.
 fn are_in_order(keys: &[Vec<i64>]) -> bool {
-    for (key, next) in keys.iter().zip(keys.iter().skip(1)) {
-        if key.as_slice() >= next.as_slice() {
+    let mut last: &[i64] = &[];
+    for key in keys {
+        if key.as_slice() <= last {
             return false;
         }
+        last = key.as_slice();
     }
     true
 }
