@@ -1,4 +1,5 @@
-ghost use Rattle.std.specs.Prelude.{map};
+ghost use Rattle.std.specs.Prelude.{◌≡◌, ◌<◌, ◌≤◌, map};
+ghost use Rattle.geo_base.specs.declared.TheConstants.{MAX_DIMS};
 ghost use Rattle.rule_expand.specs.Rules.{plain_rule_data};
 ghost use Rattle.propagator_tests.specs.Ready.{IsReady};
 
@@ -9,9 +10,10 @@ mod task;
 mod tuples;
 
 use answers::{Answers, MOST_LAYOUTS, has_tuple, is_same_state};
+use geo_base::MAX_DIMS;
 use geo_tokens::fault::TextFault;
 use problem_data::problem::Problem;
-use propagators::{plain_answers, queued_in_1, queued_in_2, queued_in_3};
+use propagators::{plain_answers, queued_answers};
 use rule_expand::plain::PlainRule;
 use std::alloc::Global;
 use std::test::Fail;
@@ -61,6 +63,22 @@ const TWO_CUBES: &[u8] =
 const TURNED_CRATES: &[u8] =
     b"geost 1 dims 2 shape flat box 0 0 size 2 1 ; shape tall box 0 0 size 1 2 ; object a as flat, tall at 0..2 0..1 with weight = 2 ; object b as tall, flat at 0..2 0..1 with weight = 1 ; macro on(p : object, q : object) means exists s in boxes of p : exists t in boxes of q : [ p.x2 + s.t2 = q.x2 + t.t2 + t.l2 and p.x1 + s.t1 < q.x1 + t.t1 + t.l1 and q.x1 + t.t1 < p.x1 + s.t1 + s.l1 ] ; rule f : apart ; rule h : forall p in objects : forall q in objects : [ p.weight > q.weight implies not @on(p, q) ] ; rule s : forall p in objects : [ p.x2 = 0 or exists q in objects : @on(p, q) ] ; end";
 
+/// What each propagator answers, where K is the number of dimensions.
+fn answers_in<const K: usize>(
+    alloc: Global,
+    problem: &Problem,
+    rules: &[PlainRule],
+) -> Result<Vec<Answers>, TextFault>
+    requires k { (0 < K) × (K ≤ MAX_DIMS) }
+    requires dims { problem.now.dims ≡ K }
+    requires ready { IsReady problem.now (map plain_rule_data rules.now) }
+{
+    let mut all = Vec::new(alloc);
+    all.push(plain_answers::<K>(alloc, problem, rules)?)?;
+    all.push(queued_answers::<K>(alloc, problem, rules)?)?;
+    Ok(all)
+}
+
 /// What each propagator answers, in as many dimensions as the problem has.
 fn all_answers(
     alloc: Global,
@@ -69,23 +87,12 @@ fn all_answers(
 ) -> Result<Vec<Answers>, TextFault>
     requires ready { IsReady problem.now (map plain_rule_data rules.now) }
 {
-    let mut all = Vec::new(alloc);
     match problem.dims() {
-        1 => {
-            all.push(plain_answers::<1>(alloc, problem, rules)?)?;
-            all.push(queued_in_1(alloc, problem, rules)?)?;
-        }
-        2 => {
-            all.push(plain_answers::<2>(alloc, problem, rules)?)?;
-            all.push(queued_in_2(alloc, problem, rules)?)?;
-        }
-        3 => {
-            all.push(plain_answers::<3>(alloc, problem, rules)?)?;
-            all.push(queued_in_3(alloc, problem, rules)?)?;
-        }
-        _ => {}
+        1 => answers_in::<1>(alloc, problem, rules),
+        2 => answers_in::<2>(alloc, problem, rules),
+        3 => answers_in::<3>(alloc, problem, rules),
+        _ => Ok(Vec::new(alloc)),
     }
-    Ok(all)
 }
 
 /// Whether the lists have the same keys.
@@ -190,29 +197,29 @@ fn judge_all(
     Ok("agreed")
 }
 
+/// The problems whose layouts are listed, and how many they have.
+const PROBLEMS: &[(&[u8], usize)] = &[
+    (TWO_BOXES, 6),
+    (TWO_BOXES_DOWNWARDS, 6),
+    (NOTHING, 1),
+    (FALSE_RULE, 0),
+    (NO_ROOM, 0),
+    (CHAIN, 0),
+    (SECOND_SHAPE, 6),
+    (SUM, 9),
+    (CARRY, 4),
+    (HEAVY_ON_LIGHT, 1),
+    (BOUND_NAME, 1),
+    (LONGER_LINE, 72),
+    (TWO_CUBES, 240),
+    (TURNED_CRATES, 28),
+];
+
 #[test]
 fn propagators_agree_with_the_listing(rt: HostRuntime) -> Result<(), Fail> {
-    for (text, layouts) in [
-        (TWO_BOXES, 6usize),
-        (TWO_BOXES_DOWNWARDS, 6),
-        (NOTHING, 1),
-        (FALSE_RULE, 0),
-        (NO_ROOM, 0),
-        (CHAIN, 0),
-        (SECOND_SHAPE, 6),
-        (SUM, 9),
-        (CARRY, 4),
-        (HEAVY_ON_LIGHT, 1),
-        (BOUND_NAME, 1),
-        (LONGER_LINE, 72),
-        (TWO_CUBES, 240),
-        (TURNED_CRATES, 28),
-    ] {
-        assert_eq!(rt;
-            verdict(rt.alloc(), text, layouts)?,
-            "agreed",
-            "{layouts} layouts"
-        );
+    for (text, layouts) in PROBLEMS {
+        let verdict = verdict(rt.alloc(), text, *layouts)?;
+        assert!(rt; verdict == "agreed", "{layouts} layouts: {verdict}");
     }
     Ok(())
 }

@@ -46,10 +46,12 @@ fn is_first(puts: &[Put]) -> bool {
 
 /// Whether each list comes behind the one before it.
 fn are_in_order(keys: &[Vec<i64>]) -> bool {
-    for (key, next) in keys.iter().zip(keys.iter().skip(1)) {
-        if key.as_slice() >= next.as_slice() {
+    let mut last: &[i64] = &[];
+    for key in keys {
+        if key.as_slice() <= last {
             return false;
         }
+        last = key.as_slice();
     }
     true
 }
@@ -125,6 +127,7 @@ fn fault(alloc: Global) -> Result<Option<&'static str>, TextFault> {
 
 #[test]
 fn thirty_cubes_are_placed(rt: HostRuntime) -> Result<(), Fail> {
-    assert_eq!(rt; fault(rt.alloc())?, None);
+    let fault = fault(rt.alloc())?;
+    assert!(rt; fault.is_none(), "{}", fault.unwrap_or(""));
     Ok(())
 }

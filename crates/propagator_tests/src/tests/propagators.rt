@@ -120,44 +120,17 @@ fn indexicals<const K: usize>(
     Ok(list)
 }
 
-/// What the queue answers in one dimension.
-pub fn queued_in_1(
+/// What the queue answers.
+pub fn queued_answers<const K: usize>(
     alloc: Global,
     problem: &Problem,
     rules: &[PlainRule],
 ) -> Result<Answers, TextFault>
-    requires dims { problem.now.dims ≡ 1 }
+    requires k { (0 < K) × (K ≤ MAX_DIMS) }
+    requires dims { problem.now.dims ≡ K }
     requires ready { IsReady problem.now (map plain_rule_data rules.now) }
 {
-    let list = indexicals::<1>(alloc, problem, rules)?;
+    let list = indexicals::<K>(alloc, problem, rules)?;
     let mut queue = Fixpoint::start(alloc, list, problem.objects().len())?;
-    answers_by::<1, Fixpoint<1>>(alloc, problem, &mut queue)
-}
-
-/// What the queue answers in two dimensions.
-pub fn queued_in_2(
-    alloc: Global,
-    problem: &Problem,
-    rules: &[PlainRule],
-) -> Result<Answers, TextFault>
-    requires dims { problem.now.dims ≡ 2 }
-    requires ready { IsReady problem.now (map plain_rule_data rules.now) }
-{
-    let list = indexicals::<2>(alloc, problem, rules)?;
-    let mut queue = Fixpoint::start(alloc, list, problem.objects().len())?;
-    answers_by::<2, Fixpoint<2>>(alloc, problem, &mut queue)
-}
-
-/// What the queue answers in three dimensions.
-pub fn queued_in_3(
-    alloc: Global,
-    problem: &Problem,
-    rules: &[PlainRule],
-) -> Result<Answers, TextFault>
-    requires dims { problem.now.dims ≡ 3 }
-    requires ready { IsReady problem.now (map plain_rule_data rules.now) }
-{
-    let list = indexicals::<3>(alloc, problem, rules)?;
-    let mut queue = Fixpoint::start(alloc, list, problem.objects().len())?;
-    answers_by::<3, Fixpoint<3>>(alloc, problem, &mut queue)
+    answers_by::<K, Fixpoint<K>>(alloc, problem, &mut queue)
 }
