@@ -7,7 +7,7 @@ ghost use Rattle.object_pruning.specs.Kept.{retried};
 ghost use Rattle.object_pruning.specs.InRows.{IsInGroup};
 ghost use Rattle.fixpoint.specs.Links.{AreLinks, NamedBy};
 ghost use Rattle.fixpoint.specs.declared.pairs.RowGroup.{RowGroup};
-ghost use Rattle.fixpoint.specs.Pairs.{AreSomePairs, HaveBeside, HaveIn, IsGroupOf, IsOther};
+ghost use Rattle.fixpoint.specs.Pairs.{AreSomePairs, HaveBeside, HaveIn, IsGroupOf};
 ghost use Rattle.fixpoint.specs.Kept.{AllStand, AsksSlot, IsBlank, RetriesMarked, RetriesThose, Stand, StandBut, StandsAlone};
 ghost use Rattle.fixpoint.specs.Marks.{IsCleared, IsSquare};
 
@@ -283,33 +283,7 @@ fn ask_groups<const K: usize>(
     }
 }
 
-// The same where the object u of the groups is marked, or the object itself.
-fn ask_beside<const K: usize>(
-    list: &[AnyIndexical<K>],
-    groups: &[RowGroup],
-    u: usize,
-    o: ObjId,
-    s: &State<K>,
-    marks: &[bool],
-    own: bool,
-    kept: &mut [Option<Placed<K>>],
-)
-    requires k { K ≤ MAX_DIMS }
-    requires fits { AllFit (map (λ x. x.cond) list.now) s.now }
-    requires object { (o.0 < length s.now) × (u < length marks.now) }
-    requires groups { (k : ℕ) (b : RowGroup) → slice_get groups.now k ≡ Some b
-        → IsGroupOf (map (λ x. x.cond) list.now) o.0 b.row b.group × IsOther b.group u }
-    requires own { own ≡ slice_index_or marks.now o.0 false }
-    ensures { RetriesThose (map (λ x. x.cond) list.now) s.now o.0 marks.now
-        (HaveIn groups.now) kept.old kept.new }
-{
-    if !is_either_marked(own, marks, u) {
-        return;
-    }
-    ask_groups(list, groups, o, s, kept);
-}
-
-// The same for the groups of each other object.
+// The same for the groups of each marked object, or of each one where the object itself is marked.
 fn ask_pairs<const K: usize>(
     list: &[AnyIndexical<K>],
     pairs: &Pairs,
@@ -327,7 +301,9 @@ fn ask_pairs<const K: usize>(
 {
     let own = marks[o.0 as usize];
     for u in 0..pairs.beside.len() {
-        ask_beside(list, &pairs.beside[u], u, o, s, marks, own, kept);
+        if is_either_marked(own, marks, u) {
+            ask_groups(list, &pairs.beside[u], o, s, kept);
+        }
     }
 }
 

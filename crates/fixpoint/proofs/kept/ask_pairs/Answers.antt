@@ -1,40 +1,56 @@
-use Rattle.std.proofs.Common.{◌≡◌, ◌<◌, ℕ, List, length, map, ap, sym, ◌∙◌, subst, arith, rules, Some, Vec, Global}
+use Rattle.std.proofs.Common.{◌≡◌, ◌+◌, ◌<◌, ℕ, List, Option, length, map, ap, sym, ◌∙◌, subst, arith, rules, Some, Vec, Global}
 use Rattle.std.specs.Prelude.{slice_get}
 use Rattle.indexical.specs.declared.any.AnyIndexical.{AnyIndexical}
+use Rattle.object_pruning.specs.declared.kept.Placed.{Placed}
 use Rattle.fixpoint.specs.declared.pairs.RowGroup.{RowGroup}
 use Rattle.fixpoint.specs.Links.{row}
-use Rattle.fixpoint.specs.Pairs.{HaveIn, IsGroupOf, IsOther}
+use Rattle.fixpoint.specs.Pairs.{HaveIn, IsGroupOf}
 use Rattle.fixpoint.specs.Kept.{RetriesThose}
 use Rattle.fixpoint.proofs.Linking.{row_get}
-use Rattle.fixpoint.proofs.Asked.{BesideBelow, those_none, those_beside, those_lists}
+use Rattle.fixpoint.proofs.Asked.{BesideBelow, those_none, those_unmarked, those_beside, those_lists}
 use Rattle.fixpoint.proofs.kept.ask_pairs.Goals as goal
+use Rattle.fixpoint.proofs.kept.ask_pairs.Goals.{then-is_either_marked, else-is_either_marked}
 
 pub loop-u-init : goal.loop-u-init
 loop-u-init g c = those_none (map (λ (x : AnyIndexical g.row.K). x.cond) c.args.list.now) c.args.s.now c.args.o.0 c.args.marks.now (BesideBelow c.args.pairs.now.beside.items 0) c.args.kept.now (λ i p. absurd (omega (arith, p.1)))
 
-pub ask_beside-requires : goal.ask_beside-requires
-ask_beside-requires g c =
+pub is_either_marked-requires : goal.is_either_marked-requires
+is_either_marked-requires g c = omega (arith, c.loop-u-test.true, c.len-u-end.ensures, c.requires.pairs.2.objects, c.requires.object.1)
+
+pub ask_groups-requires : goal.ask_groups-requires
+ask_groups-requires g c =
     let cs = map (λ (x : AnyIndexical g.row.K). x.cond) c.args.list.now in
     let a = c.requires.pairs in
     let lists = c.args.pairs.now.beside.items in
     let u = c.loop-u.u in
     let h : u < length lists = omega (arith, c.loop-u-test.true, c.len-u-end.ensures) in
     let same : c.deref.result.now ≡ row lists u = c.deref.ensures.value ∙ ap (λ (v : Vec RowGroup Global). v.items) c.index.ensures ∙ sym (row_get lists u c.index.result.now h) in
-    let groups : (k : ℕ) (b : RowGroup) → slice_get c.deref.result.now k ≡ Some b → IsGroupOf cs c.args.o.0 b.row b.group × IsOther b.group u = λ k b e.
-    let w = a.2.beside u b (k, subst (λ (bs : List RowGroup). slice_get bs k ≡ Some b) same e) in ((a.0, a.1, w.0), w.1) in
-    let there : u < length c.args.marks.now = omega (arith, h, a.2.objects, c.requires.object.1) in
+    let groups : (k : ℕ) (b : RowGroup) → slice_get c.deref.result.now k ≡ Some b → IsGroupOf cs c.args.o.0 b.row b.group = λ k b e. (a.0, a.1, (a.2.beside u b (k, subst (λ (bs : List RowGroup). slice_get bs k ≡ Some b) same e)).0) in
     search rules
 
 pub loop-u-preserved : goal.loop-u-preserved
 loop-u-preserved g c =
     let cs = map (λ (x : AnyIndexical g.row.K). x.cond) c.args.list.now in
+    let S = c.args.s.now in
+    let o = c.args.o.0 in
+    let marks = c.args.marks.now in
+    let a = c.requires.pairs in
     let lists = c.args.pairs.now.beside.items in
     let u = c.loop-u.u in
+    let old = c.args.kept.now in
     let mid = c.loop-u.kept in
-    let new = c.ask_beside.new.kept in
     let h : u < length lists = omega (arith, c.loop-u-test.true, c.len-u-end.ensures) in
-    let same : c.deref.result.now ≡ row lists u = c.deref.ensures.value ∙ ap (λ (v : Vec RowGroup Global). v.items) c.index.ensures ∙ sym (row_get lists u c.index.result.now h) in
-    those_beside cs c.args.s.now c.args.o.0 c.args.marks.now lists u c.args.kept.now mid new c.loop-u.invariant (subst (λ (bs : List RowGroup). RetriesThose cs c.args.s.now c.args.o.0 c.args.marks.now (HaveIn bs) mid new) same c.ask_beside.ensures)
+    elim c.if-is_either_marked.branch [
+      | then-is_either_marked w ↦
+          let new = w.ask_groups.new.kept in
+          let same : w.deref.result.now ≡ row lists u = w.deref.ensures.value ∙ ap (λ (v : Vec RowGroup Global). v.items) w.index.ensures ∙ sym (row_get lists u w.index.result.now h) in
+          subst (λ (slots : List (Option (Placed g.row.K))). RetriesThose cs S o marks (BesideBelow lists (u + 1)) old slots) (sym w.kept-is)
+          (those_beside cs S o marks lists u old mid new c.loop-u.invariant (subst (λ (bs : List RowGroup). RetriesThose cs S o marks (HaveIn bs) mid new) same (w.ask_groups.ensures marks)))
+      | else-is_either_marked w ↦
+          let none = c.is_either_marked.ensures w.if-is_either_marked.false in
+          subst (λ (slots : List (Option (Placed g.row.K))). RetriesThose cs S o marks (BesideBelow lists (u + 1)) old slots) (sym w.kept-is)
+          (those_beside cs S o marks lists u old mid mid c.loop-u.invariant (those_unmarked cs S o marks (row lists u) u mid (λ k b e. let v = a.2.beside u b (k, e) in ((a.0, a.1, v.0), v.1)) none.0 none.1))
+    ]
 
 pub returns : goal.returns
 returns g c = those_lists (map (λ (x : AnyIndexical g.row.K). x.cond) c.args.list.now) c.args.s.now c.args.o.0 c.args.marks.now c.args.pairs.now.beside.items c.loop-u.u c.args.kept.now c.loop-u.kept (omega (arith, c.loop-u-test.false, c.len-u-end.ensures)) c.loop-u.invariant
