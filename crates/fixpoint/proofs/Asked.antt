@@ -1,14 +1,13 @@
 -- Kept points are asked again by the conditions of marked objects.
 use Rattle.std.proofs.Common.{◌≡◌, ◌≢◌, ◌⊎◌, ℕ, ◌+◌, ◌-◌, ◌<◌, ◌≤◌, Bool, true, false, List, length, set, get_or, slice_index, refl, sym, ap, ◌∙◌, subst, inl, inr, arith, Some, None, Option, Vec, Global, []}
-use Rattle.std.specs.Prelude.{slice_get, IfSome, MatchOption}
+use Rattle.std.specs.Prelude.{slice_get, MatchOption}
 use Rattle.std.proofs.lemmas.Bool.{cases_eq, cases_lt}
 use Rattle.std.proofs.lemmas.List.{get_or_past, get_or-set_same, get_or-set_other}
 use Rattle.std.proofs.lemmas.Option.{same_Some, slice_get-get_or, slice_get_within}
 use Rattle.geo_conditions.specs.declared.cond.Cond.{Cond}
-use Rattle.geo_conditions.specs.declared.object.ObjId.{ObjId}
 use Rattle.geo_conditions.specs.Conditions.{possible, AllFit}
 use Rattle.geo_conditions.specs.Reach.{State, is_only, reach}
-use Rattle.indexical.specs.Faces.{IsBeside}
+use Rattle.indexical.specs.Names.{names}
 use Rattle.sweep.proofs.PickedConditions.{pick_in}
 use Rattle.object_pruning.specs.declared.kept.Placed.{Placed}
 use Rattle.object_pruning.specs.declared.rows.Group.{Group}
@@ -21,23 +20,20 @@ use Rattle.fixpoint.specs.declared.links.Links.{Links}
 use Rattle.fixpoint.specs.Links.{AreLinks, row}
 use Rattle.fixpoint.specs.declared.pairs.Pairs.{Pairs}
 use Rattle.fixpoint.specs.declared.pairs.RowGroup.{RowGroup}
-use Rattle.fixpoint.specs.Pairs.{HaveBeside, HaveIn, IsGroupOf, IsOther}
+use Rattle.fixpoint.specs.Pairs.{HaveBeside, HaveIn, IsGroupOf, NamesNoThird}
 use Rattle.fixpoint.specs.Kept.{AsksSlot, RetriesMarked, RetriesThose, StandBut, Stand}
 use Rattle.fixpoint.specs.Marks.{NamesUnmarked}
-use Rattle.fixpoint.specs.Near.{IsPair}
 use Rattle.fixpoint.proofs.Linking.{each_named, nth}
 
--- neither of the two objects is marked
-pair_unmarked : (c : Cond) (o u : ℕ) (marks : List Bool) → IsPair c o u → get_or marks o false ≡ false → get_or marks u false ≡ false → NamesUnmarked marks c
-pair_unmarked c o u marks b own other v n = elim (b.named v n) [
-  | inl e ↦ subst (λ (w : ℕ). get_or marks w false ≡ false) (sym e) own
-  | inr e ↦ subst (λ (w : ℕ). get_or marks w false ≡ false) (sym e) other
+-- neither of the two objects is marked, and the condition names no third one of those that marks are for
+pair_unmarked : (c : Cond) (o u : ℕ) (marks : List Bool) → ((v : ℕ) → v < length marks → names v c ≡ true → v ≢ o → v ≡ u) → get_or marks o false ≡ false → get_or marks u false ≡ false → NamesUnmarked marks c
+pair_unmarked c o u marks b own other v n = elim (cases_lt v (length marks)) [
+  | inr past ↦ get_or_past marks v false past
+  | inl h ↦ elim (cases_eq v o) [
+    | inl e ↦ subst (λ (w : ℕ). get_or marks w false ≡ false) (sym e) own
+    | inr ne ↦ subst (λ (w : ℕ). get_or marks w false ≡ false) (sym (b v h n ne)) other
+  ]
 ]
-
--- the other object of a group is the other one of its conditions
-pair_of : (c : Cond) (o p u : ℕ) (x : Option ObjId) → MatchOption x ⊥ (λ v. v.0 ≡ u) → IfSome x (λ w. IsBeside c o w.0 p) → IsPair c o u
-pair_of c o p u None m f = absurd m
-pair_of c o p u (Some v) m f = subst (IsPair c o) m (record { apart = f.apart; named = f.named })
 
 -- the numbers of the groups are those of conditions
 pub group_within : (cs : List Cond) (S : State) (o r : ℕ) (g : Group) → AllFit cs S → o < length S → IsGroupOf cs o r g → (i : ℕ) → IsInGroup g i → (0 < i) × (i - 1 < length cs)
@@ -102,13 +98,10 @@ module _ {K : ℕ} (cs : List Cond) (S : State) (o : ℕ) (marks : List Bool) wh
       ]
 
   -- of the groups of an object that is not marked
-  pub those_unmarked : (bs : List RowGroup) (u : ℕ) (slots : List (Option (Placed K))) → ((k : ℕ) (b : RowGroup) → slice_get bs k ≡ Some b → IsGroupOf cs o b.row b.group × IsOther b.group u) → get_or marks o false ≡ false → get_or marks u false ≡ false → RetriesThose cs S o marks (HaveIn bs) slots slots
+  pub those_unmarked : (bs : List RowGroup) (u : ℕ) (slots : List (Option (Placed K))) → ((k : ℕ) (b : RowGroup) → slice_get bs k ≡ Some b → NamesNoThird cs (length marks) o u b.group) → get_or marks o false ≡ false → get_or marks u false ≡ false → RetriesThose cs S o marks (HaveIn bs) slots slots
   those_unmarked bs u slots a own other = record {
     stay = λ i q e. e;
-    tried = λ i q e k x w at.
-        let b = a w.0 w.1 w.2 in
-        let g = w.1.group in
-        inl (pair_unmarked x o u marks (pair_of x o g.other_place u g.other b.1 (b.0.2.faces k x w.3 at).other) own other);
+    tried = λ i q e k x w at. inl (pair_unmarked x o u marks (a w.0 w.1 w.2 k x w.3 at) own other);
   }
 
   -- of a group that cannot be in the way

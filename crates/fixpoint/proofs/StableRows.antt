@@ -1,6 +1,6 @@
 -- Rows and pairs are decided by a search through their groups.
 use Rattle.std.proofs.Common.{◌≡◌, ◌⊎◌, ℕ, zero, suc, ◌≤◌, List, [], ◌∷◌, length, get_or, slice_index, refl, sym, subst, inl, inr, arith, Some, None, Option, Vec, Global}
-use Rattle.std.specs.Prelude.{slice_get, IfSome, Contains, MatchOption}
+use Rattle.std.specs.Prelude.{slice_get, IfSome, Contains}
 use Rattle.std.proofs.Props.{props}
 use Rattle.std.proofs.Math.Logic.{∥∥₁_elim, ∥∥₁_map}
 use Rattle.std.proofs.lemmas.Bool.{cases_eq, cases_lt}
@@ -116,14 +116,10 @@ stable_rows cs o picks rows h = record {
   each = λ k b. stable _ (decide_rows (λ (g : Group). IsInGroup g (slice_index picks k)) (in_group (slice_index picks k)) rows.rows.items) (∥∥₁_map h (λ a. a.each k b));
 }
 
-stable_named : (u : Option ObjId) (w : ℕ) → ∥ MatchOption u ⊥ (λ v. v.0 ≡ w) ∥₁ → MatchOption u ⊥ (λ v. v.0 ≡ w)
-stable_named None w h = ∥∥₁_elim h (hlevel props) (λ b. b)
-stable_named (Some u) w h = ∥∥₁_elim h (hlevel props) (λ b. b)
-
 stable_pairs : (cs : List Cond) (o : ℕ) (picks : List ℕ) (n : ℕ) (p : Pairs) → ∥ ArePairs cs o picks n p ∥₁ → ArePairs cs o picks n p
 stable_pairs cs o picks n p h = record {
   objects = ∥∥₁_elim h (hlevel props) (λ a. a.objects);
-  beside = λ u b w. (stable_group cs o picks b.row b.group (∥∥₁_map h (λ a. (a.beside u b w).0)), stable_named b.group.other u (∥∥₁_map h (λ a. (a.beside u b w).1)));
+  beside = λ u b w. (stable_group cs o picks b.row b.group (∥∥₁_map h (λ a. (a.beside u b w).0)), λ i x m at v l t ne. ∥∥₁_elim h (hlevel props) (λ a. (a.beside u b w).1 i x m at v l t ne));
   others = λ b w. stable_group cs o picks b.row b.group (∥∥₁_map h (λ a. a.others b w));
   each = λ k b.
       let i = slice_index picks k in

@@ -52,6 +52,10 @@ pub record StandsAlone {K : ℕ} (cs : List Cond) (S : State) (o : ℕ) (old new
 abbrev pub AreAsked : {K : ℕ} → List Cond → State → ℕ → List Bool → (ℕ → Type 0) → Placed K → Type 0
 AreAsked cs S o marks Those q = (k : ℕ) (x : Cond) → Those k → slice_get cs (k - 1) ≡ Some x → NamesUnmarked marks x ⊎ (possible x (placed S o q) ≡ true)
 
+-- with the object at that point, if there is one, each condition of those numbers is possible
+abbrev pub IsKnown : {K : ℕ} → List Cond → State → ℕ → (ℕ → Type 0) → Option (Placed K) → Type 0
+IsKnown {K} cs S o Those known = (q : Placed K) → known ≡ Some q → AllPossible cs (placed S o q) Those
+
 -- what is kept in the slot was kept, and each condition of those numbers is possible there
 abbrev pub AsksSlot : {K : ℕ} → List Cond → State → ℕ → (ℕ → Type 0) → Option (Placed K) → Option (Placed K) → Type 0
 AsksSlot {K} cs S o Those old new = (q : Placed K) → new ≡ Some q → (old ≡ Some q) × AllPossible cs (placed S o q) Those

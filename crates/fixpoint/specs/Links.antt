@@ -56,9 +56,9 @@ pub record HaveRows (cs : List Cond) (picks : List (Vec ℕ Global)) (n : ℕ) (
   pub each : (o : ℕ) (d : Rows) → o < n → AreRows cs o (row picks o) (slice_index_or rows o d)
 
 -- there are pairs for the rows of each of the first n objects
-pub record SortAllRows (rows : List Rows) (n : ℕ) (pairs : List Pairs) : Type 0 where
+pub record SortAllRows (named : List (Vec ObjId Global)) (rows : List Rows) (n : ℕ) (pairs : List Pairs) : Type 0 where
   pub objects : length pairs ≡ n
-  pub each : (o : ℕ) (d : Rows) (p : Pairs) → o < n → SortsRows (slice_index_or rows o d) (length rows) (slice_index_or pairs o p)
+  pub each : (o : ℕ) (d : Rows) (p : Pairs) → o < n → SortsRows named o (slice_index_or rows o d) (length rows) (slice_index_or pairs o p)
 
 -- there are pairs for each of n objects, and they have its picks
 pub record HavePairs (cs : List Cond) (picks : List (Vec ℕ Global)) (n : ℕ) (pairs : List Pairs) : Type 0 where

@@ -1,8 +1,10 @@
 -- The groups of an object's rows, by the other object that they name.
-use Rattle.std.specs.Prelude.{◌≡◌, ◌⊎◌, ℕ, ◌<◌, List, length, slice_get, slice_index, Some, MatchOption}
+use Rattle.std.specs.Prelude.{◌≡◌, ◌≢◌, ◌⊎◌, ℕ, ◌-◌, ◌<◌, ◌≤◌, true, List, length, slice_get, slice_index, Some, MatchOption}
 use Rattle.std.specs.declared.vec.Vec.{Vec}
 use Rattle.std.specs.declared.alloc.Global.{Global}
 use Rattle.geo_conditions.specs.declared.cond.Cond.{Cond}
+use Rattle.geo_conditions.specs.declared.object.ObjId.{ObjId}
+use Rattle.indexical.specs.Names.{names}
 use Rattle.sweep.specs.Picks.{ArePicks}
 use Rattle.object_pruning.specs.declared.rows.Group.{Group}
 use Rattle.object_pruning.specs.declared.rows.Rows.{Rows}
@@ -26,12 +28,20 @@ HaveBeside lists i = (u : ℕ) × HaveIn (row lists u) i
 abbrev pub IsOther : Group → ℕ → Type 0
 IsOther g u = MatchOption g.other ⊥ (λ v. v.0 ≡ u)
 
+-- each condition of the group names one object at most, by the lists of what conditions name
+abbrev pub NamesOne : List (Vec ObjId Global) → Group → Type 0
+NamesOne named g = (i : ℕ) → IsInGroup g i → length (row named (i - 1)) ≤ 1
+
+-- the group of the object o is one of u's: it tells that u is the other object, or u is o itself, and it names no other one
+abbrev pub BelongsTo : List (Vec ObjId Global) → ℕ → ℕ → Group → Type 0
+BelongsTo named o u g = IsOther g u ⊎ ((u ≡ o) × NamesOne named g)
+
 -- some of those groups were put there, each where it belongs
-pub record Puts (Those : RowGroup → Type 0) (old : List (Vec RowGroup Global)) (others : List RowGroup) (new : List (Vec RowGroup Global)) (more : List RowGroup) : Type 0 where
+pub record Puts (Belongs : ℕ → Group → Type 0) (Those : RowGroup → Type 0) (old : List (Vec RowGroup Global)) (others : List RowGroup) (new : List (Vec RowGroup Global)) (more : List RowGroup) : Type 0 where
   pub objects : length new ≡ length old
   pub stay : (i : ℕ) → HaveBeside old i → HaveBeside new i
   pub rest : (i : ℕ) → HaveIn others i → HaveIn more i
-  pub beside : (u : ℕ) (b : RowGroup) → HasGroup (row new u) b → HasGroup (row old u) b ⊎ (Those b × IsOther b.group u)
+  pub beside : (u : ℕ) (b : RowGroup) → HasGroup (row new u) b → HasGroup (row old u) b ⊎ (Those b × Belongs u b.group)
   pub further : (b : RowGroup) → HasGroup more b → HasGroup others b ⊎ Those b
   pub each : (b : RowGroup) (i : ℕ) → Those b → IsInGroup b.group i → HaveBeside new i ⊎ HaveIn more i
 
@@ -39,10 +49,10 @@ pub record Puts (Those : RowGroup → Type 0) (old : List (Vec RowGroup Global))
 abbrev pub IsOfRows : Rows → RowGroup → Type 0
 IsOfRows rows b = HasGroup (row rows.rows.items b.row) b.group
 
--- the groups of the rows, by the other object, of which there are n
-pub record SortsRows (rows : Rows) (n : ℕ) (p : Pairs) : Type 0 where
+-- the groups of the rows of the object o, by the other object, of which there are n
+pub record SortsRows (named : List (Vec ObjId Global)) (o : ℕ) (rows : Rows) (n : ℕ) (p : Pairs) : Type 0 where
   pub objects : length p.beside.items ≡ n
-  pub beside : (u : ℕ) (b : RowGroup) → HasGroup (row p.beside.items u) b → IsOfRows rows b × IsOther b.group u
+  pub beside : (u : ℕ) (b : RowGroup) → HasGroup (row p.beside.items u) b → IsOfRows rows b × BelongsTo named o u b.group
   pub others : (b : RowGroup) → HasGroup p.others.items b → IsOfRows rows b
   pub each : (b : RowGroup) (i : ℕ) → IsOfRows rows b → IsInGroup b.group i → HaveBeside p.beside.items i ⊎ HaveIn p.others.items i
 
@@ -50,10 +60,14 @@ pub record SortsRows (rows : Rows) (n : ℕ) (p : Pairs) : Type 0 where
 abbrev pub IsGroupOf : List Cond → ℕ → ℕ → Group → Type 0
 IsGroupOf cs o r g = (picks : List ℕ) × ArePicks (length cs) picks × IsGroup cs o picks r g
 
+-- of the objects below n, the conditions of the group name none but o and u
+abbrev pub NamesNoThird : List Cond → ℕ → ℕ → ℕ → Group → Type 0
+NamesNoThird cs n o u g = (i : ℕ) (x : Cond) → IsInGroup g i → slice_get cs (i - 1) ≡ Some x → (v : ℕ) → v < n → names v x ≡ true → v ≢ o → v ≡ u
+
 -- the picks of the object o in groups by the other object, of which there are n
 pub record ArePairs (cs : List Cond) (o : ℕ) (picks : List ℕ) (n : ℕ) (p : Pairs) : Type 0 where
   pub objects : length p.beside.items ≡ n
-  pub beside : (u : ℕ) (b : RowGroup) → HasGroup (row p.beside.items u) b → IsGroup cs o picks b.row b.group × IsOther b.group u
+  pub beside : (u : ℕ) (b : RowGroup) → HasGroup (row p.beside.items u) b → IsGroup cs o picks b.row b.group × NamesNoThird cs n o u b.group
   pub others : (b : RowGroup) → HasGroup p.others.items b → IsGroup cs o picks b.row b.group
   pub each : (k : ℕ) → k < length picks → HaveBeside p.beside.items (slice_index picks k) ⊎ HaveIn p.others.items (slice_index picks k)
 

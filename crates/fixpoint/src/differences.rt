@@ -20,15 +20,7 @@ fn has_same_places<const K: usize>(a: &State<K>, b: &State<K>, o: ObjId) -> bool
     requires second { o.0 < length b.now }
     ensures { IsTrue result ↔ ((reach a.now o.0).places ≡ (reach b.now o.0).places) }
 {
-    let _first = a.region(o);
-    let _second = b.region(o);
-    for before in 0..16u8 {
-        let place = before + 1;
-        if a.has_shape(o, place) != b.has_shape(o, place) {
-            return false;
-        }
-    }
-    true
+    a.places(o).is_same(&b.places(o))
 }
 
 // Whether the object has the same region in both states.

@@ -8,7 +8,7 @@ ghost use Rattle.object_pruning.specs.InRows.{IsInGroup};
 ghost use Rattle.fixpoint.specs.Links.{AreLinks, NamedBy};
 ghost use Rattle.fixpoint.specs.declared.pairs.RowGroup.{RowGroup};
 ghost use Rattle.fixpoint.specs.Pairs.{AreSomePairs, HaveBeside, HaveIn, IsGroupOf};
-ghost use Rattle.fixpoint.specs.Kept.{AllStand, AsksSlot, IsBlank, RetriesMarked, RetriesThose, Stand, StandBut, StandsAlone};
+ghost use Rattle.fixpoint.specs.Kept.{AllStand, AsksSlot, IsBlank, IsKnown, RetriesMarked, RetriesThose, Stand, StandBut, StandsAlone};
 ghost use Rattle.fixpoint.specs.Marks.{IsCleared, IsSquare};
 
 use super::links::Links;
@@ -16,7 +16,9 @@ use super::pairs::{Pairs, RowGroup};
 use geo_base::MAX_DIMS;
 use geo_conditions::{ObjId, State};
 use indexical::{AnyIndexical, Watched};
-use object_pruning::{Group, Placed, can_be_in_the_way, is_group_possible, retry, slots};
+use object_pruning::{
+    Group, Placed, are_possible, can_be_in_the_way, is_same_point, retry, slots,
+};
 use std::alloc::{AllocError, Global};
 
 /// The slots of an object, with nothing kept. The answer is an error where memory is short.
@@ -193,28 +195,48 @@ fn is_either_marked(own: bool, marks: &[bool], u: usize) -> bool
     own || marks[u]
 }
 
+// Whether that point is the one.
+fn is_known<const K: usize>(known: &Option<Placed<K>>, q: &Placed<K>) -> bool
+    ensures { IsTrue result → known.now ≡ Some q.now }
+{
+    match known {
+        Some(p) => is_same_point(p, q),
+        None => false,
+    }
+}
+
 // Forgets what is kept in a slot where a condition of the group is refuted. Those of a row of a place ask for that place of the
-// object.
+// object. The last point at which they were all possible is known, and not asked again.
 fn ask_slot<const K: usize>(
     list: &[AnyIndexical<K>],
     r: usize,
     group: &Group,
     o: ObjId,
     s: &State<K>,
+    known: &mut Option<Placed<K>>,
     slot: &mut Option<Placed<K>>,
 )
     requires k { K ≤ MAX_DIMS }
     requires fits { AllFit (map (λ x. x.cond) list.now) s.now }
     requires object { o.0 < length s.now }
     requires group { IsGroupOf (map (λ x. x.cond) list.now) o.0 r group.now }
-    ensures { AsksSlot (map (λ x. x.cond) list.now) s.now o.0 (IsInGroup group.now)
+    requires known { IsKnown (map (λ x. x.cond) list.now) s.now o.0 (IsInGroup group.now)
+        known.old }
+    ensures asks { AsksSlot (map (λ x. x.cond) list.now) s.now o.0 (IsInGroup group.now)
         slot.old slot.new }
+    ensures known { IsKnown (map (λ x. x.cond) list.now) s.now o.0 (IsInGroup group.now)
+        known.new }
 {
     if let Some(q) = slot {
         if r != 0 && r != usize::from(q.place) {
             return;
         }
-        if !is_group_possible(s, o, q, list, group) {
+        if is_known(known, q) {
+            return;
+        }
+        if are_possible(s, o, q, list, group) {
+            *known = Some(*q);
+        } else {
             *slot = None;
         }
     }
@@ -236,8 +258,9 @@ fn ask_slots<const K: usize>(
     ensures { (marks : List Bool) → RetriesThose (map (λ x. x.cond) list.now) s.now o.0 marks
         (IsInGroup group.now) kept.old kept.new }
 {
+    let mut known = None;
     for i in 0..kept.len() {
-        ask_slot(list, r, group, o, s, &mut kept[i]);
+        ask_slot(list, r, group, o, s, &mut known, &mut kept[i]);
     }
 }
 

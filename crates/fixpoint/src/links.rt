@@ -79,14 +79,18 @@ fn all_rows<const K: usize>(
     Ok(rows)
 }
 
-// The pairs of each object, by its rows.
-fn all_pairs(alloc: Global, rows: &[Rows]) -> Result<Vec<Pairs>, AllocError>
-    ensures { IfOk result (λ v. SortAllRows rows.now (length rows.now) v.items) }
+// The pairs of each object, by its rows and by what each condition names.
+fn all_pairs(
+    alloc: Global,
+    rows: &[Rows],
+    named: &[Vec<ObjId>],
+) -> Result<Vec<Pairs>, AllocError>
+    ensures { IfOk result (λ v. SortAllRows named.now rows.now (length rows.now) v.items) }
 {
     let objects = rows.len();
     let mut pairs = Vec::new(alloc);
     for o in 0..objects {
-        let own = pairs_of(alloc, &rows[o], objects)?;
+        let own = pairs_of(alloc, &rows[o], o, named, objects)?;
         pairs.push(own)?;
     }
     Ok(pairs)
@@ -115,7 +119,7 @@ pub fn links_of<const K: usize>(
         named.push(those)?;
     }
     let rows = all_rows(alloc, list, &picks)?;
-    let pairs = all_pairs(alloc, &rows)?;
+    let pairs = all_pairs(alloc, &rows, &named)?;
     Ok(Links {
         named,
         picks,

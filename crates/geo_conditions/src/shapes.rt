@@ -1,4 +1,4 @@
-ghost use Rattle.std.specs.Prelude.{◌≡◌, ◌-◌, ◌≤◌, slice_set};
+ghost use Rattle.std.specs.Prelude.{◌≡◌, ◌↔◌, ◌-◌, ◌≤◌, IsTrue, slice_set};
 ghost use Rattle.geo_conditions.specs.Reach.{place_in, is_only, first_places, count};
 
 use super::object::MAX_SHAPES;
@@ -67,7 +67,14 @@ impl ShapeSet {
     pub fn is_only(&self, place: u8) -> bool
         ensures { result ≡ is_only self.now place }
     {
-        self.has(place) && self.count == 1
+        self.count == 1 && self.has(place)
+    }
+
+    /// Whether both sets have the same places.
+    pub fn is_same(&self, other: &ShapeSet) -> bool
+        ensures { IsTrue result ↔ (self.now ≡ other.now) }
+    {
+        self.there == other.there
     }
 
     /// Puts the place in, or takes it out.

@@ -72,8 +72,8 @@ struct Asked<const K: usize> {
     possible: bool,
 }
 
-// Whether both are the same point at the same place.
-fn is_same<const K: usize>(a: &Placed<K>, b: &Placed<K>) -> bool
+/// Whether both are the same point at the same place.
+pub fn is_same_point<const K: usize>(a: &Placed<K>, b: &Placed<K>) -> bool
     ensures { IsTrue result → a.now ≡ b.now }
 {
     a.place == b.place && a.point.coordinates == b.point.coordinates
@@ -95,7 +95,7 @@ fn is_possible_there<const K: usize, I: Indexical<K>>(
     ensures last { IsAnswered (I.cond x.now) s.now o.0 last.new }
 {
     if let Some(asked) = last {
-        if is_same(&asked.q, q) {
+        if is_same_point(&asked.q, q) {
             return asked.possible;
         }
     }

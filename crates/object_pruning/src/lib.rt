@@ -16,7 +16,7 @@ mod rows;
 mod unrefuted;
 
 pub use gathering::can_be_in_the_way;
-pub use kept::{Placed, retry, slots};
+pub use kept::{Placed, is_same_point, retry, slots};
 pub use prune::{Pruned, prune_kept, prune_object};
 pub use rows::{Group, Rows, rows_of};
-pub use unrefuted::is_group_possible;
+pub use unrefuted::are_possible;

@@ -34,8 +34,8 @@ fn is_number_possible<const K: usize, I: Indexical<K>>(
     list[number as usize - 1].is_possible_at(s, o, q.place, &q.point)
 }
 
-// Whether all conditions of a group are.
-fn are_possible<const K: usize, I: Indexical<K>>(
+/// Whether all conditions of a group are possible with the object there.
+pub fn are_possible<const K: usize, I: Indexical<K>>(
     s: &State<K>,
     o: ObjId,
     q: &Placed<K>,
@@ -59,8 +59,8 @@ fn are_possible<const K: usize, I: Indexical<K>>(
     true
 }
 
-/// Whether all conditions of a group are possible with the object there. Nothing is asked where they cannot be in the way.
-pub fn is_group_possible<const K: usize, I: Indexical<K>>(
+// The same. Nothing is asked where they cannot be in the way.
+fn is_group_possible<const K: usize, I: Indexical<K>>(
     s: &State<K>,
     o: ObjId,
     q: &Placed<K>,

@@ -4,7 +4,7 @@ use Rattle.indexical.specs.declared.any.AnyIndexical.{AnyIndexical}
 use Rattle.object_pruning.specs.declared.kept.Placed.{Placed}
 use Rattle.fixpoint.specs.declared.pairs.RowGroup.{RowGroup}
 use Rattle.fixpoint.specs.Links.{row}
-use Rattle.fixpoint.specs.Pairs.{HaveIn, IsGroupOf}
+use Rattle.fixpoint.specs.Pairs.{HaveIn, IsGroupOf, NamesNoThird}
 use Rattle.fixpoint.specs.Kept.{RetriesThose}
 use Rattle.fixpoint.proofs.Linking.{row_get}
 use Rattle.fixpoint.proofs.Asked.{BesideBelow, those_none, those_unmarked, those_beside, those_lists}
@@ -49,7 +49,7 @@ loop-u-preserved g c =
       | else-is_either_marked w ↦
           let none = c.is_either_marked.ensures w.if-is_either_marked.false in
           subst (λ (slots : List (Option (Placed g.row.K))). RetriesThose cs S o marks (BesideBelow lists (u + 1)) old slots) (sym w.kept-is)
-          (those_beside cs S o marks lists u old mid mid c.loop-u.invariant (those_unmarked cs S o marks (row lists u) u mid (λ k b e. let v = a.2.beside u b (k, e) in ((a.0, a.1, v.0), v.1)) none.0 none.1))
+          (those_beside cs S o marks lists u old mid mid c.loop-u.invariant (those_unmarked cs S o marks (row lists u) u mid (λ k b e. subst (λ (n : ℕ). NamesNoThird cs n o u b.group) (sym c.requires.object.1) (a.2.beside u b (k, e)).1) none.0 none.1))
     ]
 
 pub returns : goal.returns

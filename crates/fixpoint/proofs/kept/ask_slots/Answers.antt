@@ -8,7 +8,7 @@ use Rattle.fixpoint.proofs.Asked.{slots_start, slots_more, those_slots}
 use Rattle.fixpoint.proofs.kept.ask_slots.Goals as goal
 
 pub loop-i-init : goal.loop-i-init
-loop-i-init g c = slots_start (map (λ (x : AnyIndexical g.row.K). x.cond) c.args.list.now) c.args.s.now c.args.o.0 (IsInGroup c.args.group.now) c.args.kept.now
+loop-i-init g c = (slots_start (map (λ (x : AnyIndexical g.row.K). x.cond) c.args.list.now) c.args.s.now c.args.o.0 (IsInGroup c.args.group.now) c.args.kept.now, λ q e. absurd (cc))
 
 pub loop-i-preserved : goal.loop-i-preserved
 loop-i-preserved g c =
@@ -21,8 +21,8 @@ loop-i-preserved g c =
     let x = c.ask_slot.new.slot in
     let h : i < length mid = omega (arith, c.loop-i-test.true, c.loop-i.auto.kept) in
     let was : get_or mid i c.index-kept-i.result ≡ get_or mid i None = get_or_default mid i c.index-kept-i.result None h in
-    let asks : AsksSlot cs S o P (get_or mid i None) x = subst (λ (y : Option (Placed g.row.K)). AsksSlot cs S o P y x) was c.ask_slot.ensures in
-    slots_more cs S o P i c.args.kept.now mid x h c.loop-i.invariant asks
+    let asks : AsksSlot cs S o P (get_or mid i None) x = subst (λ (y : Option (Placed g.row.K)). AsksSlot cs S o P y x) was c.ask_slot.ensures.asks in
+    (slots_more cs S o P i c.args.kept.now mid x h c.loop-i.invariant.0 asks, c.ask_slot.ensures.known)
 
 pub returns : goal.returns
-returns g c = λ marks. those_slots (map (λ (x : AnyIndexical g.row.K). x.cond) c.args.list.now) c.args.s.now c.args.o.0 marks (IsInGroup c.args.group.now) c.loop-i.i c.args.kept.now c.loop-i.kept (omega (arith, c.loop-i-test.false, c.loop-i.auto.kept)) c.loop-i.invariant
+returns g c = λ marks. those_slots (map (λ (x : AnyIndexical g.row.K). x.cond) c.args.list.now) c.args.s.now c.args.o.0 marks (IsInGroup c.args.group.now) c.loop-i.i c.args.kept.now c.loop-i.kept (omega (arith, c.loop-i-test.false, c.loop-i.auto.kept)) c.loop-i.invariant.0

@@ -5,11 +5,12 @@ use Rattle.std.proofs.lemmas.List.{length-map, get_or-map, with_items_is}
 use Rattle.std.specs.Vec.{with_items}
 use Rattle.geo_conditions.specs.declared.object.ObjId.{ObjId}
 use Rattle.geo_conditions.specs.declared.cond.Cond.{Cond}
+use Rattle.indexical.specs.Names.{names}
 use Rattle.indexical.specs.declared.any.AnyIndexical.{AnyIndexical}
 use Rattle.geo_conditions.specs.declared.object.TheConstants.{MAX_OBJECTS}
 use Rattle.sweep.specs.Picks.{ArePicks}
 use Rattle.object_pruning.specs.declared.rows.Rows.{Rows}
-use Rattle.fixpoint.specs.Links.{HavePairs, SortAllRows, HaveRows, NamedBy, Numbers, names_none, put_where, row}
+use Rattle.fixpoint.specs.Links.{HavePairs, SortAllRows, HaveRows, NamedBy, Numbers, NumbersOf, PicksOf, names_none, put_where, row}
 use Rattle.fixpoint.proofs.Linking.{LinksBelow, links_start, links_more, links_end, named_empty}
 use Rattle.fixpoint.proofs.Paired.{have_pairs}
 use Rattle.fixpoint.proofs.links.links_of.Goals as goal
@@ -70,5 +71,10 @@ returns g c =
     let l = c.loop-i.invariant in
     let rows : HaveRows cs picks c.args.objects own = subst (λ (m : ℕ). HaveRows cs picks m own) l.objects (subst (λ (vs : List (Vec ℕ Global)). HaveRows cs vs (length vs) own) c.deref.ensures.value c.in_ok-rows.ensures) in
     let beside = c.in_ok-pairs.pairs.items in
-    let pairs : HavePairs cs picks c.args.objects beside = have_pairs cs picks c.args.objects own beside rows (subst (λ (vs : List Rows). SortAllRows vs (length vs) beside) c.deref-2.ensures.value c.in_ok-pairs.ensures) in
-    links_end _ c.args.objects c.loop-i.i _ (omega (arith, c.loop-i-test.false, c.loop-i.auto.i-end, length-map c.args.list.now (λ x. x.cond))) l rows pairs
+    let named = c.loop-i.named.items in
+    let sorted = subst (λ (ns : List (Vec ObjId Global)). SortAllRows ns own (length own) beside) c.deref-3.ensures.value (subst (λ (vs : List Rows). SortAllRows c.deref-3.result.now vs (length vs) beside) c.deref-2.ensures.value c.in_ok-pairs.ensures) in
+    let end : c.loop-i.i ≡ length cs = omega (arith, c.loop-i-test.false, c.loop-i.auto.i-end, length-map c.args.list.now (λ x. x.cond)) in
+    let are : (o : ℕ) → o < c.args.objects → PicksOf cs o (row picks o) = λ o h. subst (λ (m : ℕ). NumbersOf (names o) cs m (row picks o)) end (l.picks o h) in
+    let by : (j : ℕ) (d : Cond) → j < length cs → NamedBy (get_or cs j d) c.args.objects (row named j) = λ j d h. l.named j d (omega (arith, h, end)) in
+    let pairs : HavePairs cs picks c.args.objects beside = have_pairs cs picks c.args.objects named own beside are by rows sorted in
+    links_end _ c.args.objects c.loop-i.i _ end l rows pairs

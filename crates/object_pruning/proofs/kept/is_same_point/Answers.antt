@@ -1,7 +1,7 @@
 use Rattle.std.proofs.Common.{◌≡◌, ℕ, List, ℤ, ap, sym, ◌∙◌}
 use Rattle.std.specs.Cmp.Rules.{signed_items}
 use Rattle.object_pruning.specs.declared.kept.Placed.{Placed}
-use Rattle.object_pruning.proofs.kept.is_same.Goals as goal
+use Rattle.object_pruning.proofs.kept.is_same_point.Goals as goal
 
 abbrev placed_at : (K : ℕ) → ℕ → List ℤ → Placed K
 placed_at K s p = record { place = s; point = record { coordinates = p } }
