@@ -230,12 +230,16 @@ no_third cs o picks n named u r g h p each is belongs i x b at v l t ne = elim b
   where
     within : i - 1 < length cs
     within = slice_get_within cs (i - 1) x at
+
     here : get_or cs (i - 1) x ≡ x
     here = same_Some _ _ (sym (slice_get-get_or cs (i - 1) x within) ∙ at)
+
     by : NamedBy x n (row named (i - 1))
     by = subst (λ (c : Cond). NamedBy c n (row named (i - 1))) here (each (i - 1) x within)
+
     among : (w : ℕ) → w < n → names w x ≡ true → is_among w (row named (i - 1)) ≡ true
     among w b e = by.each w b ∙ e
+
     o_named : names o x ≡ true
     o_named =
         let at_pick = is.listed i b in

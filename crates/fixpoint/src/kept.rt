@@ -16,9 +16,7 @@ use super::pairs::{Pairs, RowGroup};
 use geo_base::MAX_DIMS;
 use geo_conditions::{ObjId, State};
 use indexical::{AnyIndexical, Watched};
-use object_pruning::{
-    Group, Placed, are_possible, can_be_in_the_way, is_same_point, retry, slots,
-};
+use object_pruning::{Group, Placed, are_possible, can_be_in_the_way, is_same_point, retry, slots};
 use std::alloc::{AllocError, Global};
 
 /// The slots of an object, with nothing kept. The answer is an error where memory is short.

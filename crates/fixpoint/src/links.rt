@@ -80,11 +80,7 @@ fn all_rows<const K: usize>(
 }
 
 // The pairs of each object, by its rows and by what each condition names.
-fn all_pairs(
-    alloc: Global,
-    rows: &[Rows],
-    named: &[Vec<ObjId>],
-) -> Result<Vec<Pairs>, AllocError>
+fn all_pairs(alloc: Global, rows: &[Rows], named: &[Vec<ObjId>]) -> Result<Vec<Pairs>, AllocError>
     ensures { IfOk result (λ v. SortAllRows named.now rows.now (length rows.now) v.items) }
 {
     let objects = rows.len();

@@ -211,6 +211,14 @@ pub fn end_of<const K: usize>(s: &State<K>, o: ObjId, d: usize, up: bool) -> i64
     if up { ends.lo } else { ends.hi }
 }
 
+// Whether the point has that coordinate in a dimension.
+fn has_coordinate<const K: usize>(q: &Placed<K>, d: usize, there: i64) -> bool
+    requires { d < K }
+    ensures { IsTrue result → coordinate q.now.point.coordinates d ≡ there }
+{
+    q.point.get(d) == there
+}
+
 // Whether the point in a slot is one at which the object still has that coordinate in a dimension.
 fn is_kept_there<const K: usize>(
     s: &State<K>,
@@ -226,8 +234,8 @@ fn is_kept_there<const K: usize>(
     ensures { IsTrue result → (cs : List Cond) → AllSupport cs s.now o.0 kept.now
         → (u : ℕ) × (p : List ℤ) × CanBe cs s.now o.0 u p × (coordinate p d ≡ there) }
 {
-    match kept_at(s, o, kept, slot) {
-        Some(q) => q.point.get(d) == there,
+    match kept_in(kept, slot) {
+        Some(q) => has_coordinate(&q, d, there) && is_there(s, o, &q),
         None => false,
     }
 }
