@@ -1,18 +1,19 @@
 -- Each reader of a formula's parts reads its language.
-use Rattle.std.proofs.Common.{◌≡◌, ℕ, zero, suc, ◌<◌, ◌-◌, List, [], ◌++◌, Option, None, true, false, refl, sym, ap, ◌∙◌, arith}
+use Rattle.std.proofs.Common.{◌≡◌, ℕ, zero, suc, ◌<◌, ◌-◌, List, [], ◌++◌, Option, Some, None, true, false, refl, sym, ap, ◌∙◌, arith}
 use Rattle.geo_tokens.specs.declared.token.Token.{Token}
 use Rattle.geo_tokens.specs.declared.token.Kind.TheVariants as kinds
 use Rattle.geo_tokens.specs.declared.token.Keyword.TheVariants as keywords
 use Rattle.geo_tokens.specs.declared.token.Sym.TheVariants as syms
 use Rattle.geo_tokens.specs.Words.{Kinds, word, symbol, Lang, Pure, Tok, Bind, Chain, Placed}
-use Rattle.geo_tokens.specs.Reading.{Read, ◌>>=◌, token_at, cut_at}
+use Rattle.geo_tokens.specs.Reading.{Read, Got, Wrong, ◌>>=◌, token_at, cut_at}
 use Rattle.geo_tokens.proofs.Lists.{subset}
 use Rattle.geo_tokens.proofs.Good.{Good, one_good, pure_good, bind_good, either_good, opt_good, many_good, placed_good, wider_good}
 use Rattle.geo_tokens.proofs.OneToken.{of_kind, number_good, word_good, symbol_good, word_cut_good, symbol_cut_good}
 use Rattle.rule_syntax.specs.Marks.{words, rels, quantifiers, factor_firsts, unary_firsts, expr_behinds, conjunction_behinds, disjunction_behinds, implication_behinds, formula_behinds}
-use Rattle.rule_syntax.specs.Tree.{ExprTree, ArgumentTree, all_objects, FormulaTree, comparison}
+use Rattle.rule_syntax.specs.Tree.{ExprTree, ArgumentTree, CollTree, all_objects, FormulaTree, comparison, quantified}
 use Rattle.rule_syntax.specs.Grammar.{and_of, or_of, implication_of, equivalence_of, Named, True, False, Not, Brackets, FormulaCall, Quantifier, NameList, Collection, Quantified, Comparison, Conjunction, Behind, FormulaOver, UnaryOver, Unary, FormulaWords}
-use Rattle.rule_syntax.specs.Reading.{expr_at, args_over_at, args_at, true_at, false_at, not_at, brackets_at, formula_call_at, quantifier_at, next_name_at, name_list_at, collection_at, quantified_at, comparison_at, unary_over_at, conjunction_over_at, disjunction_over_at, behind_at, implication_over_at, equivalence_over_at, formula_over_at, unary_at, and_unary_at, conjunction_at, or_conjunction_at, disjunction_at, implication_at, formula_at}
+use Rattle.rule_syntax.specs.Reading.{named_at, expr_at, args_over_at, args_at, true_at, false_at, not_at, brackets_at, formula_call_at, quantifier_at, next_name_at, name_list_at, collection_at, quantified_at, comparison_at, unary_over_at, conjunction_over_at, disjunction_over_at, behind_at, implication_over_at, equivalence_over_at, formula_over_at, unary_at, and_unary_at, conjunction_at, or_conjunction_at, disjunction_at, implication_at, formula_at}
+use Rattle.rule_reading.specs.Bound.{range_at, quantified_over_at}
 use Rattle.rule_syntax.proofs.Expressions.{named_good, expr_good, args_good}
 
 true_good : Good True true_at false (word keywords.True) []
@@ -42,6 +43,21 @@ module _ (text : List ℕ) where
   collection_good = either_good refl
       (bind_good refl (word_good keywords.Objects) (λ t. opt_good all_objects name_list_good))
       (bind_good refl (word_good keywords.Boxes) (λ t. bind_good refl (word_good keywords.Of) (λ u. bind_good refl (named_good text) (λ a. pure_good _))))
+
+-- ---- a quantified formula in two parts
+
+grouped : {A B C : Type 0} (r : Read A) (f : A → List Token → Read B) (g : B → List Token → Read C) (h : A → List Token → Read C)
+    → ((a : A) (rest : List Token) → (f a rest >>= g) ≡ h a rest) → ((r >>= f) >>= g) ≡ (r >>= h)
+grouped (Got (Some a) rest) f g h k = k a rest
+grouped (Got None rest) f g h k = refl
+grouped (Wrong rest) f g h k = refl
+
+module _ (text : List ℕ) (inner : List Token → Read FormulaTree) where
+  quantified_is : (w : List Token) → quantified_over_at text inner w ≡ quantified_at text inner w
+  quantified_is w =
+      grouped (quantifier_at w) _ _ _ (λ q v. grouped (named_at text v) _ _ _ (λ a x.
+      grouped (range_at text x) _ _ (λ (c : CollTree) (last : List Token). inner last >>= λ f end. Got (Some (quantified q.0 q.1 a c f)) end) (λ c last. refl)
+      ∙ grouped (token_at (word keywords.In) x) _ _ _ (λ t y. grouped (collection_at text y) _ _ _ (λ c z. grouped (token_at (symbol syms.Colon) z) _ _ _ (λ u r. refl)))))
 
 -- ---- over unaries
 
@@ -137,11 +153,13 @@ module _ (text : List ℕ) where
   unary_flat n w e = ap (λ m. unary_at text m w) e
 
   pub unary_nested : (n : ℕ) (w : List Token) → 0 < n
-      → unary_at text n w ≡ unary_over_at text (not_at (unary_at text (n - 1))) (brackets_at (formula_at text (n - 1))) (args_at text n) (quantified_at text (unary_at text (n - 1))) (expr_at text n) w
+      → unary_at text n w ≡ unary_over_at text (not_at (unary_at text (n - 1))) (brackets_at (formula_at text (n - 1))) (args_at text n) (quantified_over_at text (unary_at text (n - 1))) (expr_at text n) w
   unfolding unary_at formula_at implication_at disjunction_at conjunction_at
   unary_nested n w h =
       let e : n ≡ suc (n - 1) = omega arith in
-      ap (λ m. unary_at text m w) e ∙ ap (λ m. unary_over_at text (not_at (unary_at text (n - 1))) (brackets_at (formula_at text (n - 1))) (args_at text m) (quantified_at text (unary_at text (n - 1))) (expr_at text m) w) (sym e)
+      ap (λ m. unary_at text m w) e
+      ∙ ap (λ m. unary_over_at text (not_at (unary_at text (n - 1))) (brackets_at (formula_at text (n - 1))) (args_at text m) (quantified_at text (unary_at text (n - 1))) (expr_at text m) w) (sym e)
+      ∙ ap (λ (r : Read FormulaTree). unary_over_at text (not_at (unary_at text (n - 1))) (brackets_at (formula_at text (n - 1))) (args_at text n) (λ v. r) (expr_at text n) w) (sym (quantified_is text (unary_at text (n - 1)) w))
 
   pub args_flat : (n : ℕ) (w : List Token) → n ≡ 0 → args_at text n w ≡ cut_at (symbol syms.ParenOpen) w
   unfolding args_at

@@ -9,10 +9,11 @@ ghost use Rattle.geo_tokens.specs.declared.token.Keyword.TheVariants as keywords
 ghost use Rattle.geo_tokens.specs.declared.token.Sym.TheVariants as syms;
 ghost use Rattle.rule_syntax.specs.Marks.{quantifiers, rels};
 ghost use Rattle.rule_syntax.specs.Grammar.{rel_in, and_of, or_of, implication_of, equivalence_of};
-ghost use Rattle.rule_syntax.specs.Reading.{true_at, false_at, not_at, brackets_at, args_at, formula_call_at, quantified_at, comparison_at, unary_over_at, unary_at, and_unary_at, conjunction_at, or_conjunction_at, disjunction_at, behind_at, implication_at, formula_at, expr_at};
+ghost use Rattle.rule_syntax.specs.Reading.{true_at, false_at, not_at, brackets_at, args_at, formula_call_at, comparison_at, unary_over_at, unary_at, and_unary_at, conjunction_at, or_conjunction_at, disjunction_at, behind_at, implication_at, formula_at, expr_at};
 ghost use Rattle.rule_syntax.specs.View.{argument_views, formula_view, formula_views, behind_view};
+ghost use Rattle.rule_reading.specs.Bound.{quantified_over_at};
 
-use crate::quantifier::{QUANTIFIERS, begins_quantifier, collection, quantifier};
+use crate::quantifier::{QUANTIFIERS, begins_quantifier, bound};
 use geo_tokens::stop::{Stop, next_is, one_of, refusal, start_of, token};
 use geo_tokens::token::{Keyword, Kind, Sym, Token};
 use rule_syntax::expression::{arguments, expression};
@@ -173,13 +174,9 @@ fn quantified<'a>(
     tokens: &'a [Token],
 ) -> Result<(Formula, &'a [Token]), Stop<'a>>
     ensures { Gives formula_view result
-        (quantified_at text.now (unary_at text.now below) tokens.now) }
+        (quantified_over_at text.now (unary_at text.now below) tokens.now) }
 {
-    let ((place, kind), rest) = quantifier(tokens)?;
-    let (variable, rest) = placed_name(alloc, text, rest)?;
-    let (_, rest) = token(rest, Kind::Word(Keyword::In))?;
-    let (collection, rest) = collection(alloc, text, rest)?;
-    let (_, rest) = token(rest, Kind::Symbol(Sym::Colon))?;
+    let ((place, kind, variable, collection), rest) = bound(alloc, text, tokens)?;
     let (body, rest) = unary(alloc, text, below, rest)?;
     let body = Box::new(alloc, body)?;
     Ok((
@@ -227,7 +224,7 @@ fn nested_unary<'a>(
     ensures { Gives formula_view result
         (unary_over_at text.now (not_at (unary_at text.now (levels - 1)))
         (brackets_at (formula_at text.now (levels - 1))) (args_at text.now levels)
-        (quantified_at text.now (unary_at text.now (levels - 1))) (expr_at text.now levels)
+        (quantified_over_at text.now (unary_at text.now (levels - 1))) (expr_at text.now levels)
         tokens.now) }
 {
     if next_is(tokens, Kind::Word(Keyword::True)) {

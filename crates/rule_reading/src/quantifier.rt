@@ -9,6 +9,7 @@ ghost use Rattle.geo_tokens.specs.declared.token.Sym.TheVariants as syms;
 ghost use Rattle.rule_syntax.specs.Marks.{words, quantifiers};
 ghost use Rattle.rule_syntax.specs.Reading.{each_at, count_at, quantifier_at, next_name_at, name_list_at, objects_at, boxes_at, collection_at};
 ghost use Rattle.rule_syntax.specs.View.{coll_view, names_view};
+ghost use Rattle.rule_reading.specs.Bound.{range_at, bound_at, bound_view};
 
 use geo_tokens::stop::{Stop, next_in, next_is, one_of, token};
 use geo_tokens::token::{Keyword, Kind, Sym, Token, number_in};
@@ -73,7 +74,7 @@ fn begins_each(tokens: &[Token]) -> bool
 }
 
 /// The first words of a quantifier, with their place.
-pub fn quantifier(tokens: &[Token]) -> Result<((u64, QuantKind), &[Token]), Stop<'_>>
+fn quantifier(tokens: &[Token]) -> Result<((u64, QuantKind), &[Token]), Stop<'_>>
     ensures { Gives (λ q. q) result (quantifier_at tokens.now) }
 {
     if begins_each(tokens) {
@@ -161,7 +162,7 @@ fn boxes<'a>(
 }
 
 /// What a quantifier's variable ranges over.
-pub fn collection<'a>(
+fn collection<'a>(
     alloc: Global,
     text: &[u8],
     tokens: &'a [Token],
@@ -173,4 +174,32 @@ pub fn collection<'a>(
     } else {
         boxes(alloc, text, tokens)
     }
+}
+
+/// What a variable ranges over, between the word `in` and the colon.
+fn range<'a>(
+    alloc: Global,
+    text: &[u8],
+    tokens: &'a [Token],
+) -> Result<(Coll, &'a [Token]), Stop<'a>>
+    ensures { Gives coll_view result (range_at text.now tokens.now) }
+{
+    let (_, rest) = token(tokens, Kind::Word(Keyword::In))?;
+    let (collection, rest) = collection(alloc, text, rest)?;
+    let (_, rest) = token(rest, Kind::Symbol(Sym::Colon))?;
+    Ok((collection, rest))
+}
+
+/// A quantifier with its place, its variable and what that ranges over.
+pub fn bound<'a>(
+    alloc: Global,
+    text: &[u8],
+    tokens: &'a [Token],
+) -> Result<((u64, QuantKind, PlacedName, Coll), &'a [Token]), Stop<'a>>
+    ensures { Gives bound_view result (bound_at text.now tokens.now) }
+{
+    let ((place, kind), rest) = quantifier(tokens)?;
+    let (variable, rest) = placed_name(alloc, text, rest)?;
+    let (collection, rest) = range(alloc, text, rest)?;
+    Ok(((place, kind, variable, collection), rest))
 }

@@ -10,7 +10,7 @@ ghost use Rattle.geo_tokens.specs.declared.token.Sym.TheVariants as syms;
 ghost use Rattle.rule_syntax.specs.Marks.{words, symbols, product_marks, factor_firsts};
 ghost use Rattle.rule_syntax.specs.Grammar.{extreme_in};
 ghost use Rattle.rule_syntax.specs.Reading.{named_at, number_at, field_at, variable_at, shape_number_at, value_call_at, extreme_at, division_at, factor_over_at};
-ghost use Rattle.rule_syntax.specs.View.{expr_view, product_view, argument_views, pair_view};
+ghost use Rattle.rule_syntax.specs.View.{expr_view, product_view, argument_views};
 
 use crate::tree::{Argument, Expr, PlacedName, ProdStep};
 use geo_tokens::name::Name;
@@ -104,14 +104,6 @@ pub fn refused_arguments(tokens: &[Token]) -> Result<(Vec<Argument>, &[Token]), 
     Err(refusal(tokens, &[Kind::Symbol(Sym::ParenOpen)]))
 }
 
-/// Two expressions in brackets that would open a level too many.
-#[tactic(auto, using(geo_tokens::proofs::Refused::refused_fails))]
-fn refused_pair(tokens: &[Token]) -> Result<((Expr, Expr), &[Token]), Stop<'_>>
-    ensures { Gives pair_view result (cut_at (symbol syms.ParenOpen) tokens.now) }
-{
-    Err(refusal(tokens, &[Kind::Symbol(Sym::ParenOpen)]))
-}
-
 /// The least or the greatest of two, by its word.
 pub fn extreme_of(alloc: Global, word: Token, first: Expr, second: Expr) -> Result<Expr, AllocError>
     ensures { IfOk result (λ e. expr_view e
@@ -135,7 +127,7 @@ pub fn extreme_word(tokens: &[Token]) -> Result<(Token, &[Token]), Stop<'_>>
     )
 }
 
-/// A call that gives a number, where no level may be opened.
+/// A call that gives a number, where no level may be opened: its brackets are refused.
 fn flat_call<'a>(
     alloc: Global,
     text: &[u8],
@@ -144,19 +136,17 @@ fn flat_call<'a>(
     ensures { Gives expr_view result
         (value_call_at text.now (cut_at (symbol syms.ParenOpen)) tokens.now) }
 {
-    let (first, rest) = token(tokens, Kind::Symbol(Sym::Dollar))?;
-    let (name, rest) = placed_name(alloc, text, rest)?;
-    let (arguments, rest) = refused_arguments(rest)?;
-    Ok((Expr::CallValue(first.start, name, arguments), rest))
+    let (_, rest) = token(tokens, Kind::Symbol(Sym::Dollar))?;
+    let (_, rest) = placed_name(alloc, text, rest)?;
+    refused_expression(rest, Kind::Symbol(Sym::ParenOpen))
 }
 
-/// The least or the greatest of two, where no level may be opened.
-fn flat_extreme(alloc: Global, tokens: &[Token]) -> Result<(Expr, &[Token]), Stop<'_>>
+/// The least or the greatest of two, where no level may be opened: its brackets are refused.
+fn flat_extreme(tokens: &[Token]) -> Result<(Expr, &[Token]), Stop<'_>>
     ensures { Gives expr_view result (extreme_at (cut_at (symbol syms.ParenOpen)) tokens.now) }
 {
-    let (word, rest) = extreme_word(tokens)?;
-    let ((first, second), rest) = refused_pair(rest)?;
-    Ok((extreme_of(alloc, word, first, second)?, rest))
+    let (_, rest) = extreme_word(tokens)?;
+    refused_expression(rest, Kind::Symbol(Sym::ParenOpen))
 }
 
 /// A factor where no level may be opened.
@@ -182,7 +172,7 @@ pub fn flat_factor<'a>(
     } else if next_is(tokens, Kind::Symbol(Sym::Dollar)) {
         flat_call(alloc, text, tokens)
     } else {
-        flat_extreme(alloc, tokens)
+        flat_extreme(tokens)
     }
 }
 
