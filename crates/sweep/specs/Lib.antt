@@ -4,3 +4,4 @@ pub mod Picks
 pub mod Parts
 pub mod Sweep
 pub mod Swept
+pub mod Turned

@@ -78,7 +78,7 @@ returns-then-not-more g c =
     let b = region_of c.args.region.now in
     let w = swept_of g.row.K way.lead way.up g.I.Indexical.cond c.args.list.now c.args.picks.now c.args.s.now c.args.o.0 c.args.place b c.args.past.now.coordinates c.args.c.now.coordinates c.args.n.now.coordinates way.lead_in c.requires.fits c.requires.object c.requires.picks c.requires.begun in
     HasSwept-at g.row.K way.lead way.up g.R.Recorder.keeps cs c.args.picks.now c.args.s.now c.args.o.0 c.args.place b c.args.past.now.coordinates c.args.c.now.coordinates c.args.n.now.coordinates (g.R.Recorder.list c.args.rec.now) (g.R.Recorder.refusals c.args.rec.now) c.args.steps.now w c.turns.c.coordinates c.turns.n.coordinates c.turns.marks.places (g.R.Recorder.list c.turns.rec) (g.R.Recorder.refusals c.turns.rec) c.turns.steps c.turns.invariant.between (g.R.Recorder.list c.turn.new.rec) (g.R.Recorder.refusals c.turn.new.rec) c.ask.new.steps _ _ c.in-Some.ensures.asked
-    (rw c.if-not-more.true at c.in-Ok-turn.ensures.length)
+    (rw c.if-not-more.true at c.in-Ok-turn.ensures.size)
     (HasFound-none g.row.K way.lead way.up g.R.Recorder.keeps cs c.args.picks.now c.args.s.now c.args.o.0 c.args.place b c.args.past.now.coordinates c.args.c.now.coordinates c.args.n.now.coordinates (g.R.Recorder.list c.args.rec.now) (g.R.Recorder.refusals c.args.rec.now) c.args.steps.now w c.turns.c.coordinates c.turns.n.coordinates c.turns.marks.places (g.R.Recorder.list c.turns.rec) (g.R.Recorder.refusals c.turns.rec) c.turns.steps c.turns.invariant.between c.in-Some.k (region_of c.in-Some.b) c.in-Some.ensures.forbidden (g.R.Recorder.list c.turn.new.rec) (rw c.if-not-more.true at c.in-Ok-turn.ensures.jump) (rw c.if-not-more.true at c.in-Ok-turn.ensures.recorded))
     (c.in-Ok-turn.ensures.grows (refutes_pick cs c.args.picks.now c.args.s.now c.args.o.0 c.args.place) (g.R.Recorder.list c.args.rec.now) (opened_by g.row.K way.lead way.up g.R.Recorder.keeps cs c.args.picks.now c.args.s.now c.args.o.0 c.args.place b c.args.past.now.coordinates c.args.c.now.coordinates c.args.n.now.coordinates (g.R.Recorder.list c.args.rec.now) (g.R.Recorder.refusals c.args.rec.now) c.args.steps.now w c.turns.c.coordinates c.turns.n.coordinates c.turns.marks.places (g.R.Recorder.list c.turns.rec) (g.R.Recorder.refusals c.turns.rec) c.turns.steps c.turns.invariant.between c.in-Some.k (region_of c.in-Some.b) c.in-Some.ensures.forbidden))
 
@@ -97,6 +97,6 @@ turns-preserved g c =
     record {
       from_in = omega (arith, c.in-Some.ensures.forbidden.pick.0);
       between = IsBetween-turn g.row.K way.lead way.up g.R.Recorder.keeps cs c.args.picks.now c.args.s.now c.args.o.0 c.args.place b c.args.past.now.coordinates c.args.c.now.coordinates c.args.n.now.coordinates (g.R.Recorder.list c.args.rec.now) (g.R.Recorder.refusals c.args.rec.now) c.args.steps.now w c.turns.c.coordinates c.turns.n.coordinates c.turns.marks.places (g.R.Recorder.list c.turns.rec) (g.R.Recorder.refusals c.turns.rec) c.turns.steps c.turns.invariant.between c.in-Some.k (region_of c.in-Some.b) c.in-Some.ensures.forbidden c.turn.new.c.coordinates c.turn.new.n.coordinates c.turn.new.marks.places (g.R.Recorder.list c.turn.new.rec) (g.R.Recorder.refusals c.turn.new.rec) c.ask.new.steps c.in-Some.ensures.asked
-          (rw c.if-not-more.false at c.in-Ok-turn.ensures.jump) (rw c.if-not-more.false at c.in-Ok-turn.ensures.length) (rw c.if-not-more.false at c.in-Ok-turn.ensures.recorded)
+          (rw c.if-not-more.false at c.in-Ok-turn.ensures.jump) (rw c.if-not-more.false at c.in-Ok-turn.ensures.size) (rw c.if-not-more.false at c.in-Ok-turn.ensures.recorded)
           (c.in-Ok-turn.ensures.grows (refutes_pick cs c.args.picks.now c.args.s.now c.args.o.0 c.args.place) (g.R.Recorder.list c.args.rec.now) (opened_by g.row.K way.lead way.up g.R.Recorder.keeps cs c.args.picks.now c.args.s.now c.args.o.0 c.args.place b c.args.past.now.coordinates c.args.c.now.coordinates c.args.n.now.coordinates (g.R.Recorder.list c.args.rec.now) (g.R.Recorder.refusals c.args.rec.now) c.args.steps.now w c.turns.c.coordinates c.turns.n.coordinates c.turns.marks.places (g.R.Recorder.list c.turns.rec) (g.R.Recorder.refusals c.turns.rec) c.turns.steps c.turns.invariant.between c.in-Some.k (region_of c.in-Some.b) c.in-Some.ensures.forbidden)).refusals;
     }
