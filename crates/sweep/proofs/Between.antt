@@ -4,10 +4,12 @@ use Rattle.std.specs.List.{All}
 use Rattle.std.proofs.lemmas.Int.{ints}
 use Rattle.std.proofs.lemmas.List.{length-append}
 use Rattle.geo_base.specs.Boxes.{Has, IsCrossed}
+use Rattle.geo_base.specs.declared.kbox.KBox.{KBox}
 use Rattle.geo_base.specs.Ways.{IsSmallPoint, key, start}
 use Rattle.geo_conditions.specs.declared.cond.Cond.{Cond}
 use Rattle.geo_conditions.specs.Reach.{State, Region, dims, with_at, just}
 use Rattle.geo_conditions.specs.Conditions.{AllFit}
+use Rattle.geo_conditions.specs.Regions.{region_of}
 use Rattle.geo_conditions.specs.Supported.{NoneRefuted}
 use Rattle.derivation.specs.declared.event.Event.{Event}
 use Rattle.derivation.specs.declared.event.Event.TheVariants.{By}
@@ -21,10 +23,10 @@ use Rattle.sweep.specs.Picks.{ArePicks, IsPickedBox, picked}
 use Rattle.sweep.specs.Sweep.{part_before, refutes_pick}
 use Rattle.sweep.specs.Swept.{IsBegun, HasFound, HasSwept}
 use Rattle.sweep.proofs.Bound.{IsCounted, IsCounted-first, IsCounted-turn, IsLast-box, bound_at_end}
-use Rattle.sweep.proofs.PickedConditions.{RefutedIn, forbidden, refuted_at_point, mapped_picks, refutes_pick_true, picked_at, fits_at}
+use Rattle.sweep.proofs.PickedConditions.{RefutedIn, forbidden, refuted_at_point, mapped_picks, picked_at, fits_at}
 use Rattle.sweep.proofs.Promises.{no_point, no_point_crossed, first_point, covered, before_out, before_sizes}
 use Rattle.sweep.proofs.RecordSteps.{IsOpen-start}
-use Rattle.sweep.proofs.Turns.{IsPlaced-first, not_done_first, has_placed, IsDone-before, IsSmallPoint-inside}
+use Rattle.sweep.proofs.Turns.{IsPlaced-first, not_done_first, has_placed, IsDone-before}
 
 -- what stays the same while a region is swept
 pub record IsSwept (K lead : ℕ) (up : Bool) (cs : List Cond) (picks : List ℕ) (S : State) (o s : ℕ) (b : Region) (past c n : List ℤ) : Type 0 where
@@ -50,6 +52,9 @@ pub record IsBetween (K lead : ℕ) (up keeps : Bool) (cs : List Cond) (picks : 
   pub events : keeps ≡ true → All (IsDisjunction o) (picked cs picks) → IsCounted (RefutedIn S o s) cs picks K lead up b.lo b.hi past c n (2 * K) (length list) (length old + (K - 1))
   pub recorded : keeps ≡ true → IsOpen K lead up (refutes_pick cs picks S o s) (key K lead up (start up b.lo b.hi)) (key K lead up past) (K - 1) (key K lead up c) (key K lead up n) marks old list
   pub later : before ≤ refusals
+  -- what the next question and the next turn want
+  pub inside : Has K b.lo b.hi c
+  pub opened : (i : ℕ) (lo hi : List ℤ) → refutes_pick cs picks S o s i lo hi ≡ true → keeps ≡ true → SomeOpenBy K lead up i lo hi (key K lead up (start up b.lo b.hi)) (key K lead up past) (key K lead up c) (key K lead up n) marks list
 
 module _ (K lead : ℕ) (up keeps : Bool) (cs : List Cond) (picks : List ℕ) (S : State) (o s : ℕ) (b : Region) (past c0 n0 : List ℤ) (old : List Event) (before begun : ℕ) (swept : IsSwept K lead up cs picks S o s b past c0 n0) where
   first_bound : (per x : ℕ) → x + per ≤ x + per * (length picks + 1) ^ K
@@ -77,20 +82,20 @@ module _ (K lead : ℕ) (up keeps : Bool) (cs : List Cond) (picks : List ℕ) (S
       let some : 0 < K = omega (arith, l) in
       let recorded : keeps ≡ true → IsOpen K lead up T (k c0) (k past) (K - 1) (k c0) (k n0) marks old list = λ kept. opened kept T old (IsOpen-start K lead up T (k c0) (k past) old (k c0) (k n0) marks0 some refl) in
       let at_first = λ (e : keeps ≡ true). rw swept.begun.jump at (rw swept.begun.at_start at (recorded e)) in
+      let placed = IsPlaced-first K lead up b.lo b.hi past swept.lead_in swept.begun.past_is swept.begun.full in
       rw (swept.begun.at_start, swept.begun.jump) (record {
-        placed = IsPlaced-first K lead up b.lo b.hi past swept.lead_in swept.begun.past_is swept.begun.full;
+        placed = placed;
         passed = λ q h d none. not_done_first K lead up b.lo b.hi past swept.lead_in swept.begun.past_is q h d;
         counted = λ premise. IsCounted-first (RefutedIn S o s) cs picks K lead up b.lo b.hi past swept.lead_in first (length picks) begun;
         events = λ kept premise. let z = size kept in let e : length list ≡ length old + (K - 1) = omega (arith, z) in
             rw e (IsCounted-first (RefutedIn S o s) cs picks K lead up b.lo b.hi past swept.lead_in first (2 * K) (length old + (K - 1)));
         recorded = at_first;
         later = more;
+        inside = has_placed K lead up b.lo b.hi past swept.lead_in swept.begun.past_is first past placed;
+        opened = λ i lo hi t kept. record { test = T; base = old; known = t; is_open = at_first kept };
       })
 
   module _ (c n : List ℤ) (marks : List ℕ) (list : List Event) (refusals asked : ℕ) (was : IsBetween K lead up keeps cs picks S o s b past old before begun c n marks list refusals asked) where
-    pub inside : Has K b.lo b.hi c
-    inside = has_placed K lead up b.lo b.hi past swept.lead_in swept.begun.past_is c n was.placed
-
     asked_at : (asked' : ℕ) → asked' ≤ asked + length picks → All (IsDisjunction o) (picked cs picks) → asked' ≤ begun + length picks * (length picks + 1) ^ K
     asked_at asked' more premise = bound_at_end (RefutedIn S o s) cs picks K lead up b.lo b.hi past swept.lead_in c n (length picks) asked asked' begun more (was.counted premise)
 
@@ -115,7 +120,7 @@ module _ (K lead : ℕ) (up keeps : Bool) (cs : List Cond) (picks : List ℕ) (S
         → (keeps ≡ true → (T : ℕ → List ℤ → List ℤ → Bool) (base : List Event) → IsOpen K lead up T (key K lead up (start up b.lo b.hi)) (key K lead up past) (K - 1) (key K lead up c) (key K lead up n) marks base list → IsRecordOf K T base new (λ q. Has K b.lo b.hi q × (key K lead up q 0 <ℤ key K lead up c 0)))
         → HasFound K lead up keeps cs picks S o s b old new (Some c)
     HasFound-here new size free stopped = record {
-      point = first_point K (picked cs picks) S o s b lead up c swept.begun.low swept.begun.high size inside free (λ q h e. was.passed q h (IsDone-before K lead up b.lo b.hi past swept.lead_in swept.begun.past_is c n was.placed q e));
+      point = first_point K (picked cs picks) S o s b lead up c swept.begun.low swept.begun.high size was.inside free (λ q h e. was.passed q h (IsDone-before K lead up b.lo b.hi past swept.lead_in swept.begun.past_is c n was.placed q e));
       covered = λ kept.
           let sizes = before_sizes K lead up c b swept.begun.low swept.begun.high in
           covered K cs picks S o s (part_before lead up c b) old new (λ q. Has K b.lo b.hi q × (key K lead up q 0 <ℤ key K lead up c 0)) swept.fits swept.there swept.begun.dimensions sizes.0 sizes.1
@@ -123,19 +128,6 @@ module _ (K lead : ℕ) (up keeps : Bool) (cs : List Cond) (picks : List ℕ) (S
     }
 
     module _ (j : ℕ) (box : Region) (found : IsPickedBox K cs picks S o s c b j box) where
-      pub box_true : refutes_pick cs picks S o s (slice_index picks j) box.lo box.hi ≡ true
-      box_true = refutes_pick_true cs picks S o s j found.condition box.lo box.hi swept.numbers found.pick found.box.refuted
-
-      pub some_open_by : keeps ≡ true → SomeOpenBy K lead up (slice_index picks j) box.lo box.hi (key K lead up (start up b.lo b.hi)) (key K lead up past) (key K lead up c) (key K lead up n) marks list
-      some_open_by kept = (refutes_pick cs picks S o s, old, box_true, was.recorded kept)
-
-      pub small_box : IsSmallPoint K b.lo × IsSmallPoint K b.hi → IsSmallPoint K box.lo × IsSmallPoint K box.hi
-      small_box small = (IsSmallPoint-inside K b.lo b.hi box.lo small.0 small.1 found.box.low, IsSmallPoint-inside K b.lo b.hi box.hi small.0 small.1 found.box.high)
-
-      -- the record is open for the test and behind the old events
-      pub opened_by : keeps ≡ true → (refutes_pick cs picks S o s (slice_index picks j) box.lo box.hi ≡ true) × IsOpen K lead up (refutes_pick cs picks S o s) (key K lead up (start up b.lo b.hi)) (key K lead up past) (K - 1) (key K lead up c) (key K lead up n) marks old list
-      opened_by kept = (box_true, was.recorded kept)
-
       none_free : (q : List ℤ) → Has K box.lo box.hi q → NoneRefuted (picked cs picks) (with_at S o s (just q)) → ⊥
       none_free q h none = forbidden cs picks S o s K swept.begun.dimensions swept.there j found.condition box.lo box.hi q swept.fits found.pick h found.box.refuted none
 
@@ -145,7 +137,7 @@ module _ (K lead : ℕ) (up keeps : Bool) (cs : List Cond) (picks : List ℕ) (S
           → HasFound K lead up keeps cs picks S o s b old new None
       HasFound-none new used_up finished = record {
         point = no_point K (picked cs picks) S o s b (λ q h none. elim (used_up q h) [ inl d ↦ was.passed q h d none | inr i ↦ none_free q i none ]);
-        covered = λ kept. covered K cs picks S o s b old new (Has K b.lo b.hi) swept.fits swept.there swept.begun.dimensions swept.begun.low swept.begun.high (λ q h. h) (finished kept (refutes_pick cs picks S o s) old box_true (was.recorded kept));
+        covered = λ kept. covered K cs picks S o s b old new (Has K b.lo b.hi) swept.fits swept.there swept.begun.dimensions swept.begun.low swept.begun.high (λ q h. h) (finished kept (refutes_pick cs picks S o s) old found.known (was.recorded kept));
       }
 
       counted_turn : (per x x' x0 : ℕ) (c' n' : List ℤ) → x' ≤ x + per → All (IsDisjunction o) (picked cs picks) → JumpsOn K lead up b.lo b.hi box.lo box.hi past c n c' n'
@@ -182,8 +174,10 @@ module _ (K lead : ℕ) (up keeps : Bool) (cs : List Cond) (picks : List ℕ) (S
         passed = λ q h d none. elim (jump.done q h d) [ inl e ↦ was.passed q h e none | inr i ↦ none_free q i none ];
         counted = λ premise. counted_turn (length picks) asked asked' begun c' n' more premise jump (was.counted premise);
         events = λ kept premise. counted_turn (2 * K) (length list) (length list') (length old + (K - 1)) c' n' (size kept) premise jump (was.events kept premise);
-        recorded = λ kept. opened kept (refutes_pick cs picks S o s) old box_true (was.recorded kept);
+        recorded = λ kept. opened kept (refutes_pick cs picks S o s) old found.known (was.recorded kept);
         later = omega (arith, was.later, later);
+        inside = has_placed K lead up b.lo b.hi past swept.lead_in swept.begun.past_is c' n' jump.placed;
+        opened = λ i lo hi t kept. record { test = refutes_pick cs picks S o s; base = old; known = t; is_open = opened kept (refutes_pick cs picks S o s) old found.known (was.recorded kept) };
       }
 
 -- a region without a point
@@ -216,3 +210,16 @@ module _ {T T' E E' : Type 0} (K lead : ℕ) (up keeps : Bool) (cs : List Cond) 
 
   pub HasSwept-as : (t : T) (t' : T') → at' t' ≡ at t → HasSwept {E = E} K lead up keeps cs picks S o s b old new before later begun asked (Ok t) at → HasSwept {E = E'} K lead up keeps cs picks S o s b old new before later begun asked (Ok t') at'
   HasSwept-as t t' same h = record { found = rw same h.found; asked_few = h.asked_few; events_few = h.events_few; grows = h.grows }
+
+-- what a turn wants of the box that was found
+module _ (K : ℕ) (cs : List Cond) (picks : List ℕ) (S : State) (o s : ℕ) (c : List ℤ) (region : KBox K) (k : ℕ) (box : KBox K) where
+  pub box_has : IsPickedBox K cs picks S o s c (region_of region) k (region_of box) → Has K box.lo.coordinates box.hi.coordinates c
+  box_has found = found.box.has
+
+  pub box_small : IsPickedBox K cs picks S o s c (region_of region) k (region_of box) → IsSmallPoint K region.lo.coordinates × IsSmallPoint K region.hi.coordinates → IsSmallPoint K box.lo.coordinates × IsSmallPoint K box.hi.coordinates
+  box_small found small = (found.small_low small.0 small.1, found.small_high small.0 small.1)
+
+  pub box_opened : (lead : ℕ) (up keeps : Bool) (past : List ℤ) (old : List Event) (before begun : ℕ) (n : List ℤ) (marks : List ℕ) (list : List Event) (refusals asked : ℕ)
+      → IsPickedBox K cs picks S o s c (region_of region) k (region_of box) → IsBetween K lead up keeps cs picks S o s (region_of region) past old before begun c n marks list refusals asked
+      → keeps ≡ true → SomeOpenBy K lead up (slice_index picks k) box.lo.coordinates box.hi.coordinates (key K lead up (start up region.lo.coordinates region.hi.coordinates)) (key K lead up past) (key K lead up c) (key K lead up n) marks list
+  box_opened lead up keeps past old before begun n marks list refusals asked found was kept = was.opened (slice_index picks k) box.lo.coordinates box.hi.coordinates found.known kept

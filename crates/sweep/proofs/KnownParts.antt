@@ -11,7 +11,7 @@ use Rattle.geo_conditions.specs.Conditions.{possible}
 use Rattle.geo_conditions.specs.Regions.{region_of}
 use Rattle.sweep.specs.Parts.{AreParts}
 use Rattle.sweep.specs.Picks.{ArePicks, PicksAt, IsPickedBox}
-use Rattle.sweep.proofs.PickedConditions.{pick_in}
+use Rattle.sweep.proofs.PickedConditions.{pick_in, picked_box_at}
 
 -- each pick names a condition
 some_pick : (cs : List Cond) (picks : List ℕ) (k : ℕ) → ArePicks (length cs) picks → k < length picks → (x : Cond) × PicksAt cs picks k x
@@ -34,11 +34,8 @@ module _ (K : ℕ) (cs : List Cond) (picks : List ℕ) (S : State) (o s : ℕ) (
           let p = some_pick cs picks k numbers h in
           let w = are k part p.0 at p.1 in
           let inside : Has K part.lo.coordinates part.hi.coordinates c = subst (λ (z : KBox K). Has K z.lo.coordinates z.hi.coordinates c) e.0 e.1 in
-          subst (λ (z : KBox K). IsPickedBox K cs picks S o s c (region_of region) k (region_of z)) (sym e.0) (record {
-            condition = p.0;
-            pick = p.1;
-            box = record { has = inside; low = w.low; high = w.high; refuted = w.refuted; whole = λ d. w.whole };
-          })
+          subst (λ (z : KBox K). IsPickedBox K cs picks S o s c (region_of region) k (region_of z)) (sym e.0)
+          (picked_box_at K cs picks S o s c (region_of region) k (region_of part) p.0 numbers p.1 (record { has = inside; low = w.low; high = w.high; refuted = w.refuted; whole = λ d. w.whole }))
 
   pub part_none : Has K region.lo.coordinates region.hi.coordinates c → IfNone r ((x : Cond) → PicksAt cs picks k x → possible x (with_at S o s (just c)) ≡ true)
   part_none inside = of r none

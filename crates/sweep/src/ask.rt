@@ -1,7 +1,7 @@
 ghost use Rattle.std.specs.Prelude.{◌≡◌, ℕ, ◌+◌, ◌-◌, ◌<◌, ◌≤◌, true, length, map, slice_get, IfSome, IfNone, Some};
 ghost use Rattle.geo_base.specs.Boxes.{Has};
 ghost use Rattle.geo_conditions.specs.declared.cond.Cond.{Cond};
-ghost use Rattle.geo_conditions.specs.Conditions.{possible, AllFit};
+ghost use Rattle.geo_conditions.specs.Conditions.{possible, AllFit, FitsIn};
 ghost use Rattle.geo_conditions.specs.Reach.{with_at, just};
 ghost use Rattle.geo_conditions.specs.Regions.{region_of};
 ghost use Rattle.geo_conditions.specs.Supported.{NoneRefuted};
@@ -44,6 +44,23 @@ fn ask_part<const K: usize, L: Ledger>(
     if part.has(c) { Some(*part) } else { None }
 }
 
+/// The condition that the k-th pick names.
+#[inline(always)]
+fn condition_of<'a, const K: usize, I: Indexical<K>>(
+    s: &State<K>,
+    list: &'a [I],
+    picks: &[u32],
+    k: usize,
+) -> &'a I
+    requires fits { AllFit (map I.cond list.now) s.now }
+    requires picks { ArePicks (length list.now) picks.now }
+    requires k { k < length picks.now }
+    ensures pick { PicksAt (map I.cond list.now) picks.now k (I.cond result.now) }
+    ensures fits { FitsIn (I.cond result.now) s.now }
+{
+    &list[picks[k] as usize - 1]
+}
+
 /// Asks the condition that the k-th pick names.
 #[inline(always)]
 fn ask_condition<const K: usize, I: Indexical<K>, L: Ledger>(
@@ -69,7 +86,7 @@ fn ask_condition<const K: usize, I: Indexical<K>, L: Ledger>(
         → possible x (with_at s.now o.0 place (just c.now.coordinates)) ≡ true) }
     ensures asked { steps.new ≡ steps.old + 1 }
 {
-    list[picks[k] as usize - 1].forbid(s, o, place, c, region, way, steps)
+    condition_of(s, list, picks, k).forbid(s, o, place, c, region, way, steps)
 }
 
 /// Asks the condition that the k-th pick names, or looks at what it forbids where that is known.

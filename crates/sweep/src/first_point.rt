@@ -25,6 +25,7 @@ use std::sync::ledger::Ledger;
 
 /// Turns of the sweep, from the first corner c and the jump n past the region on. Ok(true) where c has come to a point at which no
 /// picked condition is refuted, and Ok(false) where there is none.
+#[tactic(auto, using(crate::proofs::Between::box_has, crate::proofs::Between::box_small, crate::proofs::Between::box_opened))]
 #[inline(always)]
 fn sweep_turns<const K: usize, I: Indexical<K>, R: Recorder, L: Ledger>(
     s: &State<K>,

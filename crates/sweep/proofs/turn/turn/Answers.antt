@@ -66,7 +66,7 @@ record_turn-requires g c =
     let way = c.args.way.now in
     let bounded = placed_bounded g.row.K c.args.way.now.lead c.args.way.now.up c.args.region.now.lo.coordinates c.args.region.now.hi.coordinates c.args.past.now.coordinates c.args.c.now.coordinates c.draw_in.new.n.coordinates way.lead_in c.requires.small.0 c.requires.small.1 c.requires.past (placed_drawn g a) in
     let drawn : (i : ℕ) → i < g.row.K → key g.row.K c.args.way.now.lead c.args.way.now.up c.draw_in.new.n.coordinates i ≤ℤ (key g.row.K c.args.way.now.lead c.args.way.now.up (end c.args.way.now.up c.args.b.now.lo.coordinates c.args.b.now.hi.coordinates) i +ℤ pos 1) = λ i b. omega (arith, ints, clamps, drawn_key g a i b) in
-    let recorded : g.R.Recorder.keeps ≡ true → SomeOpenBy g.row.K c.args.way.now.lead c.args.way.now.up c.args.number c.args.b.now.lo.coordinates c.args.b.now.hi.coordinates (key g.row.K c.args.way.now.lead c.args.way.now.up c.start-first.result.now.coordinates) (key g.row.K c.args.way.now.lead c.args.way.now.up c.args.past.now.coordinates) (key g.row.K c.args.way.now.lead c.args.way.now.up c.args.c.now.coordinates) (key g.row.K c.args.way.now.lead c.args.way.now.up c.draw_in.new.n.coordinates) c.args.marks.now.places (g.R.Recorder.list c.args.rec.now) = λ kept. (let w = c.requires.recorded kept in (w.0, w.1, w.2, open_drawn g a w.0 w.1 w.3)) in
+    let recorded : g.R.Recorder.keeps ≡ true → SomeOpenBy g.row.K c.args.way.now.lead c.args.way.now.up c.args.number c.args.b.now.lo.coordinates c.args.b.now.hi.coordinates (key g.row.K c.args.way.now.lead c.args.way.now.up c.start-first.result.now.coordinates) (key g.row.K c.args.way.now.lead c.args.way.now.up c.args.past.now.coordinates) (key g.row.K c.args.way.now.lead c.args.way.now.up c.args.c.now.coordinates) (key g.row.K c.args.way.now.lead c.args.way.now.up c.draw_in.new.n.coordinates) c.args.marks.now.places (g.R.Recorder.list c.args.rec.now) = λ kept. (let w = c.requires.recorded kept in record { test = w.test; base = w.base; known = w.known; is_open = open_drawn g a w.test w.base w.is_open }) in
     search rules
 
 pub open_chains-requires : goal.open_chains-requires
@@ -81,47 +81,47 @@ open_chains-requires g c =
 
 pub returns-in-Err : goal.returns-in-Err
 returns-in-Err g c = record {
-      jump = tt;
-      recorded = tt;
-      size = tt;
-      few = λ kept. inl (omega (arith, c.in-Err.ensures.few kept));
-      grows = λ T base h. c.in-Err.ensures.grows T base (λ kept. ((h kept).0, open_drawn g (goal.at.returns-in-Err g c).After-draw_in T base (h kept).1));
-    }
+  jump = tt;
+  recorded = tt;
+  size = tt;
+  few = λ kept. inl (omega (arith, c.in-Err.ensures.few kept));
+  grows = λ T base h. c.in-Err.ensures.grows T base (λ kept. ((h kept).0, open_drawn g (goal.at.returns-in-Err g c).After-draw_in T base (h kept).1));
+}
 
 pub returns-in-Err-open_chains : goal.returns-in-Err-open_chains
 returns-in-Err-open_chains g c = record {
-      jump = tt;
-      recorded = tt;
-      size = tt;
-      few = λ kept. inr (
-        jumps g (goal.at.returns-in-Err-open_chains g c).Then-advance_between (drawn_key g (goal.at.returns-in-Err-open_chains g c).After-draw_in),
-        omega (arith, c.in-Ok.ensures.length kept, c.in-Err-open_chains.ensures.few kept),
-      );
-      grows = λ T base h.
-          growth_on (c.in-Ok.ensures.grows T base (λ kept. ((h kept).0, open_drawn g (goal.at.returns-in-Err-open_chains g c).After-draw_in T base (h kept).1))) c.in-Err-open_chains.ensures.grows;
-    }
+  jump = tt;
+  recorded = tt;
+  size = tt;
+  few = λ kept. inr (
+    jumps g (goal.at.returns-in-Err-open_chains g c).Then-advance_between (drawn_key g (goal.at.returns-in-Err-open_chains g c).After-draw_in),
+    omega (arith, c.in-Ok.ensures.length kept, c.in-Err-open_chains.ensures.few kept),
+  );
+  grows = λ T base h.
+      growth_on (c.in-Ok.ensures.grows T base (λ kept. ((h kept).0, open_drawn g (goal.at.returns-in-Err-open_chains g c).After-draw_in T base (h kept).1))) c.in-Err-open_chains.ensures.grows;
+}
 
 pub returns-in-Ok-open_chains : goal.returns-in-Ok-open_chains
 returns-in-Ok-open_chains g c = record {
-      jump = jumps g (goal.at.returns-in-Ok-open_chains g c).Then-advance_between (drawn_key g (goal.at.returns-in-Ok-open_chains g c).After-draw_in);
-      recorded = λ kept T base r o.
-          let w = c.in-Ok-open_chains.ensures.recorded kept T base (open_advanced g (goal.at.returns-in-Ok-open_chains g c).Then-advance_between (open_drawn g (goal.at.returns-in-Ok-open_chains g c).After-draw_in) kept T base r o) in
-          rw c.start-first.ensures at w;
-      size = λ kept. omega (arith, c.in-Ok.ensures.length kept, c.in-Ok-open_chains.ensures.length kept);
-      few = tt;
-      grows = λ T base h.
-          growth_on (c.in-Ok.ensures.grows T base (λ kept. ((h kept).0, open_drawn g (goal.at.returns-in-Ok-open_chains g c).After-draw_in T base (h kept).1))) c.in-Ok-open_chains.ensures.grows;
-    }
+  jump = jumps g (goal.at.returns-in-Ok-open_chains g c).Then-advance_between (drawn_key g (goal.at.returns-in-Ok-open_chains g c).After-draw_in);
+  recorded = λ kept T base r o.
+      let w = c.in-Ok-open_chains.ensures.recorded kept T base (open_advanced g (goal.at.returns-in-Ok-open_chains g c).Then-advance_between (open_drawn g (goal.at.returns-in-Ok-open_chains g c).After-draw_in) kept T base r o) in
+      rw c.start-first.ensures at w;
+  size = λ kept. omega (arith, c.in-Ok.ensures.length kept, c.in-Ok-open_chains.ensures.length kept);
+  few = tt;
+  grows = λ T base h.
+      growth_on (c.in-Ok.ensures.grows T base (λ kept. ((h kept).0, open_drawn g (goal.at.returns-in-Ok-open_chains g c).After-draw_in T base (h kept).1))) c.in-Ok-open_chains.ensures.grows;
+}
 
 pub returns-in-Err-add : goal.returns-in-Err-add
 returns-in-Err-add g c = record {
-      jump = tt;
-      recorded = tt;
-      size = tt;
-      few = λ kept. inl (omega (arith, c.in-Ok.ensures.length kept, ap length (c.in-Err-add.ensures.err kept)));
-      grows = λ T base h.
-          growth_on (c.in-Ok.ensures.grows T base (λ kept. ((h kept).0, open_drawn g (goal.at.returns-in-Err-add g c).After-draw_in T base (h kept).1))) (growth_refused c.in-Err-add.ensures.err c.add.ensures.refusals c.in-Err-add.ensures.refused c.in-Err-add.ensures.no_record);
-    }
+  jump = tt;
+  recorded = tt;
+  size = tt;
+  few = λ kept. inl (omega (arith, c.in-Ok.ensures.length kept, ap length (c.in-Err-add.ensures.err kept)));
+  grows = λ T base h.
+      growth_on (c.in-Ok.ensures.grows T base (λ kept. ((h kept).0, open_drawn g (goal.at.returns-in-Err-add g c).After-draw_in T base (h kept).1))) (growth_refused c.in-Err-add.ensures.err c.add.ensures.refusals c.in-Err-add.ensures.refused c.in-Err-add.ensures.no_record);
+}
 
 pub returns-in-Ok-add : goal.returns-in-Ok-add
 returns-in-Ok-add g c =
