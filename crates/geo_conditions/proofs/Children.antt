@@ -75,6 +75,21 @@ many_step S cs i d h = ap (many_possible S) (drop-cons cs i d h)
 pub many_end : (S : State) (cs : List Cond) (i : ℕ) → length cs ≤ i → many_possible S (drop i cs) ≡ 0
 many_end S cs i h = ap (many_possible S) (drop_all i cs h)
 
+-- the next one is possible, or not
+pub next_sure : (S : State) (xs : List Cond) (i sure : ℕ) (x : Cond) → i < length xs → sure + many_possible S (drop i xs) ≡ many_possible S xs → possible (get_or xs i x) S ≡ true → sure + 1 + many_possible S (drop (i + 1) xs) ≡ many_possible S xs
+next_sure S xs i sure x h v e =
+    let step : many_possible S (drop i xs) ≡ count (possible (get_or xs i x) S) + many_possible S (drop (suc i) xs) = many_step S xs i x h in
+    let one : count (possible (get_or xs i x) S) ≡ 1 = ap count e in
+    let next : suc i ≡ i + 1 = omega arith in
+    subst (λ (k : ℕ). sure + 1 + many_possible S (drop k xs) ≡ many_possible S xs) next (omega (arith, step, one, v))
+
+pub next_not : (S : State) (xs : List Cond) (i sure : ℕ) (x : Cond) → i < length xs → sure + many_possible S (drop i xs) ≡ many_possible S xs → possible (get_or xs i x) S ≡ false → sure + many_possible S (drop (i + 1) xs) ≡ many_possible S xs
+next_not S xs i sure x h v e =
+    let step : many_possible S (drop i xs) ≡ count (possible (get_or xs i x) S) + many_possible S (drop (suc i) xs) = many_step S xs i x h in
+    let none : count (possible (get_or xs i x) S) ≡ 0 = ap count e in
+    let next : suc i ≡ i + 1 = omega arith in
+    subst (λ (k : ℕ). sure + many_possible S (drop k xs) ≡ many_possible S xs) next (omega (arith, step, none, v))
+
 -- one more that is possible, behind the first i
 pub one_more : (S : State) (xs : List Cond) (i sure : ℕ) (x : Cond) → i < length xs → sure + many_possible S (drop i xs) ≡ many_possible S xs → possible (get_or xs i x) S ≡ true → sure + 1 ≤ many_possible S xs
 one_more S xs i sure x h v e =
