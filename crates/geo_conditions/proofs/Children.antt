@@ -6,6 +6,9 @@ use Rattle.geo_conditions.specs.declared.cond.Conds.{Conds}
 use Rattle.std.proofs.Common.{ℤ, pos, ◌≤ℤ◌, ◌<ℤ◌, Bool, true, false, arith, inl, inr}
 use Rattle.std.proofs.lemmas.Int.{ints}
 use Rattle.std.proofs.lemmas.Bool.{cases_Bool}
+use Rattle.std.specs.Bool.{IsTrue}
+use Rattle.std.proofs.Common.{ltb}
+use Rattle.std.proofs.lemmas.Bool.Decides.{Decides-ltb}
 use lib.Signed.{le_z}
 use borrow.Author.Differences.{le-true, true_is_le}
 use mathlib.Core.Former.{Count}
@@ -155,3 +158,7 @@ fit_in n children S h =
 pub fits_more : (cs : List Cond) (S : State) (i : ℕ) (c : Cond) → c ≡ get_or cs i c → i < length cs → FitsIn c S → ((k : ℕ) → k < i → (d : Cond) → FitsIn (get_or cs k d) S) → (k : ℕ) → k < i + 1 → (d : Cond) → FitsIn (get_or cs k d) S
 fits_more cs S i c is h f before =
     below_more (λ k. (d : Cond) → FitsIn (get_or cs k d) S) i before (λ d. subst (λ (e : Cond). FitsIn e S) (is ∙ any_default cs i c d h) f)
+
+-- the test whether an object is there
+pub is_there : (o n l : ℕ) → n ≡ l → (IsTrue (ltb o n) → o < l) × (o < l → IsTrue (ltb o n))
+is_there o n l e = let d = Decides-ltb o n in (λ h. let b = d.0 h in omega (arith, e, b), λ h. d.1 (omega (arith, e, h)))
