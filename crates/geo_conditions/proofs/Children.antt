@@ -6,6 +6,9 @@ use Rattle.geo_conditions.specs.declared.cond.Conds.{Conds}
 use Rattle.std.proofs.Common.{ℤ, pos, ◌≤ℤ◌, ◌<ℤ◌, Bool, true, false, arith, inl, inr}
 use Rattle.std.proofs.lemmas.Int.{ints}
 use Rattle.std.proofs.lemmas.Bool.{cases_Bool}
+use Rattle.std.specs.Bool.{IsTrue}
+use Rattle.std.proofs.Common.{ltb}
+use Rattle.std.proofs.lemmas.Bool.Decides.{Decides-ltb}
 use lib.Signed.{le_z}
 use borrow.Author.Differences.{le-true, true_is_le}
 use mathlib.Core.Former.{Count}
@@ -75,6 +78,21 @@ many_step S cs i d h = ap (many_possible S) (drop-cons cs i d h)
 pub many_end : (S : State) (cs : List Cond) (i : ℕ) → length cs ≤ i → many_possible S (drop i cs) ≡ 0
 many_end S cs i h = ap (many_possible S) (drop_all i cs h)
 
+-- the next one is possible, or not
+pub next_sure : (S : State) (xs : List Cond) (i sure : ℕ) (x : Cond) → i < length xs → sure + many_possible S (drop i xs) ≡ many_possible S xs → possible (get_or xs i x) S ≡ true → sure + 1 + many_possible S (drop (i + 1) xs) ≡ many_possible S xs
+next_sure S xs i sure x h v e =
+    let step : many_possible S (drop i xs) ≡ count (possible (get_or xs i x) S) + many_possible S (drop (suc i) xs) = many_step S xs i x h in
+    let one : count (possible (get_or xs i x) S) ≡ 1 = ap count e in
+    let next : suc i ≡ i + 1 = omega arith in
+    subst (λ (k : ℕ). sure + 1 + many_possible S (drop k xs) ≡ many_possible S xs) next (omega (arith, step, one, v))
+
+pub next_not : (S : State) (xs : List Cond) (i sure : ℕ) (x : Cond) → i < length xs → sure + many_possible S (drop i xs) ≡ many_possible S xs → possible (get_or xs i x) S ≡ false → sure + many_possible S (drop (i + 1) xs) ≡ many_possible S xs
+next_not S xs i sure x h v e =
+    let step : many_possible S (drop i xs) ≡ count (possible (get_or xs i x) S) + many_possible S (drop (suc i) xs) = many_step S xs i x h in
+    let none : count (possible (get_or xs i x) S) ≡ 0 = ap count e in
+    let next : suc i ≡ i + 1 = omega arith in
+    subst (λ (k : ℕ). sure + many_possible S (drop k xs) ≡ many_possible S xs) next (omega (arith, step, none, v))
+
 -- one more that is possible, behind the first i
 pub one_more : (S : State) (xs : List Cond) (i sure : ℕ) (x : Cond) → i < length xs → sure + many_possible S (drop i xs) ≡ many_possible S xs → possible (get_or xs i x) S ≡ true → sure + 1 ≤ many_possible S xs
 one_more S xs i sure x h v e =
@@ -140,3 +158,7 @@ fit_in n children S h =
 pub fits_more : (cs : List Cond) (S : State) (i : ℕ) (c : Cond) → c ≡ get_or cs i c → i < length cs → FitsIn c S → ((k : ℕ) → k < i → (d : Cond) → FitsIn (get_or cs k d) S) → (k : ℕ) → k < i + 1 → (d : Cond) → FitsIn (get_or cs k d) S
 fits_more cs S i c is h f before =
     below_more (λ k. (d : Cond) → FitsIn (get_or cs k d) S) i before (λ d. subst (λ (e : Cond). FitsIn e S) (is ∙ any_default cs i c d h) f)
+
+-- the test whether an object is there
+pub is_there : (o n l : ℕ) → n ≡ l → (IsTrue (ltb o n) → o < l) × (o < l → IsTrue (ltb o n))
+is_there o n l e = let d = Decides-ltb o n in (λ h. let b = d.0 h in omega (arith, e, b), λ h. d.1 (omega (arith, e, h)))

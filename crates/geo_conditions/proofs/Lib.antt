@@ -24,3 +24,4 @@ pub mod Cuts
 pub mod Whole
 pub mod Tokens
 pub mod SmallerBoxes
+pub mod Changed

@@ -1,5 +1,5 @@
 -- Products and sums of a form stay within 128 bits.
-use Rattle.std.proofs.Common.{◌≡◌, ℕ, suc, ◌+◌, ◌*◌, ◌^◌, ◌<◌, ◌≤◌, List, length, get_or, drop, refl, sym, ap, ◌∙◌, subst, arith, ℤ, pos, negsuc, ◌+ℤ◌, ◌*ℤ◌, ◌≤ℤ◌, ◌<ℤ◌, FitsSigned}
+use Rattle.std.proofs.Common.{◌≡◌, ℕ, suc, ◌+◌, ◌*◌, ◌^◌, ◌<◌, ◌≤◌, List, length, get_or, drop, refl, sym, ap, ◌∙◌, subst, arith, true, false, ℤ, pos, negsuc, ◌+ℤ◌, ◌*ℤ◌, ◌≤ℤ◌, ◌<ℤ◌, FitsSigned}
 use Rattle.std.specs.Int.{w64, w128}
 use Rattle.std.proofs.lemmas.Nat.{mul-le}
 use Rattle.std.proofs.lemmas.Int.{ints}
@@ -14,7 +14,7 @@ use Rattle.geo_base.specs.declared.TheConstants.{MAX_DIMS}
 use Rattle.geo_conditions.specs.declared.object.TheConstants.{MAX_OBJECTS}
 use lib.IntN.{+ℤ_assoc}
 use mir.Val.{to_z, of_z}
-use lib.Signed.{le_z}
+use lib.Signed.{le_z, lt_z}
 use Rattle.std.proofs.Common.{to_z-of_z, add-one}
 
 pub least_product_neg : (a lo hi : ℤ) → a <ℤ pos 0 → least_product a lo hi ≡ a *ℤ hi
@@ -68,6 +68,32 @@ product_cast f e p b h k q =
     let bf : FitsSigned w64 f = omega (arith, ints) in
     let q' : f *ℤ e ≡ p = ap (λ (x : ℤ). x *ℤ e) (sym (to_z-of_z bf)) ∙ ap (λ (x : ℤ). to_z w64 (of_z w64 f) *ℤ x) (sym (to_z-of_z h)) ∙ sym q in
     subst (InSum 1) (sym (kept p k)) (subst (InSum 1) q' (product_in f e b h))
+
+-- a factor and an end are the least product of a term
+negative : (f : ℤ) → lt_z f (pos 0) ≡ true → f <ℤ pos 0
+negative (pos n) e = grind (arith, ints)
+negative (negsuc n) e = omega (arith, ints)
+
+not_negative : (f : ℤ) → lt_z f (pos 0) ≡ false → pos 0 ≤ℤ f
+not_negative (pos n) e = omega (arith, ints)
+not_negative (negsuc n) e = absurd (cc)
+
+casted : (f e p : ℤ) → IsBounded f → FitsSigned w64 e → FitsSigned w128 p → p ≡ to_z w64 (of_z w64 f) *ℤ to_z w64 (of_z w64 e) → to_z w128 (of_z w128 p) ≡ f *ℤ e
+casted f e p b h k q =
+    let bf : FitsSigned w64 f = omega (arith, ints) in
+    kept p k ∙ q ∙ ap (λ (x : ℤ). x *ℤ to_z w64 (of_z w64 e)) (to_z-of_z bf) ∙ ap (λ (x : ℤ). f *ℤ x) (to_z-of_z h)
+
+pub term_below : (f lo hi e p : ℤ) → IsBounded f → FitsSigned w64 e → FitsSigned w128 p → lt_z (to_z w64 (of_z w64 f)) (pos 0) ≡ true → e ≡ hi → p ≡ to_z w64 (of_z w64 f) *ℤ to_z w64 (of_z w64 e) → to_z w128 (of_z w128 p) ≡ least_product f lo hi
+term_below f lo hi e p b h k t same q =
+    let bf : FitsSigned w64 f = omega (arith, ints) in
+    let neg : f <ℤ pos 0 = negative f (ap (λ (x : ℤ). lt_z x (pos 0)) (sym (to_z-of_z bf)) ∙ t) in
+    casted f e p b h k q ∙ ap (λ (x : ℤ). f *ℤ x) same ∙ sym (least_product_neg f lo hi neg)
+
+pub term_above : (f lo hi e p : ℤ) → IsBounded f → FitsSigned w64 e → FitsSigned w128 p → lt_z (to_z w64 (of_z w64 f)) (pos 0) ≡ false → e ≡ lo → p ≡ to_z w64 (of_z w64 f) *ℤ to_z w64 (of_z w64 e) → to_z w128 (of_z w128 p) ≡ least_product f lo hi
+term_above f lo hi e p b h k t same q =
+    let bf : FitsSigned w64 f = omega (arith, ints) in
+    let none : pos 0 ≤ℤ f = not_negative f (ap (λ (x : ℤ). lt_z x (pos 0)) (sym (to_z-of_z bf)) ∙ t) in
+    casted f e p b h k q ∙ ap (λ (x : ℤ). f *ℤ x) same ∙ sym (least_product_not_neg f lo hi none)
 
 pub step_value : (S : State) (ts : List Term) (i : ℕ) (d : Term) (s r total : ℤ) → i < length ts → i < MAX_OBJECTS * MAX_DIMS → InSum (i + 1) s → InSum 1 r → r ≡ least_term S (get_or ts i d) → s +ℤ sum_of (least_term S) (drop i ts) ≡ total → to_z w128 (of_z w128 (s +ℤ to_z w128 (of_z w128 r))) +ℤ sum_of (least_term S) (drop (i + 1) ts) ≡ total
 step_value S ts i d s r total h few a b e k =

@@ -7,12 +7,11 @@ use Rattle.geo_base.specs.declared.kbox.KBox.{KBox}
 use Rattle.geo_base.specs.Boxes.{Has}
 use Rattle.geo_conditions.specs.declared.cond.Cond.{Cond}
 use Rattle.geo_conditions.specs.Reach.{State, just, with_at}
-use Rattle.geo_conditions.specs.Conditions.{possible, IsRefuted}
+use Rattle.geo_conditions.specs.Conditions.{possible}
 use Rattle.geo_conditions.specs.Regions.{region_of}
-use Rattle.indexical.specs.Disjunctions.{IsDisjunction}
 use Rattle.sweep.specs.Parts.{AreParts}
-use Rattle.sweep.specs.Picks.{ArePicks, PicksAt}
-use Rattle.sweep.proofs.PickedConditions.{pick_in}
+use Rattle.sweep.specs.Picks.{ArePicks, PicksAt, IsPickedBox}
+use Rattle.sweep.proofs.PickedConditions.{pick_in, picked_box_at}
 
 -- each pick names a condition
 some_pick : (cs : List Cond) (picks : List ℕ) (k : ℕ) → ArePicks (length cs) picks → k < length picks → (x : Cond) × PicksAt cs picks k x
@@ -26,30 +25,17 @@ some_pick cs picks k are h =
 module _ (K : ℕ) (cs : List Cond) (picks : List ℕ) (S : State) (o s : ℕ) (region : KBox K) (parts : List (Option (KBox K))) (are : AreParts K cs picks S o s (region_of region) parts)
     (k : ℕ) (part : KBox K) (at : slice_get parts k ≡ Some (Some part)) (numbers : ArePicks (length cs) picks) (h : k < length picks) (r : Option (KBox K)) (c : List ℤ)
     (some : IfSome r (λ b. (b ≡ part) × Has K b.lo.coordinates b.hi.coordinates c)) (none : IfNone r (Has K part.lo.coordinates part.hi.coordinates c → ⊥)) where
-  pub part_refuted : IfSome r (λ b. (x : Cond) × PicksAt cs picks k x × IsRefuted x (with_at S o s (region_of b)))
-  part_refuted = of r some
+  pub part_forbidden : IfSome r (λ b. IsPickedBox K cs picks S o s c (region_of region) k (region_of b))
+  part_forbidden = of r some
     where
-      of : (r : Option (KBox K)) → IfSome r (λ b. (b ≡ part) × Has K b.lo.coordinates b.hi.coordinates c) → IfSome r (λ b. (x : Cond) × PicksAt cs picks k x × IsRefuted x (with_at S o s (region_of b)))
-      of None e = tt
-      of (Some b) e = let p = some_pick cs picks k numbers h in (p.0, p.1, subst (λ (z : KBox K). IsRefuted p.0 (with_at S o s (region_of z))) (sym e.0) (are k part p.0 at p.1).refuted)
-
-  pub part_within : IfSome r (λ b. Has K region.lo.coordinates region.hi.coordinates b.lo.coordinates × Has K region.lo.coordinates region.hi.coordinates b.hi.coordinates)
-  part_within = of r some
-    where
-      of : (r : Option (KBox K)) → IfSome r (λ b. (b ≡ part) × Has K b.lo.coordinates b.hi.coordinates c) → IfSome r (λ b. Has K region.lo.coordinates region.hi.coordinates b.lo.coordinates × Has K region.lo.coordinates region.hi.coordinates b.hi.coordinates)
+      of : (r : Option (KBox K)) → IfSome r (λ b. (b ≡ part) × Has K b.lo.coordinates b.hi.coordinates c) → IfSome r (λ b. IsPickedBox K cs picks S o s c (region_of region) k (region_of b))
       of None e = tt
       of (Some b) e =
           let p = some_pick cs picks k numbers h in
           let w = are k part p.0 at p.1 in
-          subst (λ (z : KBox K). Has K region.lo.coordinates region.hi.coordinates z.lo.coordinates × Has K region.lo.coordinates region.hi.coordinates z.hi.coordinates) (sym e.0) (w.low, w.high)
-
-  pub part_whole : IfSome r (λ b. (x : Cond) → PicksAt cs picks k x → IsDisjunction o x → (q : List ℤ) → Has K region.lo.coordinates region.hi.coordinates q → IsRefuted x (with_at S o s (just q)) → Has K b.lo.coordinates b.hi.coordinates q)
-  part_whole = of r some
-    where
-      of : (r : Option (KBox K)) → IfSome r (λ b. (b ≡ part) × Has K b.lo.coordinates b.hi.coordinates c)
-          → IfSome r (λ b. (x : Cond) → PicksAt cs picks k x → IsDisjunction o x → (q : List ℤ) → Has K region.lo.coordinates region.hi.coordinates q → IsRefuted x (with_at S o s (just q)) → Has K b.lo.coordinates b.hi.coordinates q)
-      of None e = tt
-      of (Some b) e = λ x p d q has f. subst (λ (z : KBox K). Has K z.lo.coordinates z.hi.coordinates q) (sym e.0) ((are k part x at p).whole q has f)
+          let inside : Has K part.lo.coordinates part.hi.coordinates c = subst (λ (z : KBox K). Has K z.lo.coordinates z.hi.coordinates c) e.0 e.1 in
+          subst (λ (z : KBox K). IsPickedBox K cs picks S o s c (region_of region) k (region_of z)) (sym e.0)
+          (picked_box_at K cs picks S o s c (region_of region) k (region_of part) p.0 numbers p.1 (record { has = inside; low = w.low; high = w.high; refuted = w.refuted; whole = λ d. w.whole }))
 
   pub part_none : Has K region.lo.coordinates region.hi.coordinates c → IfNone r ((x : Cond) → PicksAt cs picks k x → possible x (with_at S o s (just c)) ≡ true)
   part_none inside = of r none

@@ -9,3 +9,4 @@ pub mod Bound
 pub mod PickedConditions
 pub mod Promises
 pub mod KnownParts
+pub mod Between

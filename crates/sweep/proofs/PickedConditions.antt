@@ -8,21 +8,23 @@ use Rattle.std.proofs.lemmas.List.{length-map}
 use Rattle.std.proofs.lemmas.List.Elements.{All-get_or, All-head, All-tail, All-cons}
 use Rattle.std.proofs.lemmas.Option.{slice_get-map, slice_get-get_or, same_Some}
 use Rattle.geo_base.specs.Boxes.{Has}
+use Rattle.geo_base.specs.declared.kbox.KBox.{KBox}
 use Rattle.geo_conditions.specs.declared.cond.Cond.{Cond}
-use Rattle.geo_conditions.specs.Reach.{State, dims, just, with_at}
+use Rattle.std.proofs.lemmas.Int.{ints}
+use Rattle.geo_base.specs.Ways.{IsSmallPoint}
+use Rattle.indexical.specs.Forbidden.{IsForbiddenBox}
+use Rattle.geo_conditions.specs.Reach.{State, Region, dims, just, with_at}
 use Rattle.geo_conditions.specs.Conditions.{possible, FitsIn, AllFit, IsRefuted}
 use Rattle.geo_conditions.specs.Supported.{NoneRefuted}
 use Rattle.geo_conditions.proofs.SmallerBoxes.{refuted_smaller_box}
+use Rattle.geo_conditions.specs.Regions.{region_of}
 use Rattle.derivation.specs.Covers.{refutes}
+use Rattle.indexical.specs.Disjunctions.{IsDisjunction}
 use Rattle.derivation.proofs.Leaves.{IsSound, all_at}
-use Rattle.sweep.specs.Picks.{ArePicks, PicksAt, picked}
+use Rattle.sweep.specs.Picks.{ArePicks, PicksAt, IsPickedBox, picked}
 use Rattle.sweep.specs.Sweep.{refutes_pick}
 
--- what holds of the value, if there is one, and what it implies
-pub some_with : {A : Type 0} (r : Option A) (P Q : A → Type 0) → ((a : A) → P a → Q a) → IfSome r P → IfSome r Q
-some_with None P Q f h = h
-some_with (Some a) P Q f h = f a h
-
+-- what follows from having no value
 pub none_with : {A : Type 0} (r : Option A) (P Q : Type 0) → (P → Q) → IfNone r P → IfNone r Q
 none_with None P Q f h = f h
 none_with (Some a) P Q f h = h
@@ -120,3 +122,30 @@ module _ (cs : List Cond) (picks : List ℕ) (S : State) (o s : ℕ) where
         → NoneRefuted (picked cs picks) (with_at S o s (just q)) → ⊥
     forbidden k x lo hi q a p has r none =
         true≢false (sym (picked_at (λ c. possible c (with_at S o s (just q)) ≡ true) cs picks k x none p) ∙ refuted_at_point x lo hi q (fits_at cs S picks k x a p) has r)
+
+-- a box inside a bounded region is bounded
+small_inside : (K : ℕ) (lo hi q : List ℤ) → IsSmallPoint K lo → IsSmallPoint K hi → Has K lo hi q → IsSmallPoint K q
+small_inside K lo hi q l h has d b = (omega (arith, ints, (l d b).0, (has d b).0), omega (arith, ints, (h d b).1, (has d b).1))
+
+-- a box that a picked condition forbids
+pub picked_box_at : (K : ℕ) (cs : List Cond) (picks : List ℕ) (S : State) (o s : ℕ) (c : List ℤ) (region : Region) (k : ℕ) (b : Region) (x : Cond) → ArePicks (length cs) picks → PicksAt cs picks k x → IsForbiddenBox K x S o s c region b → IsPickedBox K cs picks S o s c region k b
+picked_box_at K cs picks S o s c region k b x are pick box = record {
+  condition = x;
+  pick = pick;
+  box = box;
+  known = refutes_pick_true cs picks S o s k x b.lo b.hi are pick box.refuted;
+  small_low = λ l h. small_inside K region.lo region.hi b.lo l h box.low;
+  small_high = λ l h. small_inside K region.lo region.hi b.hi l h box.high;
+}
+
+-- what asking the condition of a pick says of the pick
+pub picked_box : (K : ℕ) (cs : List Cond) (picks : List ℕ) (S : State) (o s : ℕ) (c : List ℤ) (region : KBox K) (k : ℕ) (x : Cond) (r : Option (KBox K)) → ArePicks (length cs) picks → PicksAt cs picks k x → IfSome r (λ b. Has K b.lo.coordinates b.hi.coordinates c)
+    → IfSome r (λ b. Has K region.lo.coordinates region.hi.coordinates b.lo.coordinates × Has K region.lo.coordinates region.hi.coordinates b.hi.coordinates) → IfSome r (λ b. IsRefuted x (with_at S o s (region_of b)))
+    → IfSome r (λ b. IsDisjunction o x → (q : List ℤ) → Has K region.lo.coordinates region.hi.coordinates q → IsRefuted x (with_at S o s (just q)) → Has K b.lo.coordinates b.hi.coordinates q)
+    → IfSome r (λ b. IsPickedBox K cs picks S o s c (region_of region) k (region_of b))
+picked_box K cs picks S o s c region k x None are pick has within refuted whole = tt
+picked_box K cs picks S o s c region k x (Some b) are pick has within refuted whole =
+    picked_box_at K cs picks S o s c (region_of region) k (region_of b) x are pick (record { has = has; low = within.0; high = within.1; refuted = refuted; whole = whole })
+
+pub picked_none : (cs : List Cond) (picks : List ℕ) (k : ℕ) (x : Cond) (T : State) (r : Bool) → PicksAt cs picks k x → possible x T ≡ r → (y : Cond) → PicksAt cs picks k y → possible y T ≡ r
+picked_none cs picks k x T r pick e y p = subst (λ (z : Cond). possible z T ≡ r) (one_pick cs picks k x y pick p) e

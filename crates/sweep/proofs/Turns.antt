@@ -54,10 +54,6 @@ IsSmallPoint-start : (K : ℕ) (up : Bool) (lo hi : List ℤ) → IsSmallPoint K
 IsSmallPoint-start K true lo hi l h = l
 IsSmallPoint-start K false lo hi l h = h
 
--- a box inside a bounded region is bounded
-pub IsSmallPoint-inside : (K : ℕ) (lo hi q : List ℤ) → IsSmallPoint K lo → IsSmallPoint K hi → Has K lo hi q → IsSmallPoint K q
-IsSmallPoint-inside K lo hi q l h has d b = (omega (arith, ints, (l d b).0, (has d b).0), omega (arith, ints, (h d b).1, (has d b).1))
-
 -- the measure falls
 pub remaining_turn : (K lead : ℕ) (up : Bool) (lo hi past c n c' n' : List ℤ) → lead < K → IsSmallPoint K lo → IsSmallPoint K hi
     → ((d : ℕ) → d < K → toward up (coordinate past d) ≡ toward up (coordinate (end up lo hi) d) +ℤ pos 1)

@@ -63,9 +63,11 @@ SomeOpenAtJump K lead up first past n marks list =
     (R : ℕ → List ℤ → List ℤ → Bool) × (base : List Event) × (c : ℕ → ℤ) × IsOpenAtJump K lead up R first past (K - 1) c n marks base list
 
 -- some test is true of a condition and a box, and for it the list is an open record
-abbrev pub SomeOpenBy : ℕ → ℕ → Bool → ℕ → List ℤ → List ℤ → (ℕ → ℤ) → (ℕ → ℤ) → (ℕ → ℤ) → (ℕ → ℤ) → List ℕ → List Event → Type 0
-SomeOpenBy K lead up i blo bhi first past c n marks list =
-    (R : ℕ → List ℤ → List ℤ → Bool) × (base : List Event) × (R i blo bhi ≡ true) × IsOpen K lead up R first past (K - 1) c n marks base list
+pub record SomeOpenBy (K lead : ℕ) (up : Bool) (i : ℕ) (blo bhi : List ℤ) (first past c n : ℕ → ℤ) (marks : List ℕ) (list : List Event) : Type 0 where
+  pub test : ℕ → List ℤ → List ℤ → Bool
+  pub base : List Event
+  pub known : test i blo bhi ≡ true
+  pub is_open : IsOpen K lead up test first past (K - 1) c n marks base list
 
 -- the events behind base in the list are a cover of P
 abbrev pub IsRecordOf : ℕ → (ℕ → List ℤ → List ℤ → Bool) → List Event → List Event → (List ℤ → Type 0) → Type 0

@@ -1,13 +1,12 @@
-ghost use Rattle.std.specs.Prelude.{◌≡◌, ℕ, ◌+◌, ◌-◌, ◌<◌, ◌≤◌, true, ℤ, List, length, map, slice_get, IfSome, IfNone, Some};
+ghost use Rattle.std.specs.Prelude.{◌≡◌, ℕ, ◌+◌, ◌-◌, ◌<◌, ◌≤◌, true, length, map, slice_get, IfSome, IfNone, Some};
 ghost use Rattle.geo_base.specs.Boxes.{Has};
 ghost use Rattle.geo_conditions.specs.declared.cond.Cond.{Cond};
-ghost use Rattle.geo_conditions.specs.Conditions.{possible, AllFit, IsRefuted};
+ghost use Rattle.geo_conditions.specs.Conditions.{possible, AllFit, FitsIn};
 ghost use Rattle.geo_conditions.specs.Reach.{with_at, just};
 ghost use Rattle.geo_conditions.specs.Regions.{region_of};
 ghost use Rattle.geo_conditions.specs.Supported.{NoneRefuted};
-ghost use Rattle.indexical.specs.Disjunctions.{IsDisjunction};
 ghost use Rattle.sweep.specs.Parts.{AreParts};
-ghost use Rattle.sweep.specs.Picks.{ArePicks, PicksAt, picked};
+ghost use Rattle.sweep.specs.Picks.{ArePicks, PicksAt, IsPickedBox, picked};
 
 use geo_base::{KBox, Point, Steps, Way};
 use geo_conditions::{ObjId, State};
@@ -45,6 +44,23 @@ fn ask_part<const K: usize, L: Ledger>(
     if part.has(c) { Some(*part) } else { None }
 }
 
+/// The condition that the k-th pick names.
+#[inline(always)]
+fn condition_of<'a, const K: usize, I: Indexical<K>>(
+    s: &State<K>,
+    list: &'a [I],
+    picks: &[u32],
+    k: usize,
+) -> &'a I
+    requires fits { AllFit (map I.cond list.now) s.now }
+    requires picks { ArePicks (length list.now) picks.now }
+    requires k { k < length picks.now }
+    ensures pick { PicksAt (map I.cond list.now) picks.now k (I.cond result.now) }
+    ensures fits { FitsIn (I.cond result.now) s.now }
+{
+    &list[picks[k] as usize - 1]
+}
+
 /// Asks the condition that the k-th pick names.
 #[inline(always)]
 fn ask_condition<const K: usize, I: Indexical<K>, L: Ledger>(
@@ -64,23 +80,13 @@ fn ask_condition<const K: usize, I: Indexical<K>, L: Ledger>(
     requires picks { ArePicks (length list.now) picks.now }
     requires k { k < length picks.now }
     requires inside { Has K region.now.lo.coordinates region.now.hi.coordinates c.now.coordinates }
-    ensures refuted { IfSome result (λ b. (x : Cond)
-        × PicksAt (map I.cond list.now) picks.now k x
-        × IsRefuted x (with_at s.now o.0 place (region_of b))) }
-    ensures has { IfSome result (λ b. Has K b.lo.coordinates b.hi.coordinates c.now.coordinates) }
-    ensures within { IfSome result (λ b.
-        Has K region.now.lo.coordinates region.now.hi.coordinates b.lo.coordinates
-        × Has K region.now.lo.coordinates region.now.hi.coordinates b.hi.coordinates) }
-    ensures whole { IfSome result (λ b. (x : Cond) → PicksAt (map I.cond list.now) picks.now k x
-        → IsDisjunction o.0 x → (q : List ℤ)
-        → Has K region.now.lo.coordinates region.now.hi.coordinates q
-        → IsRefuted x (with_at s.now o.0 place (just q))
-        → Has K b.lo.coordinates b.hi.coordinates q) }
+    ensures forbidden { IfSome result (λ b. IsPickedBox K (map I.cond list.now) picks.now s.now o.0
+        place c.now.coordinates (region_of region.now) k (region_of b)) }
     ensures none { IfNone result ((x : Cond) → PicksAt (map I.cond list.now) picks.now k x
         → possible x (with_at s.now o.0 place (just c.now.coordinates)) ≡ true) }
     ensures asked { steps.new ≡ steps.old + 1 }
 {
-    list[picks[k] as usize - 1].forbid(s, o, place, c, region, way, steps)
+    condition_of(s, list, picks, k).forbid(s, o, place, c, region, way, steps)
 }
 
 /// Asks the condition that the k-th pick names, or looks at what it forbids where that is known.
@@ -105,18 +111,8 @@ fn ask_pick<const K: usize, I: Indexical<K>, L: Ledger>(
         (region_of region.now) parts.now }
     requires k { k < length picks.now }
     requires inside { Has K region.now.lo.coordinates region.now.hi.coordinates c.now.coordinates }
-    ensures refuted { IfSome result (λ b. (x : Cond)
-        × PicksAt (map I.cond list.now) picks.now k x
-        × IsRefuted x (with_at s.now o.0 place (region_of b))) }
-    ensures has { IfSome result (λ b. Has K b.lo.coordinates b.hi.coordinates c.now.coordinates) }
-    ensures within { IfSome result (λ b.
-        Has K region.now.lo.coordinates region.now.hi.coordinates b.lo.coordinates
-        × Has K region.now.lo.coordinates region.now.hi.coordinates b.hi.coordinates) }
-    ensures whole { IfSome result (λ b. (x : Cond) → PicksAt (map I.cond list.now) picks.now k x
-        → IsDisjunction o.0 x → (q : List ℤ)
-        → Has K region.now.lo.coordinates region.now.hi.coordinates q
-        → IsRefuted x (with_at s.now o.0 place (just q))
-        → Has K b.lo.coordinates b.hi.coordinates q) }
+    ensures forbidden { IfSome result (λ b. IsPickedBox K (map I.cond list.now) picks.now s.now o.0
+        place c.now.coordinates (region_of region.now) k (region_of b)) }
     ensures none { IfNone result ((x : Cond) → PicksAt (map I.cond list.now) picks.now k x
         → possible x (with_at s.now o.0 place (just c.now.coordinates)) ≡ true) }
     ensures asked { steps.new ≡ steps.old + 1 }
@@ -150,20 +146,8 @@ pub fn ask<const K: usize, I: Indexical<K>, L: Ledger>(
         (region_of region.now) parts.now }
     requires from { from ≤ length picks.now }
     requires inside { Has K region.now.lo.coordinates region.now.hi.coordinates c.now.coordinates }
-    ensures pick { IfSome result (λ a. a.0 < length picks.now) }
-    ensures refuted { IfSome result (λ a. (x : Cond)
-        × PicksAt (map I.cond list.now) picks.now a.0 x
-        × IsRefuted x (with_at s.now o.0 place (region_of a.1))) }
-    ensures has { IfSome result (λ a.
-        Has K a.1.lo.coordinates a.1.hi.coordinates c.now.coordinates) }
-    ensures within { IfSome result (λ a.
-        Has K region.now.lo.coordinates region.now.hi.coordinates a.1.lo.coordinates
-        × Has K region.now.lo.coordinates region.now.hi.coordinates a.1.hi.coordinates) }
-    ensures whole { IfSome result (λ a. (x : Cond)
-        → PicksAt (map I.cond list.now) picks.now a.0 x → IsDisjunction o.0 x → (q : List ℤ)
-        → Has K region.now.lo.coordinates region.now.hi.coordinates q
-        → IsRefuted x (with_at s.now o.0 place (just q))
-        → Has K a.1.lo.coordinates a.1.hi.coordinates q) }
+    ensures forbidden { IfSome result (λ a. IsPickedBox K (map I.cond list.now) picks.now s.now o.0
+        place c.now.coordinates (region_of region.now) a.0 (region_of a.1)) }
     ensures none { IfNone result (NoneRefuted (picked (map I.cond list.now) picks.now)
         (with_at s.now o.0 place (just c.now.coordinates))) }
     ensures asked { steps.new ≤ steps.old + length picks.now }

@@ -1,5 +1,6 @@
-ghost use Rattle.std.specs.Prelude.{◌≡◌, ℕ, ◌+◌, ◌-◌, ◌*◌, ◌^◌, ◌<◌, ◌≤◌, true, length, map, IfOk, MatchOption};
+ghost use Rattle.std.specs.Prelude.{◌≡◌, ℕ, ◌+◌, ◌-◌, ◌*◌, ◌^◌, ◌<◌, ◌≤◌, true, length, map, Some, None, if◌then◌else◌, IfOk, MatchOption};
 ghost use Rattle.std.specs.List.{All};
+ghost use Rattle.std.specs.Option.{option_map};
 ghost use Rattle.geo_base.specs.Ways.{IsSmallPoint};
 ghost use Rattle.geo_conditions.specs.Conditions.{AllFit};
 ghost use Rattle.geo_conditions.specs.Regions.{region_of};
@@ -9,6 +10,7 @@ ghost use Rattle.indexical.specs.Disjunctions.{IsDisjunction};
 ghost use Rattle.sweep.specs.Parts.{AreParts};
 ghost use Rattle.sweep.specs.Picks.{ArePicks, picked};
 ghost use Rattle.sweep.specs.Sweep.{part_before, IsCovered};
+ghost use Rattle.sweep.specs.Swept.{IsBegun, HasSwept};
 
 use super::ask::ask;
 use super::marks::Marks;
@@ -20,6 +22,116 @@ use geo_conditions::{ObjId, State};
 use indexical::Indexical;
 use std::alloc::AllocError;
 use std::sync::ledger::Ledger;
+
+/// Turns of the sweep, from the first corner c and the jump n past the region on. Ok(true) where c has come to a point at which no
+/// picked condition is refuted, and Ok(false) where there is none.
+#[tactic(auto, using(crate::proofs::Between::box_has, crate::proofs::Between::box_small, crate::proofs::Between::box_opened))]
+#[inline(always)]
+fn sweep_turns<const K: usize, I: Indexical<K>, R: Recorder, L: Ledger>(
+    s: &State<K>,
+    o: ObjId,
+    place: u8,
+    region: &KBox<K>,
+    list: &[I],
+    picks: &[u32],
+    parts: &[Option<KBox<K>>],
+    way: &Way<K>,
+    past: &Point<K>,
+    c: &mut Point<K>,
+    n: &mut Point<K>,
+    marks: &mut Marks<K>,
+    rec: &mut R,
+    steps: &mut Steps<L>,
+) -> Result<bool, AllocError>
+    requires fits { AllFit (map I.cond list.now) s.now }
+    requires object { o.0 < length s.now }
+    requires picks { ArePicks (length list.now) picks.now }
+    requires parts { AreParts K (map I.cond list.now) picks.now s.now o.0 place
+        (region_of region.now) parts.now }
+    requires small { IsSmallPoint K region.now.lo.coordinates
+        × IsSmallPoint K region.now.hi.coordinates }
+    requires begun { IsBegun K way.now.up s.now o.0 (region_of region.now) past.now.coordinates
+        c.old.coordinates n.old.coordinates }
+    ensures { HasSwept K way.now.lead way.now.up R.keeps (map I.cond list.now) picks.now s.now o.0
+        place (region_of region.now) (R.list rec.old) (R.list rec.new) (R.refusals rec.old)
+        (R.refusals rec.new) steps.old steps.new result
+        (λ found. if found then Some c.new.coordinates else None) }
+{
+    match open_chains(way, c, past, c, n, 0, marks, rec) {
+        Err(e) => return Err(e),
+        Ok(()) => {}
+    }
+    let mut from = 0;
+    'turns: loop {
+        match ask(s, o, place, list, picks, parts, from, c, region, way, steps) {
+            None => {
+                let _coordinates = c.dimensions();
+                return match stop(way, region, past, c, n, marks, rec) {
+                    Err(e) => Err(e),
+                    Ok(()) => Ok(true),
+                };
+            }
+            Some((k, b)) => match turn(way, region, past, picks[k], &b, c, n, marks, rec) {
+                Err(e) => return Err(e),
+                Ok(more) => {
+                    if !more {
+                        return Ok(false);
+                    }
+                    from = k;
+                }
+            },
+        }
+    }
+}
+
+/// Sweeps the region from its first corner on, if it has a point.
+#[inline(always)]
+fn sweep_region<const K: usize, I: Indexical<K>, R: Recorder, L: Ledger>(
+    s: &State<K>,
+    o: ObjId,
+    place: u8,
+    region: &KBox<K>,
+    list: &[I],
+    picks: &[u32],
+    parts: &[Option<KBox<K>>],
+    way: &Way<K>,
+    rec: &mut R,
+    steps: &mut Steps<L>,
+) -> Result<Option<Point<K>>, AllocError>
+    requires fits { AllFit (map I.cond list.now) s.now }
+    requires object { o.0 < length s.now }
+    requires picks { ArePicks (length list.now) picks.now }
+    requires parts { AreParts K (map I.cond list.now) picks.now s.now o.0 place
+        (region_of region.now) parts.now }
+    requires small { IsSmallPoint K region.now.lo.coordinates
+        × IsSmallPoint K region.now.hi.coordinates }
+    ensures { HasSwept K way.now.lead way.now.up R.keeps (map I.cond list.now) picks.now s.now o.0
+        place (region_of region.now) (R.list rec.old) (R.list rec.new) (R.refusals rec.old)
+        (R.refusals rec.new) steps.old steps.new result
+        (λ r. option_map (λ p. p.coordinates) r) }
+{
+    // The state has K dimensions, and so have the corners.
+    let _objects = s.objects();
+    let _low = region.lo.dimensions();
+    let _high = region.hi.dimensions();
+    if region.is_empty() {
+        return match rec.add(Event::By(1)) {
+            Err(e) => Err(e),
+            Ok(()) => Ok(None),
+        };
+    }
+    let past = way.one_past(way.end(region));
+    let mut c = *way.start(region);
+    let mut n = past;
+    let mut marks = Marks::new();
+    match sweep_turns(
+        s, o, place, region, list, picks, parts, way, &past, &mut c, &mut n, &mut marks, rec, steps,
+    ) {
+        Err(e) => Err(e),
+        Ok(true) => Ok(Some(c)),
+        Ok(false) => Ok(None),
+    }
+}
 
 /// The same sweep, where what the conditions of some picks forbid of the region is known: a box in the place of the pick, which
 /// is looked at in place of the condition.
@@ -60,41 +172,7 @@ pub fn sweep_parts<const K: usize, I: Indexical<K>, R: Recorder, L: Ledger>(
         ≤ length (R.list rec.old) + 2 * K * (length picks.now + 1) ^ K + 1 }
     ensures grows { Grows R.keeps R.list R.refusals rec.old rec.new result }
 {
-    // The state has K dimensions, and so have the corners.
-    let _objects = s.objects();
-    let _low = region.lo.dimensions();
-    let _high = region.hi.dimensions();
-    if region.is_empty() {
-        rec.add(Event::By(1))?;
-        return Ok(None);
-    }
-    let first = way.start(region);
-    let past = way.one_past(way.end(region));
-    let mut c = *first;
-    let mut n = past;
-    let mut marks = Marks::new();
-    let mut from = 0;
-    open_chains(way, first, &past, &c, &n, 0, &mut marks, rec)?;
-    'turns: loop {
-        match ask(
-            s, o, place, list, picks, parts, from, &c, region, way, steps,
-        ) {
-            None => {
-                let _coordinates = c.dimensions();
-                stop(way, region, &past, &c, &n, &marks, rec)?;
-                return Ok(Some(c));
-            }
-            Some((k, b)) => {
-                let more = turn(
-                    way, region, &past, picks[k], &b, &mut c, &mut n, &mut marks, rec,
-                )?;
-                if !more {
-                    return Ok(None);
-                }
-                from = k;
-            }
-        }
-    }
+    sweep_region(s, o, place, region, list, picks, parts, way, rec, steps)
 }
 
 /// The first point of the region, in the way's order, at which no picked condition is refuted: with

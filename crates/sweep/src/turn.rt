@@ -4,7 +4,8 @@ ghost use Rattle.geo_base.specs.Ways.{IsSmallPoint, key, start};
 ghost use Rattle.derivation.specs.declared.event.Event.{Event};
 ghost use Rattle.derivation.specs.Events.{GrowsFrom};
 ghost use Rattle.sweep.specs.Chains.{IsOpen, IsRecordOf, SomeOpen, SomeOpenBy};
-ghost use Rattle.sweep.specs.Jump.{IsPlaced, IsPast, JumpsOn, IsUsedUp};
+ghost use Rattle.sweep.specs.Jump.{IsPlaced, IsPast};
+ghost use Rattle.sweep.specs.Turned.{HasTurned};
 
 use super::marks::Marks;
 use super::record::{open_chains, record_turn};
@@ -39,41 +40,11 @@ pub fn turn<const K: usize, R: Recorder>(
         R.keeps ≡ true → SomeOpenBy K way.now.lead way.now.up number b.now.lo.coordinates
         b.now.hi.coordinates first (k past.now.coordinates)
         (k c.old.coordinates) (k n.old.coordinates) marks.old.places (R.list rec.old) }
-    ensures jump { IfOk result (λ more. MatchBool more
-        (JumpsOn K way.now.lead way.now.up region.now.lo.coordinates region.now.hi.coordinates
-        b.now.lo.coordinates b.now.hi.coordinates past.now.coordinates
-        c.old.coordinates n.old.coordinates c.new.coordinates n.new.coordinates)
-        (IsUsedUp K way.now.lead way.now.up region.now.lo.coordinates region.now.hi.coordinates
-        b.now.lo.coordinates b.now.hi.coordinates c.old.coordinates n.old.coordinates)) }
-    ensures recorded { let k = key K way.now.lead way.now.up in
-        let first = k (start way.now.up region.now.lo.coordinates region.now.hi.coordinates) in
-        let past = k past.now.coordinates in
-        IfOk result (λ more. R.keeps ≡ true
-        → (T : ℕ → List ℤ → List ℤ → Bool) (base : List Event)
-        → T number b.now.lo.coordinates b.now.hi.coordinates ≡ true
-        → IsOpen K way.now.lead way.now.up T first past (K - 1) (k c.old.coordinates)
-        (k n.old.coordinates) marks.old.places base (R.list rec.old)
-        → MatchBool more
-        (IsOpen K way.now.lead way.now.up T first past (K - 1) (k c.new.coordinates)
-        (k n.new.coordinates) marks.new.places base (R.list rec.new))
-        (IsRecordOf K T base (R.list rec.new)
-        (Has K region.now.lo.coordinates region.now.hi.coordinates))) }
-    ensures length { IfOk result (λ more. R.keeps ≡ true → length (R.list rec.new)
-        ≤ length (R.list rec.old) + (if more then 2 * K else K + 2)) }
-    ensures few { OnErr result (R.keeps ≡ true
-        → (length (R.list rec.new) ≤ length (R.list rec.old) + (K + 2))
-        ⊎ (JumpsOn K way.now.lead way.now.up region.now.lo.coordinates region.now.hi.coordinates
-        b.now.lo.coordinates b.now.hi.coordinates past.now.coordinates
-        c.old.coordinates n.old.coordinates c.new.coordinates n.new.coordinates
-        × (length (R.list rec.new) ≤ length (R.list rec.old) + 2 * K))) }
-    ensures grows { let k = key K way.now.lead way.now.up in
-        let first = k (start way.now.up region.now.lo.coordinates region.now.hi.coordinates) in
-        let past = k past.now.coordinates in
-        (T : ℕ → List ℤ → List ℤ → Bool) (base : List Event) → (R.keeps ≡ true
-        → (T number b.now.lo.coordinates b.now.hi.coordinates ≡ true)
-        × IsOpen K way.now.lead way.now.up T first past (K - 1) (k c.old.coordinates)
-        (k n.old.coordinates) marks.old.places base (R.list rec.old))
-        → GrowsFrom R.keeps R.list R.refusals base rec.old rec.new result }
+    ensures { HasTurned K way.now.lead way.now.up R.keeps number region.now.lo.coordinates
+        region.now.hi.coordinates b.now.lo.coordinates b.now.hi.coordinates past.now.coordinates
+        c.old.coordinates n.old.coordinates c.new.coordinates n.new.coordinates marks.old.places
+        marks.new.places (R.list rec.old) (R.list rec.new) (R.refusals rec.old)
+        (R.refusals rec.new) result }
 {
     let first = way.start(region);
     way.draw_in(way.end(b), n);

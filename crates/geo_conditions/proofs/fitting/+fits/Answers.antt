@@ -1,9 +1,10 @@
-use Rattle.std.proofs.Common.{List, refl, sym, ◌∙◌, subst, arith}
+use Rattle.std.specs.Bool.{IsTrue}
+use Rattle.std.proofs.Common.{List, length, ltb, refl, sym, ◌∙◌, subst, arith}
 use Rattle.std.specs.List.{All}
 use Rattle.std.proofs.lemmas.Bool.{false≢true}
 use Rattle.geo_conditions.specs.declared.cond.Cond.{Cond}
 use Rattle.geo_conditions.specs.Conditions.{FitsIn}
-use Rattle.geo_conditions.proofs.Children.{fit_in, fit_out, fits_more}
+use Rattle.geo_conditions.proofs.Children.{fit_in, fit_out, fits_more, is_there}
 use Rattle.geo_conditions.proofs.fitting.+fits.Goals as goal
 
 pub returns-then-not-fits : goal.returns-then-not-fits
@@ -28,3 +29,16 @@ returns-after-loop-child g t c = (
       subst (λ (e : Cond). FitsIn e S) (sym c.in-AtLeast.is) (fit_in c.in-AtLeast.field-0 c.in-AtLeast.children S (subst (λ (xs : List Cond). All (λ e. FitsIn e S) xs) c.as_slice-child-items.ensures items)),
   λ _. refl,
 )
+
+pub returns-in-Lin : goal.returns-in-Lin
+returns-in-Lin g t c = subst (λ (e : Cond). (IsTrue c.form_fits.result → FitsIn e c.args.s.now) × (FitsIn e c.args.s.now → IsTrue c.form_fits.result)) (sym c.in-Lin.is) c.form_fits.ensures
+
+pub returns-in-Shape : goal.returns-in-Shape
+returns-in-Shape g t c =
+    subst (λ (e : Cond). (IsTrue (ltb c.in-Shape.o.0 c.objects.result) → FitsIn e c.args.s.now) × (FitsIn e c.args.s.now → IsTrue (ltb c.in-Shape.o.0 c.objects.result))) (sym c.in-Shape.is)
+    (is_there c.in-Shape.o.0 c.objects.result (length c.args.s.now) c.objects.ensures.number)
+
+pub returns-in-NotShape : goal.returns-in-NotShape
+returns-in-NotShape g t c =
+    subst (λ (e : Cond). (IsTrue (ltb c.in-NotShape.o.0 c.objects-in-NotShape.result) → FitsIn e c.args.s.now) × (FitsIn e c.args.s.now → IsTrue (ltb c.in-NotShape.o.0 c.objects-in-NotShape.result))) (sym c.in-NotShape.is)
+    (is_there c.in-NotShape.o.0 c.objects-in-NotShape.result (length c.args.s.now) c.objects-in-NotShape.ensures.number)

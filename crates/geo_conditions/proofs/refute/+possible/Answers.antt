@@ -1,5 +1,6 @@
 use Rattle.geo_conditions.specs.Puts.{put_of}
 use Rattle.geo_conditions.proofs.refute.+possible.Goals as goal
+use Rattle.geo_conditions.proofs.refute.+possible.Goals.{are_enough-then-possible_in+else-least-sure, are_enough-else-possible_in+else-open-least}
 use Rattle.std.proofs.Common.{length, true, false, refl, ◌+◌, ◌-◌, ◌≡◌, ℕ, subst, sym, arith, pos, List, ap, ◌∙◌, rules}
 use Rattle.std.specs.List.{All}
 use Rattle.std.proofs.lemmas.Int.{ints}
@@ -8,7 +9,7 @@ use Rattle.geo_conditions.specs.Conditions.{FitsIn, possible}
 use Rattle.geo_conditions.specs.Reach.{put_on}
 use Rattle.geo_conditions.proofs.Products.{test_kept}
 use lib.Signed.{le_z}
-use Rattle.geo_conditions.proofs.Children.{many_possible, at_least_is, fit_out, many_end, enough_possible, too_few_possible, one_more, one_less, many_behind, many_before, more_behind, less_behind}
+use Rattle.geo_conditions.proofs.Children.{many_possible, at_least_is, fit_out, many_end, enough_possible, too_few_possible, one_more, one_less, next_sure, next_not, many_behind, many_before, more_behind, less_behind}
 
 pub are_enough-loop-child-init : goal.are_enough-loop-child-init
 are_enough-loop-child-init g t c = record {
@@ -17,6 +18,31 @@ are_enough-loop-child-init g t c = record {
   left = omega (arith, c.len-open.ensures, ap length c.as_slice-child-items.ensures);
   fits = subst (λ (xs : List Cond). All (λ e. FitsIn e c.args.s.now) xs) (sym c.as_slice-child-items.ensures) (fit_out c.args.n c.args.children.now c.args.s.now c.requires.fits);
 }
+
+pub are_enough-loop-child-preserved : goal.are_enough-loop-child-preserved
+are_enough-loop-child-preserved g t c =
+    let S = put_on (put_of c.args.put.now) c.args.s.now in
+    let xs = c.as_slice-child-items.result.now in
+    let i = c.loop-child.child-index in
+    let invariant = c.loop-child.invariant in
+    elim c.if-possible_in.branch [
+      | are_enough-then-possible_in+else-least-sure w ↦ (
+          let one = subst (λ (y : Cond). possible y S ≡ true) c.child-item.is (sym c.possible_in.ensures ∙ w.if-possible_in.true) in
+          record {
+            value = rw w.sure-is (next_sure S xs i c.loop-child.sure _ c.loop-child-test.true invariant.value one);
+            few = omega (arith, w.sure-is, invariant.few);
+            left = omega (arith, w.sure-is, w.open-is, invariant.left);
+            fits = invariant.fits;
+          })
+      | are_enough-else-possible_in+else-open-least w ↦ (
+          let none = subst (λ (y : Cond). possible y S ≡ false) c.child-item.is (sym c.possible_in.ensures ∙ w.if-possible_in.false) in
+          record {
+            value = rw w.sure-is (next_not S xs i c.loop-child.sure _ c.loop-child-test.true invariant.value none);
+            few = omega (arith, w.sure-is, invariant.few);
+            left = omega (arith, w.sure-is, w.open-is, invariant.left, c.loop-child-test.true);
+            fits = invariant.fits;
+          })
+    ]
 
 pub are_enough-returns-then-least-sure : goal.are_enough-returns-then-least-sure
 are_enough-returns-then-least-sure g t c =
@@ -59,6 +85,16 @@ are_enough_of_many-loop-i-preserved g t c =
     record {
       value = less_behind S c.as_slice-parts.result.now c.loop-i.i c.loop-i.sure c.index-parts-i.result c.loop-i-test.true c.loop-i.auto.i c.loop-i.invariant.value none;
       few = omega (arith, c.loop-i.invariant.few);
+      fits = c.loop-i.invariant.fits;
+    }
+
+pub are_enough_of_many-loop-i-preserved-else-least-sure : goal.are_enough_of_many-loop-i-preserved-else-least-sure
+are_enough_of_many-loop-i-preserved-else-least-sure g t c =
+    let S = put_on (put_of c.args.put.now) c.args.s.now in
+    let one = subst (λ (y : Cond). possible y S ≡ true) c.index-parts-i.is (sym c.possible_in.ensures ∙ c.if-possible_in.true) in
+    record {
+      value = more_behind S c.as_slice-parts.result.now c.loop-i.i c.loop-i.sure c.index-parts-i.result c.loop-i-test.true c.loop-i.auto.i c.loop-i.invariant.value one;
+      few = omega (arith, c.loop-i.invariant.few, c.loop-i-test.true);
       fits = c.loop-i.invariant.fits;
     }
 

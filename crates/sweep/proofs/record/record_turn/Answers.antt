@@ -23,7 +23,7 @@ close_chains-requires g c =
     let way = c.args.way.now in
     let k = key g.row.K way.lead way.up in
     let open_now : g.R.Recorder.keeps ≡ true → SomeOpenAtJump g.row.K way.lead way.up (k c.args.first.now.coordinates) (k c.args.past.now.coordinates) (k c.args.n.now.coordinates) c.args.marks.now.places (g.R.Recorder.list c.record_found.new.rec) =
-    λ kept. (let w = c.requires.recorded kept in (w.0, w.1, k c.args.c.now.coordinates, at_jump g (goal.at.close_chains-requires g c).In_ok-record_found kept w.0 w.1 w.2 w.3)) in
+    λ kept. (let w = c.requires.recorded kept in (w.test, w.base, k c.args.c.now.coordinates, at_jump g (goal.at.close_chains-requires g c).In_ok-record_found kept w.test w.base w.known w.is_open)) in
     search rules
 
 pub returns-in_err-record_found-clause-grows : goal.returns-in_err-record_found-clause-grows
