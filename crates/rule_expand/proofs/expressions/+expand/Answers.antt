@@ -1,22 +1,22 @@
-use Rattle.rule_expand.proofs.Views.{num-seen, field-seen, param-seen, shape-seen, negative-seen, sum-seen, product-seen, least-seen, greatest-seen, call-seen}
 use Rattle.std.proofs.Common.{◌≡◌, ◌∙◌, ℕ, List, ap, sym, map, length, subst, arith}
-use Rattle.std.specs.Prelude.{Option, Result}
+use Rattle.std.specs.Prelude.{Option, Result, Err}
 use Rattle.std.proofs.lemmas.Result.{err_from_is_err_and}
 use Rattle.rule_syntax.specs.Tree as tree
 use Rattle.rule_syntax.specs.View.{expr_view, argument_view}
-use Rattle.rule_expand.specs.Plain.{PlainExprTree}
+use Rattle.rule_syntax.specs.Tree.{ExprTree, SumTree, ProductTree}
 use Rattle.problem_data.specs.Problem.{ProblemData}
+use Rattle.rule_expand.specs.Plain.{PlainExprTree}
 use Rattle.rule_expand.specs.Expansion.{Subst, Expansions, arguments_meant, expr_expanded, expansions_of}
-use Rattle.rule_syntax.specs.Tree.{ExprTree}
-use Rattle.rule_expand.specs.declared.plain.PlainExpr.{PlainExpr}
-use Rattle.rule_expand.specs.declared.limits.ExpandFault.{ExpandFault}
-use Rattle.rule_expand.specs.Costs.{cost, costs, costs_of}
+use Rattle.rule_expand.specs.Costs.{cost, sum_cost, product_cost, costs, costs_of}
 use Rattle.rule_expand.specs.Limits.{GivesExpr}
 use Rattle.rule_expand.specs.ScopeView.{scope_view, prices}
 use Rattle.rule_expand.specs.Handed.{IsHandedIndex}
+use Rattle.rule_expand.specs.declared.plain.PlainExpr.{PlainExpr}
+use Rattle.rule_expand.specs.declared.limits.ExpandFault.{ExpandFault}
 use Rattle.rule_expand.proofs.Scopes.{prices-parameters}
 use Rattle.rule_expand.proofs.HandedOn.{argument-costs, call-handed}
-use Rattle.rule_expand.proofs.Steps.{sums-step, sums-fault, sums-end, sums-cost-at, products-step, products-fault, products-end, products-cost-at}
+use Rattle.rule_expand.proofs.Steps.{sums-step, sums-fault, sums-end, sums-cost-at, products-step, products-fault, products-end, products-cost-at, plus-made, plus-fault, minus-made, minus-fault, times-made, times-fault}
+use Rattle.rule_expand.proofs.Views.{num-seen, field-seen, param-seen, shape-seen, negative-seen, sum-seen, product-seen, least-seen, greatest-seen, call-seen, plus-seen, minus-seen, times-seen}
 use Rattle.rule_expand.proofs.expressions.+expand.Goals as goal
 
 given-as : (x : Expansions) (p : ProblemData) (sub : Subst) {u v : ExprTree} (room deep left : ℕ) (r : Result PlainExpr ExpandFault) → v ≡ u → GivesExpr (expr_expanded x p u sub) room deep left r → GivesExpr (expr_expanded x p v sub) room deep left r
@@ -162,3 +162,45 @@ expand_expr-expand_call-requires t c =
 pub expand_expr-returns-in-CallValue : goal.expand_expr-returns-in-CallValue
 expand_expr-returns-in-CallValue t c =
     given-as (expansions_of c.args.source.now.problem.now c.args.in_sight) c.args.source.now.problem.now (scope_view c.args.source.now.problem.now c.args.scope.now) c.args.room.now c.args.deep _ _ (call-seen c.in-CallValue.field-0 c.in-CallValue.m c.in-CallValue.args c.in-CallValue.is c.deref-in-CallValue.ensures.value) c.expand_call.ensures
+
+pub expand_sum_step-expand_expr-requires : goal.expand_sum_step-expand_expr-requires
+expand_sum_step-expand_expr-requires t c =
+    let h = ap (λ (v : SumTree). sum_cost (costs_of c.args.source.now.problem.now c.args.in_sight) c.args.source.now.problem.now v (prices c.args.source.now.problem.now c.args.scope.now)) (plus-seen c.in-Plus.e c.in-Plus.is) in
+    (omega (arith, h), c.requires)
+
+pub expand_sum_step-returns-in_err-expand_expr-in-Plus : goal.expand_sum_step-returns-in_err-expand_expr-in-Plus
+expand_sum_step-returns-in_err-expand_expr-in-Plus t c =
+    let r = err_from_is_err_and c.from_residual.result c.from_residual.ensures.1 in
+    plus-fault (expansions_of c.args.source.now.problem.now c.args.in_sight) c.args.source.now.problem.now (scope_view c.args.source.now.problem.now c.args.scope.now) c.in-Plus.e c.args.room.now c.args.deep _ c.from_residual.result _ c.in-Plus.is (r.1 ∙ ap (λ (f : ExpandFault). Err f) r.2) (c.in_err-expand_expr-in-Plus.ensures {u = tt})
+
+pub expand_sum_step-returns-in_ok-expand_expr-in-Plus : goal.expand_sum_step-returns-in_ok-expand_expr-in-Plus
+expand_sum_step-returns-in_ok-expand_expr-in-Plus t c =
+    plus-made (expansions_of c.args.source.now.problem.now c.args.in_sight) c.args.source.now.problem.now (scope_view c.args.source.now.problem.now c.args.scope.now) c.in-Plus.e c.args.room.now c.args.deep _ c.in_ok-expand_expr-in-Plus.field-0 c.in-Plus.is (c.in_ok-expand_expr-in-Plus.ensures {u = tt})
+
+pub expand_sum_step-expand_expr-requires-in-Minus : goal.expand_sum_step-expand_expr-requires-in-Minus
+expand_sum_step-expand_expr-requires-in-Minus t c =
+    let h = ap (λ (v : SumTree). sum_cost (costs_of c.args.source.now.problem.now c.args.in_sight) c.args.source.now.problem.now v (prices c.args.source.now.problem.now c.args.scope.now)) (minus-seen c.in-Minus.e c.in-Minus.is) in
+    (omega (arith, h), c.requires)
+
+pub expand_sum_step-returns-in_err-expand_expr-in-Minus : goal.expand_sum_step-returns-in_err-expand_expr-in-Minus
+expand_sum_step-returns-in_err-expand_expr-in-Minus t c =
+    let r = err_from_is_err_and c.from_residual-in_err-expand_expr-in-Minus.result c.from_residual-in_err-expand_expr-in-Minus.ensures.1 in
+    minus-fault (expansions_of c.args.source.now.problem.now c.args.in_sight) c.args.source.now.problem.now (scope_view c.args.source.now.problem.now c.args.scope.now) c.in-Minus.e c.args.room.now c.args.deep _ c.from_residual-in_err-expand_expr-in-Minus.result _ c.in-Minus.is (r.1 ∙ ap (λ (f : ExpandFault). Err f) r.2) (c.in_err-expand_expr-in-Minus.ensures {u = tt})
+
+pub expand_sum_step-returns-in_ok-expand_expr-in-Minus : goal.expand_sum_step-returns-in_ok-expand_expr-in-Minus
+expand_sum_step-returns-in_ok-expand_expr-in-Minus t c =
+    minus-made (expansions_of c.args.source.now.problem.now c.args.in_sight) c.args.source.now.problem.now (scope_view c.args.source.now.problem.now c.args.scope.now) c.in-Minus.e c.args.room.now c.args.deep _ c.in_ok-expand_expr-in-Minus.field-0 c.in-Minus.is (c.in_ok-expand_expr-in-Minus.ensures {u = tt})
+
+pub expand_product_step-expand_expr-requires : goal.expand_product_step-expand_expr-requires
+expand_product_step-expand_expr-requires t c =
+    let h = ap (λ (v : ProductTree). product_cost (costs_of c.args.source.now.problem.now c.args.in_sight) c.args.source.now.problem.now v (prices c.args.source.now.problem.now c.args.scope.now)) (times-seen c.in-Times.e c.in-Times.is) in
+    (omega (arith, h), c.requires)
+
+pub expand_product_step-returns-in_err-expand_expr-in-Times : goal.expand_product_step-returns-in_err-expand_expr-in-Times
+expand_product_step-returns-in_err-expand_expr-in-Times t c =
+    let r = err_from_is_err_and c.from_residual.result c.from_residual.ensures.1 in
+    times-fault (expansions_of c.args.source.now.problem.now c.args.in_sight) c.args.source.now.problem.now (scope_view c.args.source.now.problem.now c.args.scope.now) c.in-Times.e c.args.room.now c.args.deep _ c.from_residual.result _ c.in-Times.is (r.1 ∙ ap (λ (f : ExpandFault). Err f) r.2) (c.in_err-expand_expr-in-Times.ensures {u = tt})
+
+pub expand_product_step-returns-in_ok-expand_expr-in-Times : goal.expand_product_step-returns-in_ok-expand_expr-in-Times
+expand_product_step-returns-in_ok-expand_expr-in-Times t c =
+    times-made (expansions_of c.args.source.now.problem.now c.args.in_sight) c.args.source.now.problem.now (scope_view c.args.source.now.problem.now c.args.scope.now) c.in-Times.e c.args.room.now c.args.deep _ c.in_ok-expand_expr-in-Times.field-0 c.in-Times.is (c.in_ok-expand_expr-in-Times.ensures {u = tt})

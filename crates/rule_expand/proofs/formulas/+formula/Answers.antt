@@ -1,4 +1,4 @@
-use Rattle.std.proofs.Common.{◌≡◌, ℕ, ◌∙◌, ap, sym, map, subst, arith}
+use Rattle.std.proofs.Common.{◌≡◌, ℕ, ap, sym, map, subst, arith}
 use Rattle.std.proofs.lemmas.Result.{err_from_is_err_and}
 use Rattle.std.specs.Prelude.{Result}
 use Rattle.rule_syntax.specs.Tree as tree
@@ -12,8 +12,8 @@ use Rattle.rule_expand.specs.Plain.{PlainFormulaTree}
 use Rattle.rule_expand.specs.declared.plain.PlainFormula.{PlainFormula}
 use Rattle.rule_expand.specs.declared.limits.ExpandFault.{ExpandFault}
 use Rattle.rule_expand.specs.ScopeView.{scope_view}
-use Rattle.rule_expand.proofs.Operands.{operands-fault, operands-step, operands-end, operand-cost, binders-nodes, view-compare}
-use Rattle.rule_expand.proofs.Views.{negation-seen, all_of-seen, any_of-seen, implication-seen, equivalence-seen, quantified-seen, formula_call-seen}
+use Rattle.rule_expand.proofs.Operands.{operands-fault, operands-step, operands-end, operand-cost, binders-nodes}
+use Rattle.rule_expand.proofs.Views.{negation-seen, all_of-seen, any_of-seen, implication-seen, equivalence-seen, comparison-seen, quantified-seen, formula_call-seen}
 use Rattle.rule_expand.proofs.formulas.+formula.Goals as goal
 
 given-as : (x : Expansions) (p : ProblemData) (sub : Subst) {u v : FormulaTree} (next room deep next' left : ℕ) (r : Result PlainFormula ExpandFault) → v ≡ u →
@@ -41,7 +41,7 @@ expand_each-loop-f-preserved t c =
 pub expand_formula-returns-in-Compare : goal.expand_formula-returns-in-Compare
 expand_formula-returns-in-Compare t c =
     let p = c.args.source.now.problem.now in
-    let v = ap formula_view c.in-Compare.is ∙ view-compare c.in-Compare.field-0 c.in-Compare.a c.in-Compare.rel c.in-Compare.b in
+    let v = comparison-seen c.in-Compare.field-0 c.in-Compare.a c.in-Compare.rel c.in-Compare.b c.in-Compare.is in
     let P : PlainFormulaTree → Type 0 = λ f. GivesFormula f c.args.next.now c.args.room.now c.args.deep c.args.next.now c.expand_comparison.new.room c.expand_comparison.result in
     subst P (sym (ap (λ f. formula_expanded (expansions_of p c.args.in_sight) p f (scope_view p c.args.scope.now) c.args.next.now) v)) (c.expand_comparison.ensures c.args.next.now)
 
