@@ -1,13 +1,20 @@
 -- Degrees of lists of steps, and first places in lists of rules.
-use Rattle.std.proofs.Common.{◌≡◌, ℕ, ◌+◌, ◌<◌, ◌≤◌, Bool, true, false, ◌||◌, List, length, drop, get_or, sym, ap, ◌∙◌, refl}
+use Rattle.std.proofs.Common.{◌≡◌, ℕ, ◌+◌, ◌<◌, ◌≤◌, Bool, true, false, ◌||◌, List, length, drop, get_or, sym, ap, ◌∙◌, refl, Box, Vec, Global}
 use Rattle.std.proofs.lemmas.List.{drop_more}
 use Rattle.std.proofs.Math.ListN.{drop_of_length-le}
 use Rattle.rule_expand.specs.Plain as plain
-use Rattle.rule_expand.specs.PlainView.{plain_sum_view, plain_sums_view, plain_product_view, plain_products_view, plain_formula_view, plain_formulas_view}
+use Rattle.rule_expand.specs.PlainView.{plain_sum_view, plain_sums_view, plain_product_view, plain_products_view, plain_formula_view, plain_formulas_view, plain_expr_view, plain_expr_step, plain_sum_step, plain_product_step}
 use Rattle.rule_expand.specs.Degree.{sum_has, sum_breaks, sums_have, sums_break, product_has, product_breaks, products_have, products_break, formula_breaks, formulas_break}
 use Rattle.rule_expand.specs.declared.plain.PlainSum.{PlainSum}
 use Rattle.rule_expand.specs.declared.plain.PlainProd.{PlainProd}
 use Rattle.rule_expand.specs.declared.plain.PlainFormula.{PlainFormula}
+use Rattle.rule_expand.specs.Plain.{PlainExprTree, PlainSumTree, PlainProductTree}
+use Rattle.rule_expand.specs.declared.plain.PlainExpr.{PlainExpr}
+use Rattle.rule_expand.specs.declared.plain.Subject.{Subject}
+use Rattle.geo_tokens.specs.declared.name.Name.{Name}
+use Rattle.rule_expand.specs.declared.plain.PlainExpr.TheOpen.{PlainExpr-F}
+use Rattle.rule_expand.specs.declared.plain.PlainExpr.TheFolds.{fold-roll-PlainExpr}
+use Rattle.rule_expand.specs.declared.plain.PlainExpr.TheVariants as exprs
 
 or-assoc : (a b r : Bool) → ((a || b) || r) ≡ (a || (b || r))
 or-assoc true b r = refl
@@ -83,3 +90,32 @@ formulas-left-here fs i f h e g k = sym (ap formulas_break (formulas-drop fs i f
 
 pub formulas-left-end : (fs : List PlainFormula) (i : ℕ) → length fs ≤ i → formulas_break (plain_formulas_view (drop i fs)) ≡ formulas_break (plain_formulas_view fs) → false ≡ formulas_break (plain_formulas_view fs)
 formulas-left-end fs i h k = sym (ap (λ l. formulas_break (plain_formulas_view l)) (drop_of_length-le fs h)) ∙ k
+
+-- ---- what an expression without macros stands for, variant by variant
+
+pub num-stands : {e : PlainExpr} (n : ℕ) → e ≡ exprs.Num n → plain_expr_view e ≡ plain.number n
+num-stands n h = rw h (ap plain_expr_view (sym (exprs.rolls-Num n)) ∙ fold-roll-PlainExpr PlainExprTree PlainProductTree PlainSumTree plain_expr_step plain_product_step plain_sum_step (PlainExpr-F.Num n))
+
+pub field-stands : {e : PlainExpr} (s : Subject) (f : Name) → e ≡ exprs.Field s f → plain_expr_view e ≡ plain.field s f
+field-stands s f h = rw h (ap plain_expr_view (sym (exprs.rolls-Field s f)) ∙ fold-roll-PlainExpr PlainExprTree PlainProductTree PlainSumTree plain_expr_step plain_product_step plain_sum_step (PlainExpr-F.Field s f))
+
+pub shape-stands : {e : PlainExpr} (n : ℕ) → e ≡ exprs.ShapeNum n → plain_expr_view e ≡ plain.shape_number n
+shape-stands n h = rw h (ap plain_expr_view (sym (exprs.rolls-ShapeNum n)) ∙ fold-roll-PlainExpr PlainExprTree PlainProductTree PlainSumTree plain_expr_step plain_product_step plain_sum_step (PlainExpr-F.ShapeNum n))
+
+pub negative-stands : {e : PlainExpr} {f : PlainExpr} (a : Box PlainExpr Global) → e ≡ exprs.Neg a → f ≡ a.value → plain_expr_view e ≡ plain.negative (plain_expr_view f)
+negative-stands a h i = rw (h, i) (ap plain_expr_view (sym (exprs.rolls-Neg a)) ∙ fold-roll-PlainExpr PlainExprTree PlainProductTree PlainSumTree plain_expr_step plain_product_step plain_sum_step (PlainExpr-F.Neg a))
+
+pub sum-stands : {e : PlainExpr} {f : PlainExpr} {ss : List PlainSum} (a : Box PlainExpr Global) (steps : Vec PlainSum Global) → e ≡ exprs.Sum a steps → f ≡ a.value → ss ≡ steps.items → plain_expr_view e ≡ plain.sum (plain_expr_view f) (plain_sums_view ss)
+sum-stands a steps h i j = rw (h, i, j) (ap plain_expr_view (sym (exprs.rolls-Sum a steps)) ∙ fold-roll-PlainExpr PlainExprTree PlainProductTree PlainSumTree plain_expr_step plain_product_step plain_sum_step (PlainExpr-F.Sum a steps))
+
+pub product-stands : {e : PlainExpr} {f : PlainExpr} {ss : List PlainProd} (a : Box PlainExpr Global) (steps : Vec PlainProd Global) → e ≡ exprs.Prod a steps → f ≡ a.value → ss ≡ steps.items → plain_expr_view e ≡ plain.product (plain_expr_view f) (plain_products_view ss)
+product-stands a steps h i j = rw (h, i, j) (ap plain_expr_view (sym (exprs.rolls-Prod a steps)) ∙ fold-roll-PlainExpr PlainExprTree PlainProductTree PlainSumTree plain_expr_step plain_product_step plain_sum_step (PlainExpr-F.Prod a steps))
+
+pub least-stands : {e : PlainExpr} {f g : PlainExpr} (a b : Box PlainExpr Global) → e ≡ exprs.Min a b → f ≡ a.value → g ≡ b.value → plain_expr_view e ≡ plain.least (plain_expr_view f) (plain_expr_view g)
+least-stands a b h i j = rw (h, i, j) (ap plain_expr_view (sym (exprs.rolls-Min a b)) ∙ fold-roll-PlainExpr PlainExprTree PlainProductTree PlainSumTree plain_expr_step plain_product_step plain_sum_step (PlainExpr-F.Min a b))
+
+pub greatest-stands : {e : PlainExpr} {f g : PlainExpr} (a b : Box PlainExpr Global) → e ≡ exprs.Max a b → f ≡ a.value → g ≡ b.value → plain_expr_view e ≡ plain.greatest (plain_expr_view f) (plain_expr_view g)
+greatest-stands a b h i j = rw (h, i, j) (ap plain_expr_view (sym (exprs.rolls-Max a b)) ∙ fold-roll-PlainExpr PlainExprTree PlainProductTree PlainSumTree plain_expr_step plain_product_step plain_sum_step (PlainExpr-F.Max a b))
+
+pub either-same : {a b c d : Bool} → a ≡ b → c ≡ d → (a || c) ≡ (b || d)
+either-same {b = b} {c = c} e f = ap (λ x. x || c) e ∙ ap (λ x. b || x) f

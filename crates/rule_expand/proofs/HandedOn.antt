@@ -148,3 +148,11 @@ one-more p hs o a h = record {
       subst (λ (x : ℕ). HandsOn p x i) (sym k') (handed-at p (length hs) i o (sym (get_or-append_seam hs o [] None) ∙ e') h))
       (cases_lt k (length hs));
 }
+
+-- the same where the lists are known to be equal
+pub one-more-as : (p : ProblemData) (hs seen more : List (Option ℕ)) (o : Option ℕ) → seen ≡ hs → more ≡ hs ++ o ∷ [] → AreHanded p hs → MatchOption o (Unit {0}) (λ i. HandsOn p (length seen) i) → AreHanded p more
+one-more-as p hs seen more o e f a h =
+    subst (λ (x : List (Option ℕ)). AreHanded p x) (sym f) (one-more p hs o a (subst (λ (x : List (Option ℕ)). MatchOption o (Unit {0}) (λ i. HandsOn p (length x) i)) e h))
+
+pub one-counted : (hs more : List (Option ℕ)) (o : Option ℕ) (n : ℕ) → length hs ≡ n → more ≡ hs ++ o ∷ [] → length more ≡ n + 1
+one-counted hs more o n e f = omega (arith, e, ap length f, length-append hs (o ∷ []))

@@ -6,3 +6,4 @@ pub mod Steps
 pub mod Operands
 pub mod Degrees
 pub mod Wholes
+pub mod Views

@@ -4,13 +4,8 @@ use Rattle.std.proofs.lemmas.List.{drop_more}
 use Rattle.std.proofs.Math.ListN.{drop_of_length-le}
 use Rattle.rule_syntax.specs.Tree as tree
 use Rattle.rule_syntax.specs.Tree.{FormulaTree, FormulaTrees}
-use Rattle.rule_syntax.specs.View.{expr_view, formula_view, formula_step}
-use Rattle.rule_syntax.specs.declared.tree.Expr.{Expr}
-use Rattle.rule_syntax.specs.declared.tree.Rel.{Rel}
+use Rattle.rule_syntax.specs.View.{formula_view}
 use Rattle.rule_syntax.specs.declared.tree.Formula.{Formula}
-use Rattle.rule_syntax.specs.declared.tree.Formula.TheOpen.{Formula-F}
-use Rattle.rule_syntax.specs.declared.tree.Formula.TheVariants.{Compare, rolls-Compare}
-use Rattle.rule_syntax.specs.declared.tree.Formula.TheFolds.{fold-roll-Formula}
 use Rattle.problem_data.specs.Problem.{ProblemData}
 use Rattle.rule_expand.specs.Plain as plain
 use Rattle.rule_expand.specs.Plain.{PlainFormulaTree, PlainFormulas}
@@ -121,6 +116,3 @@ operand-cost-in c p (f ∷ items) (suc i) d h = omega (arith, operand-cost-in c 
 
 pub operand-cost : (c : ℕ → ℕ) (p : ProblemData) (items : List Formula) (i : ℕ) (f : Formula) → i < length items → f ≡ get_or items i f → formula_cost c p (formula_view f) ≤ formulas_cost c p (formula_trees items)
 operand-cost c p items i f h e = omega (arith, operand-cost-in c p items i f h, ap (λ y. formula_cost c p (formula_view y)) e)
-
-pub view-compare : (place : ℕ) (a : Expr) (rel : Rel) (b : Expr) → formula_view (Compare place a rel b) ≡ tree.comparison place (expr_view a) rel (expr_view b)
-view-compare place a rel b = ap formula_view (sym (rolls-Compare place a rel b)) ∙ fold-roll-Formula FormulaTree formula_step (Formula-F.Compare place a rel b)

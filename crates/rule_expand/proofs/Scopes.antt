@@ -1,5 +1,5 @@
 -- Looking a parameter up.
-use Rattle.std.proofs.Common.{◌≡◌, ℕ, suc, ◌+◌, Bool, true, false, cond, not, List, [], ◌∷◌, length, take, map, get_or, ltb, sym, ap, ◌∙◌, refl, arith}
+use Rattle.std.proofs.Common.{◌≡◌, ℕ, suc, ◌+◌, Bool, true, false, cond, not, List, [], ◌∷◌, length, take, map, get_or, ltb, sym, ap, ◌∙◌, refl, arith, ◌≤◌, subst}
 use Rattle.std.specs.Prelude.{Option, None, Some}
 use Rattle.std.specs.Option.{option_map_or, option_map}
 use Rattle.std.specs.List.{position, position_or_len}
@@ -12,13 +12,15 @@ use Rattle.rule_syntax.specs.View.{argument_view, expr_view, expr_step, product_
 use Rattle.problem_data.specs.Problem.{ProblemData}
 use Rattle.problem_data.specs.ProblemView.{param_data}
 use Rattle.problem_data.specs.declared.problem.ParamDef.{ParamDef}
-use Rattle.rule_expand.specs.Expansion.{Meant, Subst, Expansions, meant_by, meant, argument_meant, arguments_meant, give_all}
+use Rattle.rule_expand.specs.Expansion.{Meant, a_subject, Subst, Expansions, meant_by, meant, argument_meant, arguments_meant, expansions_of, give, give_all}
+use Rattle.rule_expand.specs.declared.plain.Subject.TheVariants as subjects
+use Rattle.geo_tokens.specs.declared.name.Name.{Name}
 use Rattle.std.proofs.Common.{Bor}
-use Rattle.rule_expand.specs.Costs.{CostEnv, MacroCosts, cost_by, cost, argument_cost, costs, costs_of, price_all}
-use Rattle.rule_expand.specs.ScopeView.{prices, price_layer}
+use Rattle.rule_expand.specs.Costs.{CostEnv, MacroCosts, cost_by, cost, argument_cost, costs, costs_of, price, price_all}
+use Rattle.rule_expand.specs.ScopeView.{scope_view, scope_layer, prices, price_layer}
 use Rattle.rule_expand.specs.declared.scope.Scope.{Scope}
 use Rattle.rule_expand.specs.declared.scope.Scope.TheOpen.{Scope-F}
-use Rattle.rule_expand.specs.declared.scope.Scope.TheVariants.{Parameters, rolls-Parameters}
+use Rattle.rule_expand.specs.declared.scope.Scope.TheVariants.{Objects, Variable, Parameters, rolls-Objects, rolls-Variable, rolls-Parameters}
 use Rattle.rule_expand.specs.declared.scope.Scope.TheFolds.{fold-roll-Scope}
 
 pub argument-views : (a : Argument) → argument_view a ≡ argument a.place (expr_view a.value)
@@ -92,3 +94,44 @@ unbound-cost c p env n (q ∷ params) (a ∷ args) e =
 pub prices-parameters : (p : ProblemData) (params : Bor (List ParamDef)) (args : Bor (List Argument)) (caller : Bor Scope) (n : ℕ) →
     prices p (Parameters params args caller n) ≡ price_all (map param_data params.now) (costs (costs_of p n) p (arguments (map argument_view args.now)) (prices p caller.now))
 prices-parameters p params args caller n = ap (prices p) (sym (rolls-Parameters params args caller n)) ∙ fold-roll-Scope CostEnv (price_layer p) (Scope-F.Parameters params args caller n)
+
+-- ---- what a scope stands for, variant by variant
+
+pub objects-seen : (p : ProblemData) {s : Scope} → s ≡ Objects → scope_view p s ≡ []
+objects-seen p h = rw h (ap (scope_view p) (sym rolls-Objects) ∙ fold-roll-Scope Subst (scope_layer p) Scope-F.Objects)
+
+pub parameters-seen : (p : ProblemData) {s : Scope} (params : Bor (List ParamDef)) (args : Bor (List Argument)) (caller : Bor Scope) (n : ℕ) → s ≡ Parameters params args caller n →
+    scope_view p s ≡ give_all (map param_data params.now) (arguments_meant (expansions_of p n) p (arguments (map argument_view args.now)) (scope_view p caller.now))
+parameters-seen p params args caller n h = rw h (ap (scope_view p) (sym (rolls-Parameters params args caller n)) ∙ fold-roll-Scope Subst (scope_layer p) (Scope-F.Parameters params args caller n))
+
+variable-seen : (p : ProblemData) (outer : Bor Scope) (own : Bor Name) (n : ℕ) → scope_view p (Variable outer own n) ≡ give own.now (a_subject (subjects.Variable n)) (scope_view p outer.now)
+variable-seen p outer own n = ap (scope_view p) (sym (rolls-Variable outer own n)) ∙ fold-roll-Scope Subst (scope_layer p) (Scope-F.Variable outer own n)
+
+variable-priced : (p : ProblemData) (outer : Bor Scope) (own : Bor Name) (n : ℕ) → prices p (Variable outer own n) ≡ price own.now 0 (prices p outer.now)
+variable-priced p outer own n = ap (prices p) (sym (rolls-Variable outer own n)) ∙ fold-roll-Scope CostEnv (price_layer p) (Scope-F.Variable outer own n)
+
+-- the name of the innermost variable
+pub own-meant : (p : ProblemData) (name : List ℕ) {s : Scope} (outer : Bor Scope) (own : Bor Name) (n : ℕ) → s ≡ Variable outer own n → bytes_eq name own.now ≡ true →
+    a_subject (subjects.Variable n) ≡ meant_by p name (scope_view p s)
+own-meant p name outer own n h e =
+    rw h (sym (ap (meant_by p name) (variable-seen p outer own n) ∙ ap (λ b. cond b (a_subject (subjects.Variable n)) (meant_by p name (scope_view p outer.now))) e))
+
+-- another name
+pub outer-meant : (p : ProblemData) (name : List ℕ) {s : Scope} (outer : Bor Scope) (own : Bor Name) (n : ℕ) → s ≡ Variable outer own n → bytes_eq name own.now ≡ false →
+    meant_by p name (scope_view p outer.now) ≡ meant_by p name (scope_view p s)
+outer-meant p name outer own n h e =
+    rw h (sym (ap (meant_by p name) (variable-seen p outer own n) ∙ ap (λ b. cond b (a_subject (subjects.Variable n)) (meant_by p name (scope_view p outer.now))) e))
+
+pub outer-cost : (p : ProblemData) (name : List ℕ) {s : Scope} (outer : Bor Scope) (own : Bor Name) (n : ℕ) → s ≡ Variable outer own n → bytes_eq name own.now ≡ false →
+    cost_by name (prices p outer.now) ≡ cost_by name (prices p s)
+outer-cost p name outer own n h e = rw h (sym (ap (cost_by name) (variable-priced p outer own n) ∙ ap (λ b. cond b 0 (cost_by name (prices p outer.now))) e))
+
+-- a cost that is that of what is given, and of a name that is given
+pub at-most : (a : ℕ) {b c : ℕ} → a ≤ b → b ≡ c → a ≤ c
+at-most a h e = subst (λ (x : ℕ). a ≤ x) e h
+
+pub at-most-given : (a : ℕ) {c : ℕ} → c ≡ a → a ≤ c
+at-most-given a e = omega arith
+
+pub at-most-passed : (a : ℕ) {b c : ℕ} → a ≤ b → c ≡ 1 + b → a ≤ c
+at-most-passed a h e = omega arith

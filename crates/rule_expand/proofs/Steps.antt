@@ -2,20 +2,30 @@
 use Rattle.std.proofs.Common.{◌≡◌, ℕ, zero, suc, ◌+◌, ◌<◌, ◌≤◌, List, [], ◌∷◌, ◌++◌, length, take, map, get_or, max, inl, inr, sym, ap, ◌∙◌, refl, arith, subst}
 use Rattle.std.proofs.lemmas.List.{take_more, take_all, get_or-map, length-map, map-append}
 use Rattle.rule_syntax.specs.Tree as tree
-use Rattle.rule_syntax.specs.View.{sum_view, product_view}
+use Rattle.std.specs.Prelude.{Result, Err, MatchResult}
+use Rattle.rule_syntax.specs.View.{expr_view, sum_view, product_view}
+use Rattle.rule_syntax.specs.declared.tree.Expr.{Expr}
+use Rattle.rule_syntax.specs.declared.tree.SumStep.TheVariants as sum_steps
+use Rattle.rule_syntax.specs.declared.tree.ProdStep.TheVariants as product_steps
 use Rattle.rule_syntax.specs.declared.tree.SumStep.{SumStep}
 use Rattle.rule_syntax.specs.declared.tree.ProdStep.{ProdStep}
 use Rattle.problem_data.specs.Problem.{ProblemData}
 use Rattle.rule_expand.specs.Plain as plain
-use Rattle.rule_expand.specs.Plain.{PlainSumTree, PlainProductTree}
-use Rattle.rule_expand.specs.PlainView.{plain_sum_view, plain_product_view}
-use Rattle.rule_expand.specs.Expansion.{Subst, Expansions, sum_expanded, sums_expanded, product_expanded, products_expanded}
-use Rattle.rule_expand.specs.Counts.{sum_nodes, sum_depth, sums_nodes, sums_depth, product_nodes, product_depth, products_nodes, products_depth}
-use Rattle.rule_expand.specs.Limits.{IsLimitFault, SumMade, SumsMade, ProductMade, ProductsMade}
+use Rattle.rule_expand.specs.Plain.{PlainExprTree, PlainSumTree, PlainProductTree}
+use Rattle.rule_expand.specs.PlainView.{plain_sum_view, plain_product_view, plain_expr_step, plain_sum_step, plain_product_step}
+use Rattle.rule_expand.specs.Expansion.{Subst, Expansions, expr_expanded, sum_expanded, sums_expanded, product_expanded, products_expanded}
+use Rattle.rule_expand.specs.Counts.{expr_nodes, expr_depth, sum_nodes, sum_depth, sums_nodes, sums_depth, product_nodes, product_depth, products_nodes, products_depth}
+use Rattle.rule_expand.specs.Limits.{IsLimitFault, ExprMade, SumMade, SumsMade, ProductMade, ProductsMade}
 use Rattle.rule_expand.specs.Costs.{CostEnv, MacroCosts, sum_cost, sums_cost, product_cost, products_cost}
 use Rattle.rule_expand.specs.declared.limits.ExpandFault.{ExpandFault}
 use Rattle.rule_expand.specs.declared.limits.ExpandFault.TheVariants.{TooLarge, Memory}
+use Rattle.rule_expand.specs.declared.plain.PlainExpr.{PlainExpr}
+use Rattle.rule_expand.specs.declared.plain.PlainExpr.TheOpen.{PlainSum-F, PlainProd-F}
+use Rattle.rule_expand.specs.declared.plain.PlainExpr.TheFolds.{fold-roll-PlainSum, fold-roll-PlainProd}
 use Rattle.rule_expand.specs.declared.plain.PlainSum.{PlainSum}
+use Rattle.rule_expand.specs.declared.plain.PlainSum.TheVariants as plain_sums
+use Rattle.rule_expand.specs.declared.plain.PlainProd.TheVariants as plain_products
+use Rattle.rule_expand.proofs.Views.{plus-seen, minus-seen, times-seen}
 use Rattle.rule_expand.specs.declared.plain.PlainProd.{PlainProd}
 
 abbrev pub total : {T : Type 0} → (T → ℕ) → List T → ℕ
@@ -185,3 +195,50 @@ products-cost-in c p env (s ∷ items) (suc i) d h = omega (arith, products-cost
 
 pub products-cost-at : (c : MacroCosts) (p : ProblemData) (env : CostEnv) (items : List ProdStep) (i : ℕ) (s : ProdStep) → i < length items → s ≡ get_or items i s → product_cost c p (product_view s) env ≤ products_cost c p (tree.products (map product_view items)) env
 products-cost-at c p env items i s h e = omega (arith, products-cost-in c p env items i s h, ap (λ y. product_cost c p (product_view y) env) e)
+
+-- ---- what one step becomes
+
+pub plus-made : (x : Expansions) (p : ProblemData) (sub : Subst) {s : SumStep} (e : Expr) (room deep left : ℕ) (a : PlainExpr) → s ≡ sum_steps.Plus e → ExprMade (expr_expanded x p (expr_view e) sub) room deep left a →
+    SumMade (sum_expanded x p (sum_view s) sub) room deep left (plain_sums.Plus a)
+plus-made x p sub e room deep left a h m =
+    subst (λ v. SumMade (sum_expanded x p v sub) room deep left (plain_sums.Plus a)) (sym (plus-seen e h)) (record {
+      view = ap plain_sum_view (sym (plain_sums.rolls-Plus a)) ∙ fold-roll-PlainSum PlainExprTree PlainProductTree PlainSumTree plain_expr_step plain_product_step plain_sum_step (PlainSum-F.Plus a) ∙ ap plain.plus m.view;
+      taken = m.taken;
+      shallow = m.shallow;
+    })
+
+pub plus-fault : (x : Expansions) (p : ProblemData) (sub : Subst) {s : SumStep} (e : Expr) (room deep left : ℕ) (r : Result PlainSum ExpandFault) (f : ExpandFault) → s ≡ sum_steps.Plus e → r ≡ Err f →
+    IsLimitFault (expr_nodes (expr_expanded x p (expr_view e) sub)) (expr_depth (expr_expanded x p (expr_view e) sub)) room deep f →
+    MatchResult r (λ y. SumMade (sum_expanded x p (sum_view s) sub) room deep left y) (λ g. IsLimitFault (sum_nodes (sum_expanded x p (sum_view s) sub)) (sum_depth (sum_expanded x p (sum_view s) sub)) room deep g)
+plus-fault x p sub e room deep left r f h is k =
+    rw is (subst (λ v. IsLimitFault (sum_nodes (sum_expanded x p v sub)) (sum_depth (sum_expanded x p v sub)) room deep f) (sym (plus-seen e h)) k)
+
+pub minus-made : (x : Expansions) (p : ProblemData) (sub : Subst) {s : SumStep} (e : Expr) (room deep left : ℕ) (a : PlainExpr) → s ≡ sum_steps.Minus e → ExprMade (expr_expanded x p (expr_view e) sub) room deep left a →
+    SumMade (sum_expanded x p (sum_view s) sub) room deep left (plain_sums.Minus a)
+minus-made x p sub e room deep left a h m =
+    subst (λ v. SumMade (sum_expanded x p v sub) room deep left (plain_sums.Minus a)) (sym (minus-seen e h)) (record {
+      view = ap plain_sum_view (sym (plain_sums.rolls-Minus a)) ∙ fold-roll-PlainSum PlainExprTree PlainProductTree PlainSumTree plain_expr_step plain_product_step plain_sum_step (PlainSum-F.Minus a) ∙ ap plain.minus m.view;
+      taken = m.taken;
+      shallow = m.shallow;
+    })
+
+pub minus-fault : (x : Expansions) (p : ProblemData) (sub : Subst) {s : SumStep} (e : Expr) (room deep left : ℕ) (r : Result PlainSum ExpandFault) (f : ExpandFault) → s ≡ sum_steps.Minus e → r ≡ Err f →
+    IsLimitFault (expr_nodes (expr_expanded x p (expr_view e) sub)) (expr_depth (expr_expanded x p (expr_view e) sub)) room deep f →
+    MatchResult r (λ y. SumMade (sum_expanded x p (sum_view s) sub) room deep left y) (λ g. IsLimitFault (sum_nodes (sum_expanded x p (sum_view s) sub)) (sum_depth (sum_expanded x p (sum_view s) sub)) room deep g)
+minus-fault x p sub e room deep left r f h is k =
+    rw is (subst (λ v. IsLimitFault (sum_nodes (sum_expanded x p v sub)) (sum_depth (sum_expanded x p v sub)) room deep f) (sym (minus-seen e h)) k)
+
+pub times-made : (x : Expansions) (p : ProblemData) (sub : Subst) {s : ProdStep} (e : Expr) (room deep left : ℕ) (a : PlainExpr) → s ≡ product_steps.Times e → ExprMade (expr_expanded x p (expr_view e) sub) room deep left a →
+    ProductMade (product_expanded x p (product_view s) sub) room deep left (plain_products.Times a)
+times-made x p sub e room deep left a h m =
+    subst (λ v. ProductMade (product_expanded x p v sub) room deep left (plain_products.Times a)) (sym (times-seen e h)) (record {
+      view = ap plain_product_view (sym (plain_products.rolls-Times a)) ∙ fold-roll-PlainProd PlainExprTree PlainProductTree PlainSumTree plain_expr_step plain_product_step plain_sum_step (PlainProd-F.Times a) ∙ ap plain.times m.view;
+      taken = m.taken;
+      shallow = m.shallow;
+    })
+
+pub times-fault : (x : Expansions) (p : ProblemData) (sub : Subst) {s : ProdStep} (e : Expr) (room deep left : ℕ) (r : Result PlainProd ExpandFault) (f : ExpandFault) → s ≡ product_steps.Times e → r ≡ Err f →
+    IsLimitFault (expr_nodes (expr_expanded x p (expr_view e) sub)) (expr_depth (expr_expanded x p (expr_view e) sub)) room deep f →
+    MatchResult r (λ y. ProductMade (product_expanded x p (product_view s) sub) room deep left y) (λ g. IsLimitFault (product_nodes (product_expanded x p (product_view s) sub)) (product_depth (product_expanded x p (product_view s) sub)) room deep g)
+times-fault x p sub e room deep left r f h is k =
+    rw is (subst (λ v. IsLimitFault (product_nodes (product_expanded x p v sub)) (product_depth (product_expanded x p v sub)) room deep f) (sym (times-seen e h)) k)

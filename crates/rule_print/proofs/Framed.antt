@@ -29,3 +29,24 @@ others_behind false o c now one two f g e t = append-nil two ∙ t ∙ ap (λ l.
 pub more_framed : {E : Type 0} (r : Result Unit E) (b : Bool) (o c : Sym) (now one two later f g whole : List Written) → one ≡ now ++ (if b then symbol o ∷ [] else []) ++ f → two ≡ one ++ g →
     IfOk r (λ _. later ≡ two ++ (if b then symbol c ∷ [] else [])) → whole ≡ bracketed b o c (f ++ g) → IfOk r (λ _. later ≡ now ++ whole)
 more_framed r b o c now one two later f g whole e t h is = IfOk-equal r later _ _ h (others_behind b o c now one two f g e t ∙ sym (ap (λ l. now ++ l) is))
+
+-- what was spelled is the whole
+pub spelled_as : {E : Type 0} (r : Result Unit E) (now later given whole : List Written) → whole ≡ given → IfOk r (λ _. later ≡ now ++ given) → IfOk r (λ _. later ≡ now ++ whole)
+spelled_as r now later given whole is h = IfOk-equal r later _ _ h (sym (ap (λ l. now ++ l) is))
+
+pub spelled_behind : {E : Type 0} (r : Result Unit E) (now later f g whole : List Written) → whole ≡ f ++ g → IfOk r (λ _. later ≡ now ++ f ++ g) → IfOk r (λ _. later ≡ now ++ whole)
+spelled_behind r now later f g whole is h = IfOk-equal r later _ _ h (append_assoc now f g ∙ sym (ap (λ l. now ++ l) is))
+
+-- a mark and two parts in a list
+pub two_listed : {E : Type 0} (r : Result Unit E) (m o k c : Written) (now one later f g whole : List Written) → one ≡ now ++ m ∷ o ∷ f →
+    IfOk r (λ _. later ≡ one ++ k ∷ (g ++ c ∷ [])) → whole ≡ m ∷ o ∷ ((f ++ k ∷ g) ++ c ∷ []) → IfOk r (λ _. later ≡ now ++ whole)
+two_listed r m o k c now one later f g whole e h is =
+    IfOk-equal r later _ _ h (ap (λ l. l ++ k ∷ (g ++ c ∷ [])) e ∙ append_assoc now (m ∷ o ∷ f) (k ∷ (g ++ c ∷ []))
+    ∙ sym (ap (λ l. now ++ m ∷ o ∷ l) (append_assoc f (k ∷ g) (c ∷ []))) ∙ sym (ap (λ l. now ++ l) is))
+
+-- a range up to its colon, and the body behind it
+pub range_behind : {E : Type 0} (r : Result Unit E) (v i c : Written) (now one later q k f whole : List Written) → one ≡ now ++ (q ++ v ∷ i ∷ (k ++ c ∷ [])) →
+    IfOk r (λ _. later ≡ one ++ f) → whole ≡ q ++ v ∷ i ∷ (k ++ c ∷ f) → IfOk r (λ _. later ≡ now ++ whole)
+range_behind r v i c now one later q k f whole e h is =
+    IfOk-equal r later _ _ h (ap (λ l. l ++ f) e ∙ append_assoc now (q ++ v ∷ i ∷ (k ++ c ∷ [])) f
+    ∙ ap (λ l. now ++ l) (append_assoc q (v ∷ i ∷ (k ++ c ∷ [])) f ∙ ap (λ l. q ++ v ∷ i ∷ l) (append_assoc k (c ∷ []) f)) ∙ sym (ap (λ l. now ++ l) is))

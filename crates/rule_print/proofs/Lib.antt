@@ -9,3 +9,4 @@ pub mod FormulasRead
 pub mod ReadBack
 pub mod Framed
 pub mod Loops
+pub mod Views

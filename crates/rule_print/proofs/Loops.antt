@@ -1,22 +1,24 @@
 -- One member more: what was spelled, and what is left to spell, is the whole.
-use Rattle.std.proofs.Common.{◌≡◌, ◌<◌, ◌+◌, ◌++◌, ◌∷◌, [], ℕ, List, Bool, true, false, map, drop, length, get_or, append_assoc, sym, ap, ◌∙◌, refl, arith}
+use Rattle.std.proofs.Common.{◌≡◌, ◌<◌, ◌≤◌, ◌+◌, ◌++◌, ◌∷◌, [], ℕ, List, Bool, true, false, map, drop, length, get_or, append_assoc, sym, ap, ◌∙◌, refl, arith}
 use Rattle.std.specs.Prelude.{if◌then◌else◌, not}
 use Rattle.std.proofs.lemmas.Grind.{common_steps}
 use Rattle.std.proofs.lemmas.List.{append-nil, drop_more}
+use Rattle.std.proofs.Math.ListN.{drop_of_length-le}
 use Rattle.geo_tokens.specs.declared.token.Keyword.{Keyword}
 use Rattle.geo_tokens.specs.declared.token.Sym.TheVariants as syms
 use Rattle.rule_syntax.specs.declared.tree.Argument.{Argument}
 use Rattle.rule_syntax.specs.declared.tree.Expr.{the_lemmas}
 use Rattle.rule_syntax.specs.declared.tree.Formula.{Formula}
+use Rattle.rule_syntax.specs.declared.tree.PlacedName.{PlacedName}
 use Rattle.rule_syntax.specs.declared.tree.ProdStep.{ProdStep}
 use Rattle.rule_syntax.specs.declared.tree.SumStep.{SumStep}
 use Rattle.rule_syntax.specs.Tree.{sums, products, arguments, formulas}
 use Rattle.rule_syntax.specs.View.{expr_view, sum_view, product_view, argument_view, formula_view}
-use Rattle.rule_print.specs.Canonical.{Written, symbol, word}
+use Rattle.rule_print.specs.Canonical.{Written, name, symbol, word}
 use Rattle.rule_print.specs.declared.rank.ExprRank.TheVariants as ranks
 use Rattle.rule_print.specs.declared.rank.FormulaRank.{FormulaRank}
-use Rattle.rule_print.specs.Spelled.{expr_spelling, formula_spelling, mark_before, more_operands_spelling, operands_spelling, sum_spelling, sum_step_spelling, product_spelling, product_step_spelling, argument_spelling, arguments_spelling, more_arguments_spelling}
-use Rattle.rule_print.proofs.Printing.{left_arguments, left_operands}
+use Rattle.rule_print.specs.Spelled.{expr_spelling, formula_spelling, mark_before, more_operands_spelling, operands_spelling, sum_spelling, sum_step_spelling, product_spelling, product_step_spelling, argument_spelling, arguments_spelling, more_arguments_spelling, names_spelling, more_names_spelling}
+use Rattle.rule_print.proofs.Printing.{left_arguments, left_names, left_operands}
 
 -- behind what was spelled, the next member, and the rest
 joined : {X : Type 0} (spell : List X → List Written) (one : X → List Written) → ((x : X) (xs : List X) → spell (x ∷ xs) ≡ one x ++ spell xs) →
@@ -76,3 +78,26 @@ operands-step mark r false fs i f now marked later whole h e m is k =
     ∙ append_assoc now (word mark ∷ own) rest
     ∙ sym (ap (λ xs. now ++ more_operands_spelling mark r (formulas (map formula_view xs))) (next fs i f h e))
     ∙ k
+
+pub names-step : (b : Bool) (xs : List PlacedName) (i : ℕ) (x : PlacedName) (now marked later whole : List Written) → i < length xs → x ≡ get_or xs i x →
+    marked ≡ now ++ (if not b then symbol syms.Comma ∷ [] else []) → later ≡ marked ++ name x.name ∷ [] →
+    now ++ left_names b (drop i xs) ≡ whole → later ++ left_names false (drop (i + 1) xs) ≡ whole
+names-step true xs i x now marked later whole h e m is k =
+    let rest = more_names_spelling (drop (i + 1) xs) in
+    ap (λ l. l ++ rest) (is ∙ ap (λ l. l ++ name x.name ∷ []) (m ∙ append-nil now))
+    ∙ append_assoc now (name x.name ∷ []) rest
+    ∙ sym (ap (λ ys. now ++ names_spelling ys) (next xs i x h e))
+    ∙ k
+names-step false xs i x now marked later whole h e m is k =
+    let rest = more_names_spelling (drop (i + 1) xs) in
+    ap (λ l. l ++ rest) (is ∙ ap (λ l. l ++ name x.name ∷ []) m ∙ append_assoc now (symbol syms.Comma ∷ []) (name x.name ∷ []))
+    ∙ append_assoc now (symbol syms.Comma ∷ name x.name ∷ []) rest
+    ∙ sym (ap (λ ys. now ++ more_names_spelling ys) (next xs i x h e))
+    ∙ k
+
+none-left : (b : Bool) → left_names b [] ≡ []
+none-left true = refl
+none-left false = refl
+
+pub names-end : (b : Bool) (xs : List PlacedName) (i : ℕ) (now whole : List Written) → length xs ≤ i → now ++ left_names b (drop i xs) ≡ whole → now ≡ whole
+names-end b xs i now whole h k = sym (append-nil now) ∙ sym (ap (λ l. now ++ l) (ap (left_names b) (drop_of_length-le xs h) ∙ none-left b)) ∙ k

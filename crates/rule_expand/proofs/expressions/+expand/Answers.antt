@@ -1,18 +1,26 @@
-use Rattle.std.proofs.Common.{◌∙◌, ℕ, List, ap, sym, map, length, subst, arith}
-use Rattle.std.specs.Prelude.{Option}
+use Rattle.std.proofs.Common.{◌≡◌, ◌∙◌, ℕ, List, ap, sym, map, length, subst, arith}
+use Rattle.std.specs.Prelude.{Option, Result, Err}
 use Rattle.std.proofs.lemmas.Result.{err_from_is_err_and}
 use Rattle.rule_syntax.specs.Tree as tree
 use Rattle.rule_syntax.specs.View.{expr_view, argument_view}
+use Rattle.rule_syntax.specs.Tree.{ExprTree, SumTree, ProductTree}
+use Rattle.problem_data.specs.Problem.{ProblemData}
 use Rattle.rule_expand.specs.Plain.{PlainExprTree}
-use Rattle.rule_expand.specs.Expansion.{arguments_meant, expansions_of}
-use Rattle.rule_expand.specs.Costs.{cost, costs, costs_of}
+use Rattle.rule_expand.specs.Expansion.{Subst, Expansions, arguments_meant, expr_expanded, expansions_of}
+use Rattle.rule_expand.specs.Costs.{cost, sum_cost, product_cost, costs, costs_of}
 use Rattle.rule_expand.specs.Limits.{GivesExpr}
 use Rattle.rule_expand.specs.ScopeView.{scope_view, prices}
 use Rattle.rule_expand.specs.Handed.{IsHandedIndex}
+use Rattle.rule_expand.specs.declared.plain.PlainExpr.{PlainExpr}
+use Rattle.rule_expand.specs.declared.limits.ExpandFault.{ExpandFault}
 use Rattle.rule_expand.proofs.Scopes.{prices-parameters}
 use Rattle.rule_expand.proofs.HandedOn.{argument-costs, call-handed}
-use Rattle.rule_expand.proofs.Steps.{sums-step, sums-fault, sums-end, sums-cost-at, products-step, products-fault, products-end, products-cost-at}
+use Rattle.rule_expand.proofs.Steps.{sums-step, sums-fault, sums-end, sums-cost-at, products-step, products-fault, products-end, products-cost-at, plus-made, plus-fault, minus-made, minus-fault, times-made, times-fault}
+use Rattle.rule_expand.proofs.Views.{num-seen, field-seen, param-seen, shape-seen, negative-seen, sum-seen, product-seen, least-seen, greatest-seen, call-seen, plus-seen, minus-seen, times-seen}
 use Rattle.rule_expand.proofs.expressions.+expand.Goals as goal
+
+given-as : (x : Expansions) (p : ProblemData) (sub : Subst) {u v : ExprTree} (room deep left : ℕ) (r : Result PlainExpr ExpandFault) → v ≡ u → GivesExpr (expr_expanded x p u sub) room deep left r → GivesExpr (expr_expanded x p v sub) room deep left r
+given-as x p sub room deep l r e h = subst (λ v. GivesExpr (expr_expanded x p v sub) room deep l r) (sym e) h
 
 pub expand_call-expand_expr-requires-in-None-handed_index : goal.expand_call-expand_expr-requires-in-None-handed_index
 expand_call-expand_expr-requires-in-None-handed_index t c =
@@ -79,3 +87,120 @@ expand_product_steps-returns t c =
 pub expand_product_steps-loop-step-preserved : goal.expand_product_steps-loop-step-preserved
 expand_product_steps-loop-step-preserved t c =
     products-step (expansions_of c.args.source.now.problem.now c.args.in_sight) c.args.source.now.problem.now (scope_view c.args.source.now.problem.now c.args.scope.now) c.args.steps.now c.loop-step.step-index c.args.room.now c.args.deep c.loop-step.room c.expand_product_step.new.room c.loop-step.made.items c.add_product.new.steps.items c.step-item.result c.in_ok-one.one c.loop-step.invariant c.loop-step-test.true c.step-item.is c.in_ok-one.ensures c.in_ok-add_product.ensures
+
+pub expand_expr-returns-in-Num : goal.expand_expr-returns-in-Num
+expand_expr-returns-in-Num t c =
+    given-as (expansions_of c.args.source.now.problem.now c.args.in_sight) c.args.source.now.problem.now (scope_view c.args.source.now.problem.now c.args.scope.now) c.args.room.now c.args.deep _ _ (num-seen c.in-Num.field-0 c.in-Num.n c.in-Num.is) c.number.ensures
+
+pub expand_expr-returns-in-Field : goal.expand_expr-returns-in-Field
+expand_expr-returns-in-Field t c =
+    given-as (expansions_of c.args.source.now.problem.now c.args.in_sight) c.args.source.now.problem.now (scope_view c.args.source.now.problem.now c.args.scope.now) c.args.room.now c.args.deep _ _ (field-seen c.in-Field.of c.in-Field.field-1 c.in-Field.name c.in-Field.is) c.expand_field.ensures
+
+pub expand_expr-expand_param-requires : goal.expand_expr-expand_param-requires
+expand_expr-expand_param-requires t c =
+    let h = ap (λ (v : ExprTree). cost (costs_of c.args.source.now.problem.now c.args.in_sight) c.args.source.now.problem.now v (prices c.args.source.now.problem.now c.args.scope.now)) (param-seen c.in-Param.a c.in-Param.is) in
+    (omega (arith, h), c.requires)
+
+pub expand_expr-returns-in-Param : goal.expand_expr-returns-in-Param
+expand_expr-returns-in-Param t c =
+    given-as (expansions_of c.args.source.now.problem.now c.args.in_sight) c.args.source.now.problem.now (scope_view c.args.source.now.problem.now c.args.scope.now) c.args.room.now c.args.deep _ _ (param-seen c.in-Param.a c.in-Param.is) c.expand_param.ensures
+
+pub expand_expr-returns-in-ShapeNum : goal.expand_expr-returns-in-ShapeNum
+expand_expr-returns-in-ShapeNum t c =
+    given-as (expansions_of c.args.source.now.problem.now c.args.in_sight) c.args.source.now.problem.now (scope_view c.args.source.now.problem.now c.args.scope.now) c.args.room.now c.args.deep _ _ (shape-seen c.in-ShapeNum.field-0 c.in-ShapeNum.a c.in-ShapeNum.is) c.expand_shape.ensures
+
+pub expand_expr-expand_negative-requires : goal.expand_expr-expand_negative-requires
+expand_expr-expand_negative-requires t c =
+    let h = ap (λ (v : ExprTree). cost (costs_of c.args.source.now.problem.now c.args.in_sight) c.args.source.now.problem.now v (prices c.args.source.now.problem.now c.args.scope.now)) (negative-seen c.in-Neg.field-0 c.in-Neg.e c.in-Neg.is c.deref.ensures) in
+    (omega (arith, h), c.requires)
+
+pub expand_expr-returns-in-Neg : goal.expand_expr-returns-in-Neg
+expand_expr-returns-in-Neg t c =
+    given-as (expansions_of c.args.source.now.problem.now c.args.in_sight) c.args.source.now.problem.now (scope_view c.args.source.now.problem.now c.args.scope.now) c.args.room.now c.args.deep _ _ (negative-seen c.in-Neg.field-0 c.in-Neg.e c.in-Neg.is c.deref.ensures) c.expand_negative.ensures
+
+pub expand_expr-expand_sum-requires : goal.expand_expr-expand_sum-requires
+expand_expr-expand_sum-requires t c =
+    let h = ap (λ (v : ExprTree). cost (costs_of c.args.source.now.problem.now c.args.in_sight) c.args.source.now.problem.now v (prices c.args.source.now.problem.now c.args.scope.now)) (sum-seen c.in-Sum.field-0 c.in-Sum.first c.in-Sum.steps c.in-Sum.is c.deref-in-Sum.ensures c.deref-in-Sum-2.ensures.value) in
+    (omega (arith, h), c.requires)
+
+pub expand_expr-returns-in-Sum : goal.expand_expr-returns-in-Sum
+expand_expr-returns-in-Sum t c =
+    given-as (expansions_of c.args.source.now.problem.now c.args.in_sight) c.args.source.now.problem.now (scope_view c.args.source.now.problem.now c.args.scope.now) c.args.room.now c.args.deep _ _ (sum-seen c.in-Sum.field-0 c.in-Sum.first c.in-Sum.steps c.in-Sum.is c.deref-in-Sum.ensures c.deref-in-Sum-2.ensures.value) c.expand_sum.ensures
+
+pub expand_expr-expand_product-requires : goal.expand_expr-expand_product-requires
+expand_expr-expand_product-requires t c =
+    let h = ap (λ (v : ExprTree). cost (costs_of c.args.source.now.problem.now c.args.in_sight) c.args.source.now.problem.now v (prices c.args.source.now.problem.now c.args.scope.now)) (product-seen c.in-Prod.field-0 c.in-Prod.first c.in-Prod.steps c.in-Prod.is c.deref-in-Prod.ensures c.deref-in-Prod-2.ensures.value) in
+    (omega (arith, h), c.requires)
+
+pub expand_expr-returns-in-Prod : goal.expand_expr-returns-in-Prod
+expand_expr-returns-in-Prod t c =
+    given-as (expansions_of c.args.source.now.problem.now c.args.in_sight) c.args.source.now.problem.now (scope_view c.args.source.now.problem.now c.args.scope.now) c.args.room.now c.args.deep _ _ (product-seen c.in-Prod.field-0 c.in-Prod.first c.in-Prod.steps c.in-Prod.is c.deref-in-Prod.ensures c.deref-in-Prod-2.ensures.value) c.expand_product.ensures
+
+pub expand_expr-expand_least-requires : goal.expand_expr-expand_least-requires
+expand_expr-expand_least-requires t c =
+    let h = ap (λ (v : ExprTree). cost (costs_of c.args.source.now.problem.now c.args.in_sight) c.args.source.now.problem.now v (prices c.args.source.now.problem.now c.args.scope.now)) (least-seen c.in-Min.field-0 c.in-Min.a c.in-Min.b c.in-Min.is c.deref-in-Min.ensures c.deref-in-Min-2.ensures) in
+    (omega (arith, h), c.requires)
+
+pub expand_expr-returns-in-Min : goal.expand_expr-returns-in-Min
+expand_expr-returns-in-Min t c =
+    given-as (expansions_of c.args.source.now.problem.now c.args.in_sight) c.args.source.now.problem.now (scope_view c.args.source.now.problem.now c.args.scope.now) c.args.room.now c.args.deep _ _ (least-seen c.in-Min.field-0 c.in-Min.a c.in-Min.b c.in-Min.is c.deref-in-Min.ensures c.deref-in-Min-2.ensures) c.expand_least.ensures
+
+pub expand_expr-expand_greatest-requires : goal.expand_expr-expand_greatest-requires
+expand_expr-expand_greatest-requires t c =
+    let h = ap (λ (v : ExprTree). cost (costs_of c.args.source.now.problem.now c.args.in_sight) c.args.source.now.problem.now v (prices c.args.source.now.problem.now c.args.scope.now)) (greatest-seen c.in-Max.field-0 c.in-Max.a c.in-Max.b c.in-Max.is c.deref-in-Max.ensures c.deref-in-Max-2.ensures) in
+    (omega (arith, h), c.requires)
+
+pub expand_expr-returns-in-Max : goal.expand_expr-returns-in-Max
+expand_expr-returns-in-Max t c =
+    given-as (expansions_of c.args.source.now.problem.now c.args.in_sight) c.args.source.now.problem.now (scope_view c.args.source.now.problem.now c.args.scope.now) c.args.room.now c.args.deep _ _ (greatest-seen c.in-Max.field-0 c.in-Max.a c.in-Max.b c.in-Max.is c.deref-in-Max.ensures c.deref-in-Max-2.ensures) c.expand_greatest.ensures
+
+pub expand_expr-expand_call-requires : goal.expand_expr-expand_call-requires
+expand_expr-expand_call-requires t c =
+    let h = ap (λ (v : ExprTree). cost (costs_of c.args.source.now.problem.now c.args.in_sight) c.args.source.now.problem.now v (prices c.args.source.now.problem.now c.args.scope.now)) (call-seen c.in-CallValue.field-0 c.in-CallValue.m c.in-CallValue.args c.in-CallValue.is c.deref-in-CallValue.ensures.value) in
+    (omega (arith, h), c.requires)
+
+pub expand_expr-returns-in-CallValue : goal.expand_expr-returns-in-CallValue
+expand_expr-returns-in-CallValue t c =
+    given-as (expansions_of c.args.source.now.problem.now c.args.in_sight) c.args.source.now.problem.now (scope_view c.args.source.now.problem.now c.args.scope.now) c.args.room.now c.args.deep _ _ (call-seen c.in-CallValue.field-0 c.in-CallValue.m c.in-CallValue.args c.in-CallValue.is c.deref-in-CallValue.ensures.value) c.expand_call.ensures
+
+pub expand_sum_step-expand_expr-requires : goal.expand_sum_step-expand_expr-requires
+expand_sum_step-expand_expr-requires t c =
+    let h = ap (λ (v : SumTree). sum_cost (costs_of c.args.source.now.problem.now c.args.in_sight) c.args.source.now.problem.now v (prices c.args.source.now.problem.now c.args.scope.now)) (plus-seen c.in-Plus.e c.in-Plus.is) in
+    (omega (arith, h), c.requires)
+
+pub expand_sum_step-returns-in_err-expand_expr-in-Plus : goal.expand_sum_step-returns-in_err-expand_expr-in-Plus
+expand_sum_step-returns-in_err-expand_expr-in-Plus t c =
+    let r = err_from_is_err_and c.from_residual.result c.from_residual.ensures.1 in
+    plus-fault (expansions_of c.args.source.now.problem.now c.args.in_sight) c.args.source.now.problem.now (scope_view c.args.source.now.problem.now c.args.scope.now) c.in-Plus.e c.args.room.now c.args.deep _ c.from_residual.result _ c.in-Plus.is (r.1 ∙ ap (λ (f : ExpandFault). Err f) r.2) (c.in_err-expand_expr-in-Plus.ensures {u = tt})
+
+pub expand_sum_step-returns-in_ok-expand_expr-in-Plus : goal.expand_sum_step-returns-in_ok-expand_expr-in-Plus
+expand_sum_step-returns-in_ok-expand_expr-in-Plus t c =
+    plus-made (expansions_of c.args.source.now.problem.now c.args.in_sight) c.args.source.now.problem.now (scope_view c.args.source.now.problem.now c.args.scope.now) c.in-Plus.e c.args.room.now c.args.deep _ c.in_ok-expand_expr-in-Plus.field-0 c.in-Plus.is (c.in_ok-expand_expr-in-Plus.ensures {u = tt})
+
+pub expand_sum_step-expand_expr-requires-in-Minus : goal.expand_sum_step-expand_expr-requires-in-Minus
+expand_sum_step-expand_expr-requires-in-Minus t c =
+    let h = ap (λ (v : SumTree). sum_cost (costs_of c.args.source.now.problem.now c.args.in_sight) c.args.source.now.problem.now v (prices c.args.source.now.problem.now c.args.scope.now)) (minus-seen c.in-Minus.e c.in-Minus.is) in
+    (omega (arith, h), c.requires)
+
+pub expand_sum_step-returns-in_err-expand_expr-in-Minus : goal.expand_sum_step-returns-in_err-expand_expr-in-Minus
+expand_sum_step-returns-in_err-expand_expr-in-Minus t c =
+    let r = err_from_is_err_and c.from_residual-in_err-expand_expr-in-Minus.result c.from_residual-in_err-expand_expr-in-Minus.ensures.1 in
+    minus-fault (expansions_of c.args.source.now.problem.now c.args.in_sight) c.args.source.now.problem.now (scope_view c.args.source.now.problem.now c.args.scope.now) c.in-Minus.e c.args.room.now c.args.deep _ c.from_residual-in_err-expand_expr-in-Minus.result _ c.in-Minus.is (r.1 ∙ ap (λ (f : ExpandFault). Err f) r.2) (c.in_err-expand_expr-in-Minus.ensures {u = tt})
+
+pub expand_sum_step-returns-in_ok-expand_expr-in-Minus : goal.expand_sum_step-returns-in_ok-expand_expr-in-Minus
+expand_sum_step-returns-in_ok-expand_expr-in-Minus t c =
+    minus-made (expansions_of c.args.source.now.problem.now c.args.in_sight) c.args.source.now.problem.now (scope_view c.args.source.now.problem.now c.args.scope.now) c.in-Minus.e c.args.room.now c.args.deep _ c.in_ok-expand_expr-in-Minus.field-0 c.in-Minus.is (c.in_ok-expand_expr-in-Minus.ensures {u = tt})
+
+pub expand_product_step-expand_expr-requires : goal.expand_product_step-expand_expr-requires
+expand_product_step-expand_expr-requires t c =
+    let h = ap (λ (v : ProductTree). product_cost (costs_of c.args.source.now.problem.now c.args.in_sight) c.args.source.now.problem.now v (prices c.args.source.now.problem.now c.args.scope.now)) (times-seen c.in-Times.e c.in-Times.is) in
+    (omega (arith, h), c.requires)
+
+pub expand_product_step-returns-in_err-expand_expr-in-Times : goal.expand_product_step-returns-in_err-expand_expr-in-Times
+expand_product_step-returns-in_err-expand_expr-in-Times t c =
+    let r = err_from_is_err_and c.from_residual.result c.from_residual.ensures.1 in
+    times-fault (expansions_of c.args.source.now.problem.now c.args.in_sight) c.args.source.now.problem.now (scope_view c.args.source.now.problem.now c.args.scope.now) c.in-Times.e c.args.room.now c.args.deep _ c.from_residual.result _ c.in-Times.is (r.1 ∙ ap (λ (f : ExpandFault). Err f) r.2) (c.in_err-expand_expr-in-Times.ensures {u = tt})
+
+pub expand_product_step-returns-in_ok-expand_expr-in-Times : goal.expand_product_step-returns-in_ok-expand_expr-in-Times
+expand_product_step-returns-in_ok-expand_expr-in-Times t c =
+    times-made (expansions_of c.args.source.now.problem.now c.args.in_sight) c.args.source.now.problem.now (scope_view c.args.source.now.problem.now c.args.scope.now) c.in-Times.e c.args.room.now c.args.deep _ c.in_ok-expand_expr-in-Times.field-0 c.in-Times.is (c.in_ok-expand_expr-in-Times.ensures {u = tt})

@@ -1,9 +1,8 @@
-use Rattle.std.proofs.Common.{arith}
-use Rattle.std.proofs.lemmas.Grind.{common_steps}
-use Rattle.rule_syntax.specs.declared.tree.Expr.{the_lemmas}
-use Rattle.rule_syntax.specs.View.{expr_view}
-use Rattle.rule_print.specs.Spelled.{expr_spelling}
-use Rattle.rule_print.proofs.Framed.{more_framed}
+use Rattle.std.proofs.Common.{◌∷◌, [], ◌∙◌, sym, ap}
+use Rattle.rule_print.specs.Canonical.{Written}
+use Rattle.rule_print.specs.Spelled.{expr_spelling, sum_step_spelling, product_step_spelling}
+use Rattle.rule_print.proofs.Views.{num-seen, field-seen, param-seen, negative-seen, sum-seen, product-seen, least-seen, greatest-seen, call-seen, plus-seen, minus-seen, times-seen}
+use Rattle.rule_print.proofs.Framed.{more_framed, spelled_as, two_listed}
 use Rattle.rule_print.proofs.Loops.{arguments-step, products-step, sums-step}
 use Rattle.rule_print.proofs.expression.+spell.Goals as goal
 
@@ -19,8 +18,48 @@ spell_arguments-arguments-preserved t c =
 
 pub spell_expression-returns-in_ok-spell_sum_steps-in-Sum : goal.spell_expression-returns-in_ok-spell_sum_steps-in-Sum
 spell_expression-returns-in_ok-spell_sum_steps-in-Sum t c =
-    more_framed c.close.result _ _ _ _ _ _ _ _ _ (expr_spelling c.args.rank (expr_view c.args.e.now)) (c.in_ok-spell_opened-in-Sum.ensures {u = tt}) (c.in_ok-spell_sum_steps-in-Sum.ensures {u = tt}) c.close.ensures (grind (arith, common_steps, the_lemmas))
+    more_framed c.close.result _ _ _ _ _ _ _ _ _ _ (c.in_ok-spell_opened-in-Sum.ensures {u = tt}) (c.in_ok-spell_sum_steps-in-Sum.ensures {u = tt}) c.close.ensures (ap (expr_spelling c.args.rank) (sum-seen c.in-Sum.field-0 c.in-Sum.first c.in-Sum.steps c.in-Sum.is c.deref-in-Sum.ensures c.as_slice.ensures.value))
 
 pub spell_expression-returns-in_ok-spell_product_steps-in-Prod : goal.spell_expression-returns-in_ok-spell_product_steps-in-Prod
 spell_expression-returns-in_ok-spell_product_steps-in-Prod t c =
-    more_framed c.close-in-Prod.result _ _ _ _ _ _ _ _ _ (expr_spelling c.args.rank (expr_view c.args.e.now)) (c.in_ok-spell_opened-in-Prod.ensures {u = tt}) (c.in_ok-spell_product_steps-in-Prod.ensures {u = tt}) c.close-in-Prod.ensures (grind (arith, common_steps, the_lemmas))
+    more_framed c.close-in-Prod.result _ _ _ _ _ _ _ _ _ _ (c.in_ok-spell_opened-in-Prod.ensures {u = tt}) (c.in_ok-spell_product_steps-in-Prod.ensures {u = tt}) c.close-in-Prod.ensures (ap (expr_spelling c.args.rank) (product-seen c.in-Prod.field-0 c.in-Prod.first c.in-Prod.steps c.in-Prod.is c.deref-in-Prod.ensures c.as_slice-in-Prod.ensures.value))
+
+pub spell_expression-returns-in-Num : goal.spell_expression-returns-in-Num
+spell_expression-returns-in-Num t c =
+    spelled_as c.push.result _ _ _ _ (ap (expr_spelling c.args.rank) (num-seen c.in-Num.field-0 c.in-Num.n c.in-Num.is) ∙ ap (λ (w : Written). w ∷ []) (sym c.number_lexeme.ensures)) c.push.ensures
+
+pub spell_expression-returns-in-Field : goal.spell_expression-returns-in-Field
+spell_expression-returns-in-Field t c =
+    spelled_as c.spell_field.result _ _ _ _ (ap (expr_spelling c.args.rank) (field-seen c.in-Field.object _ c.in-Field.field c.in-Field.is)) c.spell_field.ensures
+
+pub spell_expression-returns-in-Param : goal.spell_expression-returns-in-Param
+spell_expression-returns-in-Param t c =
+    spelled_as c.push_name.result _ _ _ _ (ap (expr_spelling c.args.rank) (param-seen c.in-Param.name c.in-Param.is)) c.push_name.ensures
+
+pub spell_expression-returns-in-Neg : goal.spell_expression-returns-in-Neg
+spell_expression-returns-in-Neg t c =
+    spelled_as c.spell_behind.result _ _ _ _ (ap (expr_spelling c.args.rank) (negative-seen c.in-Neg.field-0 c.in-Neg.inner c.in-Neg.is c.deref.ensures)) c.spell_behind.ensures
+
+pub spell_expression-returns-in_ok-spell_first-in-Min : goal.spell_expression-returns-in_ok-spell_first-in-Min
+spell_expression-returns-in_ok-spell_first-in-Min t c =
+    two_listed c.spell_second.result _ _ _ _ _ _ _ _ _ _ (c.in_ok-spell_first-in-Min.ensures {u = tt}) c.spell_second.ensures (ap (expr_spelling c.args.rank) (least-seen c.in-Min.field-0 c.in-Min.first c.in-Min.second c.in-Min.is c.deref-in-Min.ensures c.deref-in-Min-2.ensures))
+
+pub spell_expression-returns-in_ok-spell_first-in-Max : goal.spell_expression-returns-in_ok-spell_first-in-Max
+spell_expression-returns-in_ok-spell_first-in-Max t c =
+    two_listed c.spell_second-in-Max.result _ _ _ _ _ _ _ _ _ _ (c.in_ok-spell_first-in-Max.ensures {u = tt}) c.spell_second-in-Max.ensures (ap (expr_spelling c.args.rank) (greatest-seen c.in-Max.field-0 c.in-Max.first c.in-Max.second c.in-Max.is c.deref-in-Max.ensures c.deref-in-Max-2.ensures))
+
+pub spell_expression-returns-in-CallValue : goal.spell_expression-returns-in-CallValue
+spell_expression-returns-in-CallValue t c =
+    spelled_as c.spell_call.result _ _ _ _ (ap (expr_spelling c.args.rank) (call-seen c.in-CallValue.field-0 c.in-CallValue.name c.in-CallValue.arguments c.in-CallValue.is c.as_slice-in-CallValue.ensures.value)) c.spell_call.ensures
+
+pub spell_product_step-returns-in-Times : goal.spell_product_step-returns-in-Times
+spell_product_step-returns-in-Times t c =
+    spelled_as c.spell_behind.result _ _ _ _ (ap product_step_spelling (times-seen c.in-Times.factor c.in-Times.is)) c.spell_behind.ensures
+
+pub spell_sum_step-returns-in-Plus : goal.spell_sum_step-returns-in-Plus
+spell_sum_step-returns-in-Plus t c =
+    spelled_as c.spell_behind.result _ _ _ _ (ap sum_step_spelling (plus-seen c.in-Plus.term c.in-Plus.is)) c.spell_behind.ensures
+
+pub spell_sum_step-returns-in-Minus : goal.spell_sum_step-returns-in-Minus
+spell_sum_step-returns-in-Minus t c =
+    spelled_as c.spell_behind-in-Minus.result _ _ _ _ (ap sum_step_spelling (minus-seen c.in-Minus.term c.in-Minus.is)) c.spell_behind-in-Minus.ensures
