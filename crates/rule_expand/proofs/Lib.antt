@@ -6,4 +6,3 @@ pub mod Steps
 pub mod Operands
 pub mod Degrees
 pub mod Wholes
-pub mod Views

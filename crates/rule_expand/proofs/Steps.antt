@@ -25,7 +25,7 @@ use Rattle.rule_expand.specs.declared.plain.PlainExpr.TheFolds.{fold-roll-PlainS
 use Rattle.rule_expand.specs.declared.plain.PlainSum.{PlainSum}
 use Rattle.rule_expand.specs.declared.plain.PlainSum.TheVariants as plain_sums
 use Rattle.rule_expand.specs.declared.plain.PlainProd.TheVariants as plain_products
-use Rattle.rule_expand.proofs.Views.{plus-seen, minus-seen, times-seen}
+use Rattle.rule_syntax.proofs.Views.{plus-seen, minus-seen, times-seen}
 use Rattle.rule_expand.specs.declared.plain.PlainProd.{PlainProd}
 
 abbrev pub total : {T : Type 0} → (T → ℕ) → List T → ℕ

@@ -9,4 +9,3 @@ pub mod FormulasRead
 pub mod ReadBack
 pub mod Framed
 pub mod Loops
-pub mod Views

@@ -16,7 +16,7 @@ use Rattle.rule_expand.specs.declared.limits.ExpandFault.{ExpandFault}
 use Rattle.rule_expand.proofs.Scopes.{prices-parameters}
 use Rattle.rule_expand.proofs.HandedOn.{argument-costs, call-handed}
 use Rattle.rule_expand.proofs.Steps.{sums-step, sums-fault, sums-end, sums-cost-at, products-step, products-fault, products-end, products-cost-at, plus-made, plus-fault, minus-made, minus-fault, times-made, times-fault}
-use Rattle.rule_expand.proofs.Views.{num-seen, field-seen, param-seen, shape-seen, negative-seen, sum-seen, product-seen, least-seen, greatest-seen, call-seen, plus-seen, minus-seen, times-seen}
+use Rattle.rule_syntax.proofs.Views.{num-seen, field-seen, param-seen, shape-seen, negative-seen, sum-seen, product-seen, least-seen, greatest-seen, call-seen, plus-seen, minus-seen, times-seen}
 use Rattle.rule_expand.proofs.expressions.+expand.Goals as goal
 
 given-as : (x : Expansions) (p : ProblemData) (sub : Subst) {u v : ExprTree} (room deep left : ℕ) (r : Result PlainExpr ExpandFault) → v ≡ u → GivesExpr (expr_expanded x p u sub) room deep left r → GivesExpr (expr_expanded x p v sub) room deep left r

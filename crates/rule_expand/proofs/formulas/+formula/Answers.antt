@@ -13,7 +13,7 @@ use Rattle.rule_expand.specs.declared.plain.PlainFormula.{PlainFormula}
 use Rattle.rule_expand.specs.declared.limits.ExpandFault.{ExpandFault}
 use Rattle.rule_expand.specs.ScopeView.{scope_view}
 use Rattle.rule_expand.proofs.Operands.{operands-fault, operands-step, operands-end, operand-cost, binders-nodes}
-use Rattle.rule_expand.proofs.Views.{negation-seen, all_of-seen, any_of-seen, implication-seen, equivalence-seen, comparison-seen, quantified-seen, formula_call-seen}
+use Rattle.rule_syntax.proofs.Views.{negation-seen, all_of-seen, any_of-seen, implication-seen, equivalence-seen, comparison-seen, quantified-seen, formula_call-seen}
 use Rattle.rule_expand.proofs.formulas.+formula.Goals as goal
 
 given-as : (x : Expansions) (p : ProblemData) (sub : Subst) {u v : FormulaTree} (next room deep next' left : ℕ) (r : Result PlainFormula ExpandFault) → v ≡ u →

@@ -5,7 +5,7 @@ use Rattle.problem_data.specs.ProblemView.{param_data}
 use Rattle.problem_data.specs.Value.{macro_position}
 use Rattle.rule_names.specs.Table.{found}
 use Rattle.rule_expand.specs.Expansion.{expansions_of, expr_expanded, give_all}
-use Rattle.rule_expand.proofs.Views.{param-seen, call-seen}
+use Rattle.rule_syntax.proofs.Views.{param-seen, call-seen}
 use Rattle.rule_expand.proofs.HandedOn.{call-case}
 use Rattle.rule_expand.proofs.handed.+handed.Goals as goal
 

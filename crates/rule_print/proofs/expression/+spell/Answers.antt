@@ -1,7 +1,7 @@
 use Rattle.std.proofs.Common.{◌∷◌, [], ◌∙◌, sym, ap}
 use Rattle.rule_print.specs.Canonical.{Written}
 use Rattle.rule_print.specs.Spelled.{expr_spelling, sum_step_spelling, product_step_spelling}
-use Rattle.rule_print.proofs.Views.{num-seen, field-seen, param-seen, negative-seen, sum-seen, product-seen, least-seen, greatest-seen, call-seen, plus-seen, minus-seen, times-seen}
+use Rattle.rule_syntax.proofs.Views.{num-seen, field-seen, param-seen, negative-seen, sum-seen, product-seen, least-seen, greatest-seen, call-seen, plus-seen, minus-seen, times-seen}
 use Rattle.rule_print.proofs.Framed.{more_framed, spelled_as, two_listed}
 use Rattle.rule_print.proofs.Loops.{arguments-step, products-step, sums-step}
 use Rattle.rule_print.proofs.expression.+spell.Goals as goal

@@ -1,6 +1,6 @@
 use Rattle.std.proofs.Common.{ap}
 use Rattle.rule_print.specs.Spelled.{formula_spelling}
-use Rattle.rule_print.proofs.Views.{truth-seen, falsehood-seen, negation-seen, all_of-seen, any_of-seen, implication-seen, equivalence-seen, comparison-seen, quantified-seen, formula_call-seen}
+use Rattle.rule_syntax.proofs.Views.{truth-seen, falsehood-seen, negation-seen, all_of-seen, any_of-seen, implication-seen, equivalence-seen, comparison-seen, quantified-seen, formula_call-seen}
 use Rattle.rule_print.proofs.Framed.{two_framed, spelled_as, spelled_behind, range_behind}
 use Rattle.rule_print.proofs.Loops.{operands-step}
 use Rattle.rule_print.proofs.formula.+spell_formula.Goals as goal

@@ -60,6 +60,12 @@ minus-seen a h = rw h (ap sum_view (sym (sum_steps.rolls-Minus a)) ∙ fold-roll
 pub times-seen : {e : ProdStep} (a : Expr) → e ≡ product_steps.Times a → product_view e ≡ tree.times (expr_view a)
 times-seen a h = rw h (ap product_view (sym (product_steps.rolls-Times a)) ∙ fold-roll-ProdStep ExprTree ProductTree SumTree ArgumentTree expr_step product_step sum_step argument_step (ProdStep-F.Times a))
 
+pub truth-seen : {f : Formula} (place : ℕ) → f ≡ formulas.True place → formula_view f ≡ tree.truth place
+truth-seen place h = rw h (ap formula_view (sym (formulas.rolls-True place)) ∙ fold-roll-Formula FormulaTree formula_step (Formula-F.True place))
+
+pub falsehood-seen : {f : Formula} (place : ℕ) → f ≡ formulas.False place → formula_view f ≡ tree.falsehood place
+falsehood-seen place h = rw h (ap formula_view (sym (formulas.rolls-False place)) ∙ fold-roll-Formula FormulaTree formula_step (Formula-F.False place))
+
 pub negation-seen : {f : Formula} {g : Formula} (place : ℕ) (a : Box Formula Global) → f ≡ formulas.Not place a → g ≡ a.value → formula_view f ≡ tree.negation place (formula_view g)
 negation-seen place a h i = rw (h, i) (ap formula_view (sym (formulas.rolls-Not place a)) ∙ fold-roll-Formula FormulaTree formula_step (Formula-F.Not place a))
 
