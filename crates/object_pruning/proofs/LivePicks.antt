@@ -22,13 +22,18 @@ use Rattle.derivation.specs.Covers.{CoverTree, NamesOnly, Leaf, Fork}
 use Rattle.derivation.specs.Cuts.{near, far}
 use Rattle.sweep.specs.Picks.{ArePicks, picked}
 use Rattle.sweep.specs.Sweep.{IsCovered}
-use Rattle.sweep.proofs.PickedConditions.{picked_all, picked_at, pick_in, some_with}
+use Rattle.sweep.proofs.PickedConditions.{picked_all, picked_at, pick_in}
 use Rattle.geo_base.specs.declared.kbox.KBox.{KBox}
 use Rattle.geo_base.specs.Boxes.{Has}
 use Rattle.indexical.specs.declared.forbidden.ForbiddenPart.{ForbiddenPart}
 use Rattle.indexical.specs.Forbidden.{Forbids}
 use Rattle.sweep.specs.Parts.{AreParts}
 use Rattle.object_pruning.specs.Gathered.{AreGathered, GoesOn, HoldEach, HoldParts, IsNumberSpared}
+
+-- what holds of the value, if there is one, and what it implies
+pub some_with : {A : Type 0} (r : Option A) (P Q : A → Type 0) → ((a : A) → P a → Q a) → IfSome r P → IfSome r Q
+some_with None P Q f h = h
+some_with (Some a) P Q f h = f a h
 
 -- a number that stands in a list at a place
 contained : (xs : List ℕ) (x i : ℕ) → i < length xs → slice_index xs i ≡ x → Contains xs x

@@ -1,10 +1,10 @@
 use Rattle.std.proofs.Common.{◌≡◌, ℕ, List, map, subst, ◌∙◌, ap, rules, Some}
 use Rattle.std.specs.Prelude.{slice_get}
-use Rattle.sweep.proofs.PickedConditions.{mapped_picks, some_with}
+use Rattle.sweep.proofs.PickedConditions.{mapped_picks}
 use Rattle.object_pruning.specs.declared.rows.Group.{Group}
 use Rattle.object_pruning.specs.Gathered.{GoesOn}
 use Rattle.object_pruning.specs.InRows.{HaveNumber, IsSomeGroup, row}
-use Rattle.object_pruning.proofs.LivePicks.{rows_some, gathered_rows}
+use Rattle.object_pruning.proofs.LivePicks.{rows_some, gathered_rows, some_with}
 use Rattle.geo_conditions.specs.Regions.{region_of}
 use Rattle.object_pruning.proofs.gathering.gather_by_rows.Goals as goal
 
