@@ -185,14 +185,6 @@ fn ask_others<const K: usize>(
     }
 }
 
-// Whether the object itself is marked, or the object u.
-fn is_either_marked(own: bool, marks: &[bool], u: usize) -> bool
-    requires { u < length marks.now }
-    ensures { result ≡ false → (own ≡ false) × (slice_index_or marks.now u false ≡ false) }
-{
-    own || marks[u]
-}
-
 // Whether that point is the one.
 fn is_known<const K: usize>(known: &Option<Placed<K>>, q: &Placed<K>) -> bool
     ensures { IsTrue result → known.now ≡ Some q.now }
@@ -241,6 +233,7 @@ fn ask_slot<const K: usize>(
 }
 
 // The same for all slots of the object.
+#[inline(never)]
 fn ask_slots<const K: usize>(
     list: &[AnyIndexical<K>],
     r: usize,
@@ -284,6 +277,7 @@ fn ask_group<const K: usize>(
 }
 
 // The same for each of the groups.
+#[inline(never)]
 fn ask_groups<const K: usize>(
     list: &[AnyIndexical<K>],
     groups: &[RowGroup],
@@ -304,6 +298,50 @@ fn ask_groups<const K: usize>(
     }
 }
 
+// The same for the groups of each object.
+fn ask_all<const K: usize>(
+    list: &[AnyIndexical<K>],
+    pairs: &Pairs,
+    o: ObjId,
+    s: &State<K>,
+    kept: &mut [Option<Placed<K>>],
+)
+    requires k { K ≤ MAX_DIMS }
+    requires fits { AllFit (map (λ x. x.cond) list.now) s.now }
+    requires object { o.0 < length s.now }
+    requires pairs { AreSomePairs (map (λ x. x.cond) list.now) o.0 (length s.now) pairs.now }
+    ensures { (marks : List Bool) → RetriesThose (map (λ x. x.cond) list.now) s.now o.0 marks
+        (HaveBeside pairs.now.beside.items) kept.old kept.new }
+{
+    for u in 0..pairs.beside.len() {
+        ask_groups(list, &pairs.beside[u], o, s, kept);
+    }
+}
+
+// The same for the groups of each marked object, where the object itself is not marked.
+fn ask_marked<const K: usize>(
+    list: &[AnyIndexical<K>],
+    pairs: &Pairs,
+    o: ObjId,
+    s: &State<K>,
+    marks: &[bool],
+    kept: &mut [Option<Placed<K>>],
+)
+    requires k { K ≤ MAX_DIMS }
+    requires fits { AllFit (map (λ x. x.cond) list.now) s.now }
+    requires object { (o.0 < length s.now) × (length marks.now ≡ length s.now) }
+    requires own { slice_index_or marks.now o.0 false ≡ false }
+    requires pairs { AreSomePairs (map (λ x. x.cond) list.now) o.0 (length s.now) pairs.now }
+    ensures { RetriesThose (map (λ x. x.cond) list.now) s.now o.0 marks.now
+        (HaveBeside pairs.now.beside.items) kept.old kept.new }
+{
+    for u in 0..pairs.beside.len() {
+        if marks[u] {
+            ask_groups(list, &pairs.beside[u], o, s, kept);
+        }
+    }
+}
+
 // The same for the groups of each marked object, or of each one where the object itself is marked.
 fn ask_pairs<const K: usize>(
     list: &[AnyIndexical<K>],
@@ -320,11 +358,10 @@ fn ask_pairs<const K: usize>(
     ensures { RetriesThose (map (λ x. x.cond) list.now) s.now o.0 marks.now
         (HaveBeside pairs.now.beside.items) kept.old kept.new }
 {
-    let own = marks[o.0 as usize];
-    for u in 0..pairs.beside.len() {
-        if is_either_marked(own, marks, u) {
-            ask_groups(list, &pairs.beside[u], o, s, kept);
-        }
+    if marks[o.0 as usize] {
+        ask_all(list, pairs, o, s, kept);
+    } else {
+        ask_marked(list, pairs, o, s, marks, kept);
     }
 }
 

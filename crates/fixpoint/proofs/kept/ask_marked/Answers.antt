@@ -1,4 +1,4 @@
-use Rattle.std.proofs.Common.{◌≡◌, ◌+◌, ◌<◌, ℕ, List, Option, length, map, ap, sym, ◌∙◌, subst, arith, rules, Some, Vec, Global}
+use Rattle.std.proofs.Common.{◌≡◌, ◌+◌, ◌<◌, ℕ, false, get_or, List, Option, length, map, ap, sym, ◌∙◌, subst, arith, rules, Some, Vec, Global}
 use Rattle.std.specs.Prelude.{slice_get}
 use Rattle.indexical.specs.declared.any.AnyIndexical.{AnyIndexical}
 use Rattle.object_pruning.specs.declared.kept.Placed.{Placed}
@@ -8,14 +8,11 @@ use Rattle.fixpoint.specs.Pairs.{HaveIn, IsGroupOf, NamesNoThird}
 use Rattle.fixpoint.specs.Kept.{RetriesThose}
 use Rattle.fixpoint.proofs.Linking.{row_get}
 use Rattle.fixpoint.proofs.Asked.{BesideBelow, those_none, those_unmarked, those_beside, those_lists}
-use Rattle.fixpoint.proofs.kept.ask_pairs.Goals as goal
-use Rattle.fixpoint.proofs.kept.ask_pairs.Goals.{then-is_either_marked, else-is_either_marked}
+use Rattle.fixpoint.proofs.kept.ask_marked.Goals as goal
+use Rattle.fixpoint.proofs.kept.ask_marked.Goals.{then-marks-u, else-marks-u}
 
 pub loop-u-init : goal.loop-u-init
 loop-u-init g c = those_none (map (λ (x : AnyIndexical g.row.K). x.cond) c.args.list.now) c.args.s.now c.args.o.0 c.args.marks.now (BesideBelow c.args.pairs.now.beside.items 0) c.args.kept.now (λ i p. absurd (omega (arith, p.1)))
-
-pub is_either_marked-requires : goal.is_either_marked-requires
-is_either_marked-requires g c = omega (arith, c.loop-u-test.true, c.len-u-end.ensures, c.requires.pairs.2.objects, c.requires.object.1)
 
 pub ask_groups-requires : goal.ask_groups-requires
 ask_groups-requires g c =
@@ -40,16 +37,16 @@ loop-u-preserved g c =
     let old = c.args.kept.now in
     let mid = c.loop-u.kept in
     let h : u < length lists = omega (arith, c.loop-u-test.true, c.len-u-end.ensures) in
-    elim c.if-is_either_marked.branch [
-      | then-is_either_marked w ↦
+    elim c.if-marks-u.branch [
+      | then-marks-u w ↦
           let new = w.ask_groups.new.kept in
           let same : w.deref.result.now ≡ row lists u = w.deref.ensures.value ∙ ap (λ (v : Vec RowGroup Global). v.items) w.index.ensures ∙ sym (row_get lists u w.index.result.now h) in
           subst (λ (slots : List (Option (Placed g.row.K))). RetriesThose cs S o marks (BesideBelow lists (u + 1)) old slots) (sym w.kept-is)
           (those_beside cs S o marks lists u old mid new c.loop-u.invariant (subst (λ (bs : List RowGroup). RetriesThose cs S o marks (HaveIn bs) mid new) same (w.ask_groups.ensures marks)))
-      | else-is_either_marked w ↦
-          let none = c.is_either_marked.ensures w.if-is_either_marked.false in
+      | else-marks-u w ↦
+          let none : get_or marks u false ≡ false = w.if-marks-u.false in
           subst (λ (slots : List (Option (Placed g.row.K))). RetriesThose cs S o marks (BesideBelow lists (u + 1)) old slots) (sym w.kept-is)
-          (those_beside cs S o marks lists u old mid mid c.loop-u.invariant (those_unmarked cs S o marks (row lists u) u mid (λ k b e. subst (λ (n : ℕ). NamesNoThird cs n o u b.group) (sym c.requires.object.1) (a.2.beside u b (k, e)).1) none.0 none.1))
+          (those_beside cs S o marks lists u old mid mid c.loop-u.invariant (those_unmarked cs S o marks (row lists u) u mid (λ k b e. subst (λ (n : ℕ). NamesNoThird cs n o u b.group) (sym c.requires.object.1) (a.2.beside u b (k, e)).1) c.requires.own none))
     ]
 
 pub returns : goal.returns
