@@ -1,4 +1,4 @@
-ghost use Rattle.std.specs.Prelude.{◌≡◌, ◌==◌, [], ◌∷◌, ◌++◌, length, OnOk, OnErr};
+ghost use Rattle.std.specs.Prelude.{◌≡◌, ◌==◌, [], ◌∷◌, ◌++◌, length, IfOk, OnOk, OnErr};
 
 use super::form::Form;
 use super::object::ObjId;
@@ -45,6 +45,15 @@ impl Conds {
         Conds {
             items: Vec::new(alloc),
         }
+    }
+
+    /// No condition, with room for that many. The answer is an error where memory is short.
+    pub fn with_capacity(alloc: Global, capacity: usize) -> Result<Conds, AllocError>
+        ensures { IfOk result (λ list. list.items.items ≡ []) }
+    {
+        Ok(Conds {
+            items: Vec::with_capacity(alloc, capacity)?,
+        })
     }
 
     /// Appends a condition. After an error the list is as before.

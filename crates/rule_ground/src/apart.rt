@@ -83,7 +83,8 @@ fn box_condition(
     ensures { IfOk result (λ c. cond_view c ≡ apart_condition problem.now
         first.object.0 first.place second.object.0 second.place a.now b.now) }
 {
-    let mut parts = Conds::new(alloc);
+    problem.is_said();
+    let mut parts = Conds::with_capacity(alloc, 2 + 2 * problem.dims())?;
     push_other_shape(problem, first, &mut parts)?;
     push_other_shape(problem, second, &mut parts)?;
     for d in 0..problem.dims() {
