@@ -21,6 +21,25 @@ use Rattle.condition_parts.specs.Parts.{IsAllOf}
 use Rattle.condition_parts.specs.Apart.{whole_or, wholes_of, IsApart, IsTakenApart}
 use Rattle.condition_parts.proofs.Under.{all_left, all_right}
 
+none_refutes : (k : ℕ) (S : State) → refutes [] k S ≡ true → ⊥
+none_refutes zero S h = absurd (false≢true h)
+none_refutes (suc k) S h = let w = refutes_within [] (suc k) S h in omega (arith, w)
+
+-- nothing is made of no conditions
+pub apart_nothing : IsApart [] [] [] [] []
+apart_nothing = record {
+  long = refl;
+  wide = refl;
+  back = refl;
+  many = refl;
+  listed = λ k h. absurd (omega (arith, h));
+  front = λ k S e. e;
+  behind = λ k S e. absurd (none_refutes k S e);
+  enough = λ S f r. f;
+  fit = λ S f. (f, f);
+  bare = λ k c e b. e;
+}
+
 -- ---- conditions of two lists, one behind the other
 
 get_split : (xs ys : List Cond) (k : ℕ) → ((k < length xs) × (slice_get (xs ++ ys) k ≡ slice_get xs k)) ⊎ ((length xs ≤ k) × (slice_get (xs ++ ys) k ≡ slice_get ys (k - length xs)))

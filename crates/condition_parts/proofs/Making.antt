@@ -6,7 +6,12 @@ use Rattle.geo_state.specs.Settle.{IsBare}
 use Rattle.indexical.specs.declared.any.AnyIndexical.{AnyIndexical}
 use Rattle.condition_parts.specs.Parts.{IsAllOf}
 use Rattle.condition_parts.specs.Apart.{IsApart}
-use Rattle.condition_parts.proofs.Apart.{apart_whole, apart_parts}
+use Rattle.condition_parts.proofs.Apart.{apart_nothing, apart_whole, apart_parts}
+
+-- nothing is made at the start
+pub nothing_made : {K : ℕ} (fronts rest : List (AnyIndexical K)) (ws : List (Option Cond)) (numbers : List ℕ) → fronts ≡ [] → rest ≡ [] → ws ≡ [] → numbers ≡ []
+    → IsApart [] (map (λ (y : AnyIndexical K). y.cond) fronts) (map (λ (y : AnyIndexical K). y.cond) rest) ws numbers
+nothing_made fronts rest ws numbers a b c d = rw (a, b, c, d) apart_nothing
 
 module _ {K : ℕ} (cs : List Cond) (fronts rest next : List (AnyIndexical K)) (ws vs : List (Option Cond)) (numbers : List ℕ) (x : AnyIndexical K) where
   -- one more that stands whole

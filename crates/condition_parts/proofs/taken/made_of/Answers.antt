@@ -1,11 +1,22 @@
-use Rattle.std.proofs.Common.{◌≡◌, List, [], ◌∷◌, map, sym, ◌∙◌, subst, rules}
+use Rattle.std.proofs.Common.{◌≡◌, List, [], ◌∷◌, length, map, sym, ap, ◌∙◌, subst, rules, arith}
 use Rattle.std.proofs.lemmas.List.{map-append, map-id}
 use Rattle.std.proofs.lemmas.Iterator.Consumers.{YieldsList-end}
 use Rattle.std.proofs.lemmas.Iterator.Adapters.{YieldsList-from_vec}
 use Rattle.indexical.specs.declared.any.AnyIndexical.{AnyIndexical}
 use Rattle.geo_conditions.specs.declared.cond.Cond.{Cond}
 use Rattle.condition_parts.specs.Made.{HasMade}
+use Rattle.condition_parts.proofs.Making.{nothing_made}
 use Rattle.condition_parts.proofs.taken.made_of.Goals as goal
+
+pub loop-x-init : goal.loop-x-init
+loop-x-init g c =
+    let fronts = c.in_ok-with_capacity.field-0.items in
+    let rest = c.new.result.items in
+    let wholes = c.in_ok-with_capacity-2.field-0.items in
+    record {
+      made = nothing_made fronts rest wholes c.new-2.result.items c.in_ok-with_capacity.ensures.items c.new.ensures.items c.in_ok-with_capacity-2.ensures.items c.new-2.ensures.items;
+      room = omega (arith, ap length c.new.ensures.items);
+    }
 
 pub loop-x-preserved : goal.loop-x-preserved
 loop-x-preserved g c =
