@@ -7,7 +7,7 @@
 ghost use Rattle.std.specs.Prelude.{◌≤◌, length};
 
 use crate::reach::{far, near};
-use crate::refuted_boxes::{RefutedBoxes, lies_within};
+use crate::refuted_boxes::{RefutedBoxes, lies_within, widest_within};
 use derivation::{Event, Log, Recorder, Side};
 use geo_base::{KBox, MAX_DIMS};
 use geo_conditions::{Cond, ObjId, State, fits, refuted_at};
@@ -16,10 +16,11 @@ use std::alloc::{AllocError, Global};
 /// How many conditions of a cover are tried on its parts.
 const MOST_TRIED: usize = 12;
 
-/// The object whose boxes are covered, and its place.
+/// The object whose boxes are covered, and its place, in events that are read.
 #[derive(Clone, Copy)]
 pub struct Swept<'a, const K: usize> {
     pub conditions: &'a [Cond],
+    pub events: &'a [Event],
     pub state: &'a State<K>,
     pub object: ObjId,
     pub place: u8,
@@ -77,9 +78,9 @@ impl<'a, const K: usize> Swept<'a, K> {
         }
     }
 
-    // A side as far from `side` towards `bad` as bisection finds one on which the condition is
-    // refuted. It is taken to be refuted on `side`, and not up to `bad`.
-    fn farthest(&self, tried: &Tried<K>, b: &KBox<K>, side: Side, bad: i64) -> Side
+    // A side as far from `side` towards `bad` as bisection finds one on which the condition of this
+    // number is refuted. It is taken to be refuted on `side`, and not up to `bad`.
+    fn farthest(&self, number: u32, b: &KBox<K>, side: Side, bad: i64) -> Side
         requires { K ≤ MAX_DIMS }
     {
         let mut good = side;
@@ -88,7 +89,7 @@ impl<'a, const K: usize> Swept<'a, K> {
             match between(good, bad) {
                 None => return good,
                 Some(middle) => {
-                    if self.is_refuted(tried, &near(b, middle)) {
+                    if self.ask(number, &near(b, middle)) {
                         good = middle;
                     } else {
                         bad = number_of(middle);
@@ -99,14 +100,25 @@ impl<'a, const K: usize> Swept<'a, K> {
         good
     }
 
+    // The same, up to the end of the box.
+    fn farthest_in(&self, number: u32, b: &KBox<K>, side: Side) -> Side
+        requires { K ≤ MAX_DIMS }
+    {
+        match side {
+            Side::Upto(d, _) if d < K => self.farthest(number, b, side, b.hi.get(d)),
+            Side::From(d, _) if d < K => self.farthest(number, b, side, b.lo.get(d)),
+            _ => side,
+        }
+    }
+
     // The farthest side at which the condition is still refuted on the first part.
     fn widest(&self, tried: &Tried<K>, b: &KBox<K>, side: Side) -> Side
         requires { K ≤ MAX_DIMS }
     {
-        match side {
-            Side::Upto(d, _) if d < K => self.farthest(tried, b, side, b.hi().get(d)),
-            Side::From(d, _) if d < K => self.farthest(tried, b, side, b.lo().get(d)),
-            _ => side,
+        match &tried.boxes {
+            RefutedBoxes::Never => side,
+            RefutedBoxes::Within(outer) => widest_within(outer, b, side),
+            RefutedBoxes::Asked => self.farthest_in(tried.number, b, side),
         }
     }
 }
@@ -152,6 +164,15 @@ fn first_leaf(cover: &[Event]) -> Option<Event> {
     None
 }
 
+// Writes the first leaf of the cover at the index, and gives the index behind the cover.
+fn write_leaf(cover: &[Event], from: usize, out: &mut Log) -> Result<usize, AllocError> {
+    let n = cover_len(cover);
+    if let Some(leaf) = first_leaf(&cover[..n]) {
+        out.add(leaf)?;
+    }
+    Ok(from.saturating_add(n))
+}
+
 /// How many of the events are the first cover.
 pub fn cover_len(events: &[Event]) -> usize
     ensures { result ≤ length events.now }
@@ -192,32 +213,49 @@ impl<const K: usize> Coverer<K> {
         }
     }
 
-    // The condition of this number among those that are tried.
-    fn find(&self, number: u32) -> Option<Tried<K>> {
+    // Whether the condition of this number is tried.
+    fn is_tried(&self, number: u32) -> bool {
         for tried in self.tried.as_slice() {
             if tried.number == number {
-                return Some(*tried);
+                return true;
             }
         }
-        None
+        false
     }
 
-    // Notes the first conditions that the cover names.
-    fn gather(&mut self, swept: &Swept<K>, cover: &[Event]) -> Result<(), AllocError>
+    // Notes a condition that the cover names, where there is room.
+    fn note(&mut self, swept: &Swept<K>, number: u32) -> Result<(), AllocError>
+        requires { K ≤ MAX_DIMS }
+    {
+        if self.tried.len() < MOST_TRIED && !self.is_tried(number) {
+            let boxes = swept.boxes_of(number);
+            self.tried.push(Tried { number, boxes })?;
+        }
+        Ok(())
+    }
+
+    // Notes the first conditions that the cover at the index names. It gives the index behind the
+    // cover.
+    fn gather(&mut self, swept: &Swept<K>, from: usize) -> Result<usize, AllocError>
         requires { K ≤ MAX_DIMS }
     {
         self.tried.clear();
-        for e in cover {
-            if let Event::By(i) = e {
-                if self.tried.len() < MOST_TRIED && self.find(*i).is_none() {
-                    self.tried.push(Tried {
-                        number: *i,
-                        boxes: swept.boxes_of(*i),
-                    })?;
+        let events = swept.events;
+        let mut wanted: usize = 1;
+        for at in from..events.len() {
+            match events[at] {
+                Event::By(i) => {
+                    self.note(swept, i)?;
+                    wanted = wanted.saturating_sub(1);
                 }
+                Event::Cut(_, _) | Event::CutFrom(_, _) => wanted = wanted.saturating_add(1),
+                _ => return Ok(at),
+            }
+            if wanted == 0 {
+                return Ok(at + 1);
             }
         }
-        Ok(())
+        Ok(events.len())
     }
 
     // One of these conditions that covers the whole box alone.
@@ -236,14 +274,12 @@ impl<const K: usize> Coverer<K> {
     fn widest_of(&self, swept: &Swept<K>, number: u32, b: &KBox<K>, side: Side) -> Side
         requires { K ≤ MAX_DIMS }
     {
-        let tried = match self.find(number) {
-            Some(tried) => tried,
-            None => Tried {
-                number,
-                boxes: RefutedBoxes::Asked,
-            },
-        };
-        swept.widest(&tried, b, side)
+        for tried in self.tried.as_slice() {
+            if tried.number == number {
+                return swept.widest(tried, b, side);
+            }
+        }
+        swept.farthest_in(number, b, side)
     }
 
     // A cut of a box that has points. It says how many of the events are done with.
@@ -297,46 +333,55 @@ impl<const K: usize> Coverer<K> {
         Ok(1)
     }
 
-    // Writes a simpler cover of a box that has points.
+    // Writes a simpler cover of a box that has points. It gives the index behind the old one.
     fn pieces(
         &mut self,
         swept: &Swept<K>,
-        cover: &[Event],
+        from: usize,
         b: &KBox<K>,
         out: &mut Log,
-    ) -> Result<(), AllocError>
+    ) -> Result<usize, AllocError>
         requires { K ≤ MAX_DIMS }
     {
-        self.gather(swept, cover)?;
+        let end = self.gather(swept, from)?;
         self.boxes.clear();
         self.boxes.push(*b)?;
-        let mut next: usize = 0;
-        for (at, e) in cover.iter().enumerate() {
-            if next <= at {
-                let done = self.piece(swept, events_from(cover, at), *e, out)?;
-                next = at.saturating_add(done);
+        let mut next = from;
+        for _ in from..end {
+            let cover = events_from(swept.events, next);
+            if next >= end || cover.is_empty() {
+                return Ok(end);
             }
+            let done = self.piece(swept, cover, cover[0], out)?;
+            next = next.saturating_add(done);
         }
-        Ok(())
+        Ok(end)
     }
 
-    /// Writes a simpler cover of the box in the place of this one. A leaf stays as it is, and where
-    /// the box has no points, the first leaf stands for all.
+    /// Writes a simpler cover of the box in the place of the one at the index. It gives the index
+    /// behind that one. A leaf stays as it is, and where the box has no points, the first leaf
+    /// stands for all.
     pub fn simplify(
         &mut self,
         swept: &Swept<K>,
-        cover: &[Event],
+        from: usize,
         b: &KBox<K>,
         out: &mut Log,
-    ) -> Result<(), AllocError>
+    ) -> Result<usize, AllocError>
         requires { K ≤ MAX_DIMS }
     {
-        if cover.len() > 1 && !b.is_empty() {
-            return self.pieces(swept, cover, b, out);
-        }
-        match first_leaf(cover) {
-            Some(leaf) => out.add(leaf),
-            None => Ok(()),
+        match swept.events.get(from) {
+            Some(Event::By(i)) => {
+                out.add(Event::By(*i))?;
+                Ok(from.saturating_add(1))
+            }
+            _ => {
+                if b.is_empty() {
+                    write_leaf(events_from(swept.events, from), from, out)
+                } else {
+                    self.pieces(swept, from, b, out)
+                }
+            }
         }
     }
 }

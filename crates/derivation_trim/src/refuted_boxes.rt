@@ -6,6 +6,8 @@
 
 ghost use Rattle.std.specs.Prelude.{◌≤◌};
 
+use crate::reach::near;
+use derivation::Side;
 use geo_base::{KBox, MAX_DIMS, Point};
 use geo_conditions::{Cond, Form, ObjId, State, Term};
 
@@ -176,4 +178,23 @@ pub fn lies_within<const K: usize>(b: &KBox<K>, outer: &KBox<K>) -> bool {
         }
     }
     true
+}
+
+/// The farthest side at which the part of `b` on it still lies within the other box, and is not the
+/// whole of `b`; the side itself, where the part on that does not.
+pub fn widest_within<const K: usize>(outer: &KBox<K>, b: &KBox<K>, side: Side) -> Side {
+    if !lies_within(&near(b, side), outer) {
+        return side;
+    }
+    match side {
+        Side::Upto(d, v) if d < K => {
+            let last = b.hi.get(d).saturating_sub(1);
+            Side::Upto(d, v.max(outer.hi.get(d).min(last)))
+        }
+        Side::From(d, v) if d < K => {
+            let first = b.lo.get(d).saturating_add(1);
+            Side::From(d, v.min(outer.lo.get(d).max(first)))
+        }
+        _ => side,
+    }
 }

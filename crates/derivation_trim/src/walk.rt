@@ -2,7 +2,7 @@
 
 ghost use Rattle.std.specs.Prelude.{◌≤◌};
 
-use crate::covers::{Coverer, Swept, cover_len, events_from};
+use crate::covers::{Coverer, Swept};
 use crate::reach::{Reach, far, reach_of, set_reach};
 use derivation::{Event, Half, Log, Recorder, Side};
 use geo_base::{KBox, MAX_DIMS};
@@ -81,16 +81,14 @@ impl<'a, const K: usize> Walk<'a, K> {
     ) -> Result<usize, AllocError>
         requires { K ≤ MAX_DIMS }
     {
-        let rest = events_from(self.events, from);
-        let n = cover_len(rest);
         let swept = Swept {
             conditions: self.conditions,
+            events: self.events,
             state: &self.state,
             object,
             place,
         };
-        self.coverer.simplify(&swept, &rest[..n], b, &mut self.out)?;
-        Ok(from.saturating_add(n))
+        self.coverer.simplify(&swept, from, b, &mut self.out)
     }
 
     // The list of covers of a box that begins at an index. It gives the index behind it.
@@ -99,14 +97,15 @@ impl<'a, const K: usize> Walk<'a, K> {
     {
         let events = self.events;
         let mut next = from;
-        for at in from..events.len() {
-            if next <= at {
-                let e = events[at];
-                self.out.add(e)?;
-                match e {
-                    Event::Cover(place) => next = self.cover(at + 1, o, place, b)?,
-                    _ => return Ok(at + 1),
-                }
+        for _ in from..events.len() {
+            let Some(e) = events.get(next) else {
+                return Ok(next);
+            };
+            self.out.add(*e)?;
+            next = next.saturating_add(1);
+            match e {
+                Event::Cover(place) => next = self.cover(next, o, *place, b)?,
+                _ => return Ok(next),
             }
         }
         Ok(next)
@@ -187,9 +186,10 @@ pub fn with_simpler_covers<const K: usize>(
         out: Log::new(alloc),
     };
     let mut next: usize = 0;
-    for (at, e) in events.iter().enumerate() {
-        if next <= at {
-            next = walk.node(*e, at + 1)?;
+    for _ in 0..events.len() {
+        match events.get(next) {
+            Some(e) => next = walk.node(*e, next.saturating_add(1))?,
+            None => break,
         }
     }
     Ok(walk.out)
