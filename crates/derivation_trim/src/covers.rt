@@ -7,7 +7,8 @@
 ghost use Rattle.std.specs.Prelude.{◌≤◌, length};
 
 use crate::reach::{far, near};
-use crate::refuted_boxes::{RefutedBoxes, lies_within, widest_within};
+use crate::recalled::{Found, Recalled};
+use crate::refuted_boxes::{Others, RefutedBoxes, lies_within, widest_within};
 use derivation::{Event, Log, Recorder, Side};
 use geo_base::{KBox, MAX_DIMS};
 use geo_conditions::{Cond, ObjId, State, fits, refuted_at};
@@ -22,6 +23,8 @@ pub struct Swept<'a, const K: usize> {
     pub conditions: &'a [Cond],
     pub events: &'a [Event],
     pub state: &'a State<K>,
+    /// For each object the version of what is left to it.
+    pub versions: &'a [u64],
     pub object: ObjId,
     pub place: u8,
 }
@@ -42,15 +45,34 @@ impl<'a, const K: usize> Swept<'a, K> {
         self.conditions.get((i - 1) as usize)
     }
 
-    // The boxes of the object on which the condition of this number is refuted.
-    fn boxes_of(&self, i: u32) -> RefutedBoxes<K>
+    // What is found of the condition of this number.
+    fn find(&self, number: u32) -> Found<K>
         requires { K ≤ MAX_DIMS }
     {
-        match self.condition(i) {
+        let (boxes, others) = match self.condition(number) {
             Some(c) if (self.object.0 as usize) < self.state.objects() => {
                 RefutedBoxes::of(c, self.state, self.object, self.place)
             }
-            _ => RefutedBoxes::Never,
+            _ => (RefutedBoxes::Never, Others::None),
+        };
+        Found {
+            number,
+            object: self.object,
+            place: self.place,
+            others,
+            version: self.version_of(others),
+            boxes,
+        }
+    }
+
+    // The version of what is left to the other object that was asked for, where it was one.
+    fn version_of(&self, others: Others) -> u64 {
+        match others {
+            Others::One(o) => match self.versions.get(o.0 as usize) {
+                Some(version) => *version,
+                None => 0,
+            },
+            _ => 0,
         }
     }
 
@@ -203,13 +225,37 @@ pub struct Coverer<const K: usize> {
     boxes: Vec<KBox<K>>,
     /// Conditions that the cover names.
     tried: Vec<Tried<K>>,
+    recalled: Recalled<K>,
 }
 
 impl<const K: usize> Coverer<K> {
-    pub fn new(alloc: Global) -> Coverer<K> {
-        Coverer {
+    /// What makes covers by so many conditions simpler.
+    pub fn start(alloc: Global, conditions: usize) -> Result<Coverer<K>, AllocError> {
+        Ok(Coverer {
+            recalled: Recalled::start(alloc, conditions)?,
             boxes: Vec::new(alloc),
             tried: Vec::new(alloc),
+        })
+    }
+
+    // Finds on which boxes the condition of this number is refuted, and keeps what it finds.
+    fn find_boxes(&mut self, swept: &Swept<K>, number: u32) -> RefutedBoxes<K>
+        requires { K ≤ MAX_DIMS }
+    {
+        let found = swept.find(number);
+        let boxes = found.boxes;
+        self.recalled.keep(found);
+        boxes
+    }
+
+    // The boxes on which the condition of this number is refuted.
+    fn boxes_of(&mut self, swept: &Swept<K>, number: u32) -> RefutedBoxes<K>
+        requires { K ≤ MAX_DIMS }
+    {
+        let (object, place) = (swept.object, swept.place);
+        match self.recalled.get(number, object, place, swept.versions) {
+            Some(boxes) => boxes,
+            None => self.find_boxes(swept, number),
         }
     }
 
@@ -228,7 +274,7 @@ impl<const K: usize> Coverer<K> {
         requires { K ≤ MAX_DIMS }
     {
         if self.tried.len() < MOST_TRIED && !self.is_tried(number) {
-            let boxes = swept.boxes_of(number);
+            let boxes = self.boxes_of(swept, number);
             self.tried.push(Tried { number, boxes })?;
         }
         Ok(())

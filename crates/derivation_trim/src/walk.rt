@@ -3,7 +3,7 @@
 ghost use Rattle.std.specs.Prelude.{◌≤◌};
 
 use crate::covers::{Coverer, Swept};
-use crate::reach::{Reach, far, reach_of, set_reach};
+use crate::reach::{Reach, Reaches, far};
 use derivation::{Event, Half, Log, Recorder, Side};
 use geo_base::{KBox, MAX_DIMS};
 use geo_conditions::{Cond, ObjId, State};
@@ -22,7 +22,7 @@ struct OpenNode<const K: usize> {
 struct Walk<'a, const K: usize> {
     conditions: &'a [Cond],
     events: &'a [Event],
-    state: State<K>,
+    reaches: Reaches<K>,
     nodes: Vec<OpenNode<K>>,
     coverer: Coverer<K>,
     out: Log,
@@ -44,7 +44,7 @@ impl<'a, const K: usize> Walk<'a, K> {
             held,
             second,
         })?;
-        set_reach(&mut self.state, object, part);
+        self.reaches.put_part(object, part);
         Ok(())
     }
 
@@ -53,7 +53,7 @@ impl<'a, const K: usize> Walk<'a, K> {
         requires { K ≤ MAX_DIMS }
     {
         while let Some(node) = self.nodes.pop() {
-            set_reach(&mut self.state, node.object, &node.held);
+            self.reaches.put(node.object, &node.held);
             if let Some(half) = node.second {
                 let part = node.held.second(half);
                 return self.enter(node.object, node.held, &part, None);
@@ -65,7 +65,7 @@ impl<'a, const K: usize> Walk<'a, K> {
     fn split(&mut self, o: ObjId, half: Half) -> Result<(), AllocError>
         requires { K ≤ MAX_DIMS }
     {
-        match reach_of(&self.state, o) {
+        match self.reaches.get(o) {
             Some(held) => self.enter(o, held, &held.first(half), Some(half)),
             None => Ok(()),
         }
@@ -84,7 +84,8 @@ impl<'a, const K: usize> Walk<'a, K> {
         let swept = Swept {
             conditions: self.conditions,
             events: self.events,
-            state: &self.state,
+            state: &self.reaches.state,
+            versions: self.reaches.versions.as_slice(),
             object,
             place,
         };
@@ -114,7 +115,7 @@ impl<'a, const K: usize> Walk<'a, K> {
     fn drop_place(&mut self, at: usize, o: ObjId, place: u8) -> Result<usize, AllocError>
         requires { K ≤ MAX_DIMS }
     {
-        let Some(held) = reach_of(&self.state, o) else {
+        let Some(held) = self.reaches.get(o) else {
             return Ok(at);
         };
         let next = self.cover(at, o, place, &held.region)?;
@@ -126,7 +127,7 @@ impl<'a, const K: usize> Walk<'a, K> {
     fn bound(&mut self, at: usize, o: ObjId, side: Side) -> Result<usize, AllocError>
         requires { K ≤ MAX_DIMS }
     {
-        let Some(held) = reach_of(&self.state, o) else {
+        let Some(held) = self.reaches.get(o) else {
             return Ok(at);
         };
         let next = self.covers(at, o, &far(&held.region, side))?;
@@ -138,7 +139,7 @@ impl<'a, const K: usize> Walk<'a, K> {
     fn gone(&mut self, at: usize, o: ObjId) -> Result<usize, AllocError>
         requires { K ≤ MAX_DIMS }
     {
-        let Some(held) = reach_of(&self.state, o) else {
+        let Some(held) = self.reaches.get(o) else {
             return Ok(at);
         };
         let next = self.covers(at, o, &held.region)?;
@@ -180,9 +181,9 @@ pub fn with_simpler_covers<const K: usize>(
     let mut walk = Walk {
         conditions,
         events,
-        state: first.copy()?,
+        reaches: Reaches::start(alloc, first)?,
         nodes: Vec::new(alloc),
-        coverer: Coverer::new(alloc),
+        coverer: Coverer::start(alloc, conditions.len())?,
         out: Log::new(alloc),
     };
     let mut next: usize = 0;
