@@ -60,19 +60,8 @@ impl<'a, const K: usize> Swept<'a, K> {
             object: self.object,
             place: self.place,
             others,
-            version: self.version_of(others),
+            version: 0,
             boxes,
-        }
-    }
-
-    // The version of what is left to the other object that was asked for, where it was one.
-    fn version_of(&self, others: Others) -> u64 {
-        match others {
-            Others::One(o) => match self.versions.get(o.0 as usize) {
-                Some(version) => *version,
-                None => 0,
-            },
-            _ => 0,
         }
     }
 
@@ -100,13 +89,17 @@ impl<'a, const K: usize> Swept<'a, K> {
         }
     }
 
-    // A side as far from `side` towards `bad` as bisection finds one on which the condition of this
-    // number is refuted. It is taken to be refuted on `side`, and not up to `bad`.
-    fn farthest(&self, number: u32, b: &KBox<K>, side: Side, bad: i64) -> Side
+    // A side as far from `side` towards the end of the box as bisection finds one on which the
+    // condition of this number is refuted. It is taken to be refuted on `side`, and not on the whole.
+    fn farthest(&self, number: u32, b: &KBox<K>, side: Side) -> Side
         requires { K ≤ MAX_DIMS }
     {
         let mut good = side;
-        let mut bad = bad;
+        let mut bad = match side {
+            Side::Upto(d, _) if d < K => b.hi.get(d),
+            Side::From(d, _) if d < K => b.lo.get(d),
+            _ => return side,
+        };
         for _ in 0..64 {
             match between(good, bad) {
                 None => return good,
@@ -122,17 +115,6 @@ impl<'a, const K: usize> Swept<'a, K> {
         good
     }
 
-    // The same, up to the end of the box.
-    fn farthest_in(&self, number: u32, b: &KBox<K>, side: Side) -> Side
-        requires { K ≤ MAX_DIMS }
-    {
-        match side {
-            Side::Upto(d, _) if d < K => self.farthest(number, b, side, b.hi.get(d)),
-            Side::From(d, _) if d < K => self.farthest(number, b, side, b.lo.get(d)),
-            _ => side,
-        }
-    }
-
     // The farthest side at which the condition is still refuted on the first part.
     fn widest(&self, tried: &Tried<K>, b: &KBox<K>, side: Side) -> Side
         requires { K ≤ MAX_DIMS }
@@ -140,7 +122,7 @@ impl<'a, const K: usize> Swept<'a, K> {
         match &tried.boxes {
             RefutedBoxes::Never => side,
             RefutedBoxes::Within(outer) => widest_within(outer, b, side),
-            RefutedBoxes::Asked => self.farthest_in(tried.number, b, side),
+            RefutedBoxes::Asked => self.farthest(tried.number, b, side),
         }
     }
 }
@@ -176,23 +158,14 @@ fn side_of(e: Event) -> Option<Side> {
     }
 }
 
-// The first leaf of a cover.
-fn first_leaf(cover: &[Event]) -> Option<Event> {
+// Writes the first leaf of a cover.
+fn write_leaf(cover: &[Event], out: &mut Log) -> Result<(), AllocError> {
     for e in cover {
         if let Event::By(_) = e {
-            return Some(*e);
+            return out.add(*e);
         }
     }
-    None
-}
-
-// Writes the first leaf of the cover at the index, and gives the index behind the cover.
-fn write_leaf(cover: &[Event], from: usize, out: &mut Log) -> Result<usize, AllocError> {
-    let n = cover_len(cover);
-    if let Some(leaf) = first_leaf(&cover[..n]) {
-        out.add(leaf)?;
-    }
-    Ok(from.saturating_add(n))
+    Ok(())
 }
 
 /// How many of the events are the first cover.
@@ -238,25 +211,18 @@ impl<const K: usize> Coverer<K> {
         })
     }
 
-    // Finds on which boxes the condition of this number is refuted, and keeps what it finds.
-    fn find_boxes(&mut self, swept: &Swept<K>, number: u32) -> RefutedBoxes<K>
-        requires { K ≤ MAX_DIMS }
-    {
-        let found = swept.find(number);
-        let boxes = found.boxes;
-        self.recalled.keep(found);
-        boxes
-    }
-
-    // The boxes on which the condition of this number is refuted.
+    // The boxes on which the condition of this number is refuted. What is found is kept.
     fn boxes_of(&mut self, swept: &Swept<K>, number: u32) -> RefutedBoxes<K>
         requires { K ≤ MAX_DIMS }
     {
         let (object, place) = (swept.object, swept.place);
-        match self.recalled.get(number, object, place, swept.versions) {
-            Some(boxes) => boxes,
-            None => self.find_boxes(swept, number),
+        if let Some(boxes) = self.recalled.get(number, object, place, swept.versions) {
+            return boxes;
         }
+        let found = swept.find(number);
+        let boxes = found.boxes;
+        self.recalled.keep(found, swept.versions);
+        boxes
     }
 
     // Whether the condition of this number is tried.
@@ -325,7 +291,7 @@ impl<const K: usize> Coverer<K> {
                 return swept.widest(tried, b, side);
             }
         }
-        swept.farthest_in(number, b, side)
+        swept.farthest(number, b, side)
     }
 
     // A cut of a box that has points. It says how many of the events are done with.
@@ -421,13 +387,13 @@ impl<const K: usize> Coverer<K> {
                 out.add(Event::By(*i))?;
                 Ok(from.saturating_add(1))
             }
-            _ => {
-                if b.is_empty() {
-                    write_leaf(events_from(swept.events, from), from, out)
-                } else {
-                    self.pieces(swept, from, b, out)
-                }
+            _ if b.is_empty() => {
+                let rest = events_from(swept.events, from);
+                let n = cover_len(rest);
+                write_leaf(&rest[..n], out)?;
+                Ok(from.saturating_add(n))
             }
+            _ => self.pieces(swept, from, b, out),
         }
     }
 }

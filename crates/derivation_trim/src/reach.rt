@@ -80,19 +80,13 @@ fn set_reach<const K: usize>(s: &mut State<K>, o: ObjId, reach: &Reach<K>)
 {
     if (o.0 as usize) < s.objects() {
         s.set_places(o, reach.places);
-        let lo = reach.region.lo();
-        let hi = reach.region.hi();
         for d in 0..K {
-            set_ends(s, o, d, lo.get(d), hi.get(d));
+            if (o.0 as usize) < s.objects() {
+                let lo = reach.region.lo.get(d);
+                let hi = reach.region.hi.get(d);
+                s.set_interval(o, d, Interval { lo, hi });
+            }
         }
-    }
-}
-
-fn set_ends<const K: usize>(s: &mut State<K>, o: ObjId, d: usize, lo: i64, hi: i64)
-    requires { K ≤ MAX_DIMS }
-{
-    if (o.0 as usize) < s.objects() && d < K {
-        s.set_interval(o, d, Interval { lo, hi });
     }
 }
 

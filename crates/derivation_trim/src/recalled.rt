@@ -22,16 +22,13 @@ pub struct Found<const K: usize> {
     pub boxes: RefutedBoxes<K>,
 }
 
-impl<const K: usize> Found<K> {
-    // Whether the other object still has the version, among the versions of all objects.
-    fn still_holds(&self, versions: &[u64]) -> bool {
-        match self.others {
-            Others::One(o) => match versions.get(o.0 as usize) {
-                Some(version) => *version == self.version,
-                None => false,
-            },
-            _ => false,
-        }
+// The version that a finding holds for: any, where no other object was asked for; none, where there
+// were several.
+fn version_of(others: Others, versions: &[u64]) -> Option<u64> {
+    match others {
+        Others::None => Some(0),
+        Others::One(o) => versions.get(o.0 as usize).copied(),
+        Others::Many => None,
     }
 }
 
@@ -73,15 +70,19 @@ impl<const K: usize> Recalled<K> {
         versions: &[u64],
     ) -> Option<RefutedBoxes<K>> {
         let found = self.found.get(slot_of(number, object))?;
+        let version = version_of(found.others, versions)?;
         let is_of_it = found.number == number && found.object.0 == object.0 && found.place == place;
-        (is_of_it && found.still_holds(versions)).then_some(found.boxes)
+        (is_of_it && found.version == version).then_some(found.boxes)
     }
 
-    /// Keeps a finding.
-    pub fn keep(&mut self, found: Found<K>) {
+    /// Keeps a finding, where it can be recalled.
+    pub fn keep(&mut self, found: Found<K>, versions: &[u64]) {
         let slot = slot_of(found.number, found.object);
         if slot < self.found.len() {
-            self.found[slot] = found;
+            if let Some(version) = version_of(found.others, versions) {
+                self.found[slot] = found;
+                self.found[slot].version = version;
+            }
         }
     }
 }
