@@ -7,7 +7,8 @@
 ghost use Rattle.std.specs.Prelude.{◌≤◌, length};
 
 use crate::reach::{far, near};
-use crate::refuted_boxes::{RefutedBoxes, lies_within};
+use crate::recalled::{Found, Recalled};
+use crate::refuted_boxes::{Others, RefutedBoxes, lies_within, widest_within};
 use derivation::{Event, Log, Recorder, Side};
 use geo_base::{KBox, MAX_DIMS};
 use geo_conditions::{Cond, ObjId, State, fits, refuted_at};
@@ -16,11 +17,14 @@ use std::alloc::{AllocError, Global};
 /// How many conditions of a cover are tried on its parts.
 const MOST_TRIED: usize = 12;
 
-/// The object whose boxes are covered, and its place.
+/// The object whose boxes are covered, and its place, in events that are read.
 #[derive(Clone, Copy)]
 pub struct Swept<'a, const K: usize> {
     pub conditions: &'a [Cond],
+    pub events: &'a [Event],
     pub state: &'a State<K>,
+    /// For each object the version of what is left to it.
+    pub versions: &'a [u64],
     pub object: ObjId,
     pub place: u8,
 }
@@ -41,15 +45,23 @@ impl<'a, const K: usize> Swept<'a, K> {
         self.conditions.get((i - 1) as usize)
     }
 
-    // The boxes of the object on which the condition of this number is refuted.
-    fn boxes_of(&self, i: u32) -> RefutedBoxes<K>
+    // What is found of the condition of this number.
+    fn find(&self, number: u32) -> Found<K>
         requires { K ≤ MAX_DIMS }
     {
-        match self.condition(i) {
+        let (boxes, others) = match self.condition(number) {
             Some(c) if (self.object.0 as usize) < self.state.objects() => {
                 RefutedBoxes::of(c, self.state, self.object, self.place)
             }
-            _ => RefutedBoxes::Never,
+            _ => (RefutedBoxes::Never, Others::None),
+        };
+        Found {
+            number,
+            object: self.object,
+            place: self.place,
+            others,
+            version: 0,
+            boxes,
         }
     }
 
@@ -77,18 +89,22 @@ impl<'a, const K: usize> Swept<'a, K> {
         }
     }
 
-    // A side as far from `side` towards `bad` as bisection finds one on which the condition is
-    // refuted. It is taken to be refuted on `side`, and not up to `bad`.
-    fn farthest(&self, tried: &Tried<K>, b: &KBox<K>, side: Side, bad: i64) -> Side
+    // A side as far from `side` towards the end of the box as bisection finds one on which the
+    // condition of this number is refuted. It is taken to be refuted on `side`, and not on the whole.
+    fn farthest(&self, number: u32, b: &KBox<K>, side: Side) -> Side
         requires { K ≤ MAX_DIMS }
     {
         let mut good = side;
-        let mut bad = bad;
+        let mut bad = match side {
+            Side::Upto(d, _) if d < K => b.hi.get(d),
+            Side::From(d, _) if d < K => b.lo.get(d),
+            _ => return side,
+        };
         for _ in 0..64 {
             match between(good, bad) {
                 None => return good,
                 Some(middle) => {
-                    if self.is_refuted(tried, &near(b, middle)) {
+                    if self.ask(number, &near(b, middle)) {
                         good = middle;
                     } else {
                         bad = number_of(middle);
@@ -103,10 +119,10 @@ impl<'a, const K: usize> Swept<'a, K> {
     fn widest(&self, tried: &Tried<K>, b: &KBox<K>, side: Side) -> Side
         requires { K ≤ MAX_DIMS }
     {
-        match side {
-            Side::Upto(d, _) if d < K => self.farthest(tried, b, side, b.hi().get(d)),
-            Side::From(d, _) if d < K => self.farthest(tried, b, side, b.lo().get(d)),
-            _ => side,
+        match &tried.boxes {
+            RefutedBoxes::Never => side,
+            RefutedBoxes::Within(outer) => widest_within(outer, b, side),
+            RefutedBoxes::Asked => self.farthest(tried.number, b, side),
         }
     }
 }
@@ -142,14 +158,14 @@ fn side_of(e: Event) -> Option<Side> {
     }
 }
 
-// The first leaf of a cover.
-fn first_leaf(cover: &[Event]) -> Option<Event> {
+// Writes the first leaf of a cover.
+fn write_leaf(cover: &[Event], out: &mut Log) -> Result<(), AllocError> {
     for e in cover {
         if let Event::By(_) = e {
-            return Some(*e);
+            return out.add(*e);
         }
     }
-    None
+    Ok(())
 }
 
 /// How many of the events are the first cover.
@@ -182,42 +198,76 @@ pub struct Coverer<const K: usize> {
     boxes: Vec<KBox<K>>,
     /// Conditions that the cover names.
     tried: Vec<Tried<K>>,
+    recalled: Recalled<K>,
 }
 
 impl<const K: usize> Coverer<K> {
-    pub fn new(alloc: Global) -> Coverer<K> {
-        Coverer {
+    /// What makes covers by so many conditions simpler.
+    pub fn start(alloc: Global, conditions: usize) -> Result<Coverer<K>, AllocError> {
+        Ok(Coverer {
+            recalled: Recalled::start(alloc, conditions)?,
             boxes: Vec::new(alloc),
             tried: Vec::new(alloc),
-        }
+        })
     }
 
-    // The condition of this number among those that are tried.
-    fn find(&self, number: u32) -> Option<Tried<K>> {
+    // The boxes on which the condition of this number is refuted. What is found is kept.
+    fn boxes_of(&mut self, swept: &Swept<K>, number: u32) -> RefutedBoxes<K>
+        requires { K ≤ MAX_DIMS }
+    {
+        let (object, place) = (swept.object, swept.place);
+        if let Some(boxes) = self.recalled.get(number, object, place, swept.versions) {
+            return boxes;
+        }
+        let found = swept.find(number);
+        let boxes = found.boxes;
+        self.recalled.keep(found, swept.versions);
+        boxes
+    }
+
+    // Whether the condition of this number is tried.
+    fn is_tried(&self, number: u32) -> bool {
         for tried in self.tried.as_slice() {
             if tried.number == number {
-                return Some(*tried);
+                return true;
             }
         }
-        None
+        false
     }
 
-    // Notes the first conditions that the cover names.
-    fn gather(&mut self, swept: &Swept<K>, cover: &[Event]) -> Result<(), AllocError>
+    // Notes a condition that the cover names, where there is room.
+    fn note(&mut self, swept: &Swept<K>, number: u32) -> Result<(), AllocError>
+        requires { K ≤ MAX_DIMS }
+    {
+        if self.tried.len() < MOST_TRIED && !self.is_tried(number) {
+            let boxes = self.boxes_of(swept, number);
+            self.tried.push(Tried { number, boxes })?;
+        }
+        Ok(())
+    }
+
+    // Notes the first conditions that the cover at the index names. It gives the index behind the
+    // cover.
+    fn gather(&mut self, swept: &Swept<K>, from: usize) -> Result<usize, AllocError>
         requires { K ≤ MAX_DIMS }
     {
         self.tried.clear();
-        for e in cover {
-            if let Event::By(i) = e {
-                if self.tried.len() < MOST_TRIED && self.find(*i).is_none() {
-                    self.tried.push(Tried {
-                        number: *i,
-                        boxes: swept.boxes_of(*i),
-                    })?;
+        let events = swept.events;
+        let mut wanted: usize = 1;
+        for at in from..events.len() {
+            match events[at] {
+                Event::By(i) => {
+                    self.note(swept, i)?;
+                    wanted = wanted.saturating_sub(1);
                 }
+                Event::Cut(_, _) | Event::CutFrom(_, _) => wanted = wanted.saturating_add(1),
+                _ => return Ok(at),
+            }
+            if wanted == 0 {
+                return Ok(at + 1);
             }
         }
-        Ok(())
+        Ok(events.len())
     }
 
     // One of these conditions that covers the whole box alone.
@@ -236,14 +286,12 @@ impl<const K: usize> Coverer<K> {
     fn widest_of(&self, swept: &Swept<K>, number: u32, b: &KBox<K>, side: Side) -> Side
         requires { K ≤ MAX_DIMS }
     {
-        let tried = match self.find(number) {
-            Some(tried) => tried,
-            None => Tried {
-                number,
-                boxes: RefutedBoxes::Asked,
-            },
-        };
-        swept.widest(&tried, b, side)
+        for tried in self.tried.as_slice() {
+            if tried.number == number {
+                return swept.widest(tried, b, side);
+            }
+        }
+        swept.farthest(number, b, side)
     }
 
     // A cut of a box that has points. It says how many of the events are done with.
@@ -297,46 +345,55 @@ impl<const K: usize> Coverer<K> {
         Ok(1)
     }
 
-    // Writes a simpler cover of a box that has points.
+    // Writes a simpler cover of a box that has points. It gives the index behind the old one.
     fn pieces(
         &mut self,
         swept: &Swept<K>,
-        cover: &[Event],
+        from: usize,
         b: &KBox<K>,
         out: &mut Log,
-    ) -> Result<(), AllocError>
+    ) -> Result<usize, AllocError>
         requires { K ≤ MAX_DIMS }
     {
-        self.gather(swept, cover)?;
+        let end = self.gather(swept, from)?;
         self.boxes.clear();
         self.boxes.push(*b)?;
-        let mut next: usize = 0;
-        for (at, e) in cover.iter().enumerate() {
-            if next <= at {
-                let done = self.piece(swept, events_from(cover, at), *e, out)?;
-                next = at.saturating_add(done);
+        let mut next = from;
+        for _ in from..end {
+            let cover = events_from(swept.events, next);
+            if next >= end || cover.is_empty() {
+                return Ok(end);
             }
+            let done = self.piece(swept, cover, cover[0], out)?;
+            next = next.saturating_add(done);
         }
-        Ok(())
+        Ok(end)
     }
 
-    /// Writes a simpler cover of the box in the place of this one. A leaf stays as it is, and where
-    /// the box has no points, the first leaf stands for all.
+    /// Writes a simpler cover of the box in the place of the one at the index. It gives the index
+    /// behind that one. A leaf stays as it is, and where the box has no points, the first leaf
+    /// stands for all.
     pub fn simplify(
         &mut self,
         swept: &Swept<K>,
-        cover: &[Event],
+        from: usize,
         b: &KBox<K>,
         out: &mut Log,
-    ) -> Result<(), AllocError>
+    ) -> Result<usize, AllocError>
         requires { K ≤ MAX_DIMS }
     {
-        if cover.len() > 1 && !b.is_empty() {
-            return self.pieces(swept, cover, b, out);
-        }
-        match first_leaf(cover) {
-            Some(leaf) => out.add(leaf),
-            None => Ok(()),
+        match swept.events.get(from) {
+            Some(Event::By(i)) => {
+                out.add(Event::By(*i))?;
+                Ok(from.saturating_add(1))
+            }
+            _ if b.is_empty() => {
+                let rest = events_from(swept.events, from);
+                let n = cover_len(rest);
+                write_leaf(&rest[..n], out)?;
+                Ok(from.saturating_add(n))
+            }
+            _ => self.pieces(swept, from, b, out),
         }
     }
 }

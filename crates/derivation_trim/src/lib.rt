@@ -11,6 +11,7 @@ mod judged;
 mod leans;
 mod needed;
 mod reach;
+mod recalled;
 mod refuted_boxes;
 mod shorten;
 mod tree;

@@ -71,12 +71,6 @@ impl<'a, const K: usize> Backwards<'a, K> {
         self.covers.lean_on_ends(o);
     }
 
-    // A node that ends the derivation of its part.
-    fn end(&mut self, span: Span<K>) -> Result<bool, AllocError> {
-        self.spans.push(span)?;
-        Ok(true)
-    }
-
     // A link begins at `start` that moves an aspect of the object, and its covers and its rest are
     // read. It says whether there is a rest.
     fn link(&mut self, start: usize, o: ObjId, moved: Aspect) -> bool {
@@ -110,7 +104,8 @@ impl<'a, const K: usize> Backwards<'a, K> {
         let leans = self.covers;
         self.covers = Leans::new();
         let end = self.covers_end;
-        self.end(Span { start, end, leans })
+        self.spans.push(Span { start, end, leans })?;
+        Ok(true)
     }
 
     // A split of the object stands at `start`, which moves one aspect for its first part and one
@@ -139,7 +134,8 @@ impl<'a, const K: usize> Backwards<'a, K> {
             of_both(o, (first.leans, in_first), (second.leans, in_second))
         };
         let end = second.end;
-        self.end(Span { start, end, leans })
+        self.spans.push(Span { start, end, leans })?;
+        Ok(true)
     }
 
     // Takes the event before those that were read. It says whether they can be the end of a
@@ -159,7 +155,8 @@ impl<'a, const K: usize> Backwards<'a, K> {
             Event::Dead(i) => {
                 let mut leans = Leans::new();
                 insert_number(&mut leans, self.conditions, i);
-                self.end(Span { start, end, leans })
+                self.spans.push(Span { start, end, leans })?;
+                Ok(true)
             }
             Event::By(i) => {
                 insert_number(&mut self.covers, self.conditions, i);

@@ -6,47 +6,87 @@ ghost use Rattle.std.specs.Prelude.{◌≤◌};
 use derivation::{Half, Side};
 use geo_base::{Interval, KBox, MAX_DIMS};
 use geo_conditions::{MAX_SHAPES, ObjId, ShapeSet, State};
+use std::alloc::{AllocError, Global};
 
-/// The places and the region that are left to an object.
+/// The places and the region that are left to an object. What has the same version is the same.
 #[derive(Clone, Copy)]
 pub struct Reach<const K: usize> {
     pub places: ShapeSet,
     pub region: KBox<K>,
+    version: u64,
 }
 
-/// What is left to the object, where there is such an object.
-pub fn reach_of<const K: usize>(s: &State<K>, o: ObjId) -> Option<Reach<K>>
-    requires { K ≤ MAX_DIMS }
-{
-    if (o.0 as usize) < s.objects() {
-        Some(Reach {
-            places: s.places(o),
-            region: s.region(o),
+/// What is left to each object.
+#[derive(Drop)]
+pub struct Reaches<const K: usize> {
+    pub state: State<K>,
+    /// For each object the version of what is left to it.
+    pub versions: Vec<u64>,
+    /// The last version so far.
+    last: u64,
+}
+
+impl<const K: usize> Reaches<K> {
+    /// What is left to each object on the first state.
+    pub fn start(alloc: Global, first: &State<K>) -> Result<Reaches<K>, AllocError>
+        requires { K ≤ MAX_DIMS }
+    {
+        Ok(Reaches {
+            state: first.copy()?,
+            versions: vec![in alloc; 0; first.objects()]?,
+            last: 0,
         })
-    } else {
-        None
+    }
+
+    /// What is left to the object, where there is such an object.
+    pub fn get(&self, o: ObjId) -> Option<Reach<K>>
+        requires { K ≤ MAX_DIMS }
+    {
+        match self.versions.get(o.0 as usize) {
+            Some(version) if (o.0 as usize) < self.state.objects() => Some(Reach {
+                places: self.state.places(o),
+                region: self.state.region(o),
+                version: *version,
+            }),
+            _ => None,
+        }
+    }
+
+    /// Leaves this to the object, where there is such an object.
+    pub fn put(&mut self, o: ObjId, reach: &Reach<K>)
+        requires { K ≤ MAX_DIMS }
+    {
+        set_reach(&mut self.state, o, reach);
+        let at = o.0 as usize;
+        if at < self.versions.len() {
+            self.versions[at] = reach.version;
+        }
+    }
+
+    /// Leaves a part to it of what was left.
+    pub fn put_part(&mut self, o: ObjId, part: &Reach<K>)
+        requires { K ≤ MAX_DIMS }
+    {
+        self.last = self.last.saturating_add(1);
+        let mut newer = *part;
+        newer.version = self.last;
+        self.put(o, &newer);
     }
 }
 
-/// Leaves this to the object, where there is such an object.
-pub fn set_reach<const K: usize>(s: &mut State<K>, o: ObjId, reach: &Reach<K>)
+// Leaves this to the object, where there is such an object.
+fn set_reach<const K: usize>(s: &mut State<K>, o: ObjId, reach: &Reach<K>)
     requires { K ≤ MAX_DIMS }
 {
     if (o.0 as usize) < s.objects() {
         s.set_places(o, reach.places);
-        let lo = reach.region.lo();
-        let hi = reach.region.hi();
         for d in 0..K {
-            set_ends(s, o, d, lo.get(d), hi.get(d));
+            if (o.0 as usize) < s.objects() {
+                let lo = reach.region.lo.get(d);
+                let hi = reach.region.hi.get(d);
+                s.set_interval(o, d, Interval { lo, hi });
+            }
         }
-    }
-}
-
-fn set_ends<const K: usize>(s: &mut State<K>, o: ObjId, d: usize, lo: i64, hi: i64)
-    requires { K ≤ MAX_DIMS }
-{
-    if (o.0 as usize) < s.objects() && d < K {
-        s.set_interval(o, d, Interval { lo, hi });
     }
 }
 

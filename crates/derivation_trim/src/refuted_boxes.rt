@@ -6,6 +6,8 @@
 
 ghost use Rattle.std.specs.Prelude.{◌≤◌};
 
+use crate::reach::near;
+use derivation::Side;
 use geo_base::{KBox, MAX_DIMS, Point};
 use geo_conditions::{Cond, Form, ObjId, State, Term};
 
@@ -29,6 +31,24 @@ enum Part {
     Asked,
 }
 
+/// The objects, beside the one at a place, that were asked for.
+#[derive(Clone, Copy)]
+pub enum Others {
+    None,
+    One(ObjId),
+    Many,
+}
+
+impl Others {
+    fn and(self, o: ObjId) -> Others {
+        match self {
+            Others::None => Others::One(o),
+            Others::One(other) if other.0 == o.0 => self,
+            _ => Others::Many,
+        }
+    }
+}
+
 /// An object at a place, and a box that is being narrowed to where a condition is refuted.
 #[derive(Drop)]
 struct Narrowing<'a, const K: usize> {
@@ -36,6 +56,7 @@ struct Narrowing<'a, const K: usize> {
     object: ObjId,
     place: u8,
     within: KBox<K>,
+    others: Others,
 }
 
 // A part that says the same of each box.
@@ -49,12 +70,13 @@ fn literal(is_possible: Option<bool>) -> Part {
 
 impl<'a, const K: usize> Narrowing<'a, K> {
     // Whether the shape is open to an object, where there is such an object.
-    fn has(&self, o: ObjId, place: u8) -> Option<bool>
+    fn has(&mut self, o: ObjId, place: u8) -> Option<bool>
         requires { K ≤ MAX_DIMS }
     {
         if o.0 == self.object.0 {
             Some(place != 0 && place == self.place)
         } else if (o.0 as usize) < self.state.objects() {
+            self.others = self.others.and(o);
             Some(self.state.has_shape(o, place))
         } else {
             None
@@ -62,12 +84,13 @@ impl<'a, const K: usize> Narrowing<'a, K> {
     }
 
     // Whether another shape is open to it.
-    fn has_other(&self, o: ObjId, place: u8) -> Option<bool>
+    fn has_other(&mut self, o: ObjId, place: u8) -> Option<bool>
         requires { K ≤ MAX_DIMS }
     {
         if o.0 == self.object.0 {
             Some(place == 0 || place != self.place)
         } else if (o.0 as usize) < self.state.objects() {
+            self.others = self.others.and(o);
             Some(!self.state.is_only_shape(o, place))
         } else {
             None
@@ -75,12 +98,13 @@ impl<'a, const K: usize> Narrowing<'a, K> {
     }
 
     // The least value of a term of another object, where there is such a coordinate.
-    fn least_term(&self, term: &Term) -> Option<i64>
+    fn least_term(&mut self, term: &Term) -> Option<i64>
         requires { K ≤ MAX_DIMS }
     {
         if (term.object.0 as usize) >= self.state.objects() || term.dimension >= K {
             return None;
         }
+        self.others = self.others.and(term.object);
         let open = self.state.interval(term.object, term.dimension);
         let end = if term.factor < 0 { open.hi } else { open.lo };
         term.factor.checked_mul(end)
@@ -150,8 +174,8 @@ impl<'a, const K: usize> Narrowing<'a, K> {
 
 impl<const K: usize> RefutedBoxes<K> {
     /// The boxes of the object at the place on which the condition is refuted, with what is left to
-    /// the other objects.
-    pub fn of(c: &Cond, state: &State<K>, object: ObjId, place: u8) -> RefutedBoxes<K>
+    /// the other objects, and which of these it takes to tell.
+    pub fn of(c: &Cond, state: &State<K>, object: ObjId, place: u8) -> (RefutedBoxes<K>, Others)
         requires { K ≤ MAX_DIMS }
     {
         let mut narrowing = Narrowing {
@@ -159,12 +183,14 @@ impl<const K: usize> RefutedBoxes<K> {
             object,
             place,
             within: KBox::new(Point::filled(i64::MIN), Point::filled(i64::MAX)),
+            others: Others::None,
         };
-        match narrowing.take(c) {
+        let boxes = match narrowing.take(c) {
             Part::Never => RefutedBoxes::Never,
             Part::Within => RefutedBoxes::Within(narrowing.within),
             Part::Asked => RefutedBoxes::Asked,
-        }
+        };
+        (boxes, narrowing.others)
     }
 }
 
@@ -176,4 +202,23 @@ pub fn lies_within<const K: usize>(b: &KBox<K>, outer: &KBox<K>) -> bool {
         }
     }
     true
+}
+
+/// The farthest side at which the part of `b` on it still lies within the other box, and is not the
+/// whole of `b`; the side itself, where the part on that does not.
+pub fn widest_within<const K: usize>(outer: &KBox<K>, b: &KBox<K>, side: Side) -> Side {
+    if !lies_within(&near(b, side), outer) {
+        return side;
+    }
+    match side {
+        Side::Upto(d, v) if d < K => {
+            let last = b.hi.get(d).saturating_sub(1);
+            Side::Upto(d, v.max(outer.hi.get(d).min(last)))
+        }
+        Side::From(d, v) if d < K => {
+            let first = b.lo.get(d).saturating_add(1);
+            Side::From(d, v.min(outer.lo.get(d).max(first)))
+        }
+        _ => side,
+    }
 }

@@ -2,8 +2,8 @@
 
 ghost use Rattle.std.specs.Prelude.{◌≤◌};
 
-use crate::covers::{Coverer, Swept, cover_len, events_from};
-use crate::reach::{Reach, far, reach_of, set_reach};
+use crate::covers::{Coverer, Swept};
+use crate::reach::{Reach, Reaches, far};
 use derivation::{Event, Half, Log, Recorder, Side};
 use geo_base::{KBox, MAX_DIMS};
 use geo_conditions::{Cond, ObjId, State};
@@ -22,7 +22,7 @@ struct OpenNode<const K: usize> {
 struct Walk<'a, const K: usize> {
     conditions: &'a [Cond],
     events: &'a [Event],
-    state: State<K>,
+    reaches: Reaches<K>,
     nodes: Vec<OpenNode<K>>,
     coverer: Coverer<K>,
     out: Log,
@@ -44,7 +44,7 @@ impl<'a, const K: usize> Walk<'a, K> {
             held,
             second,
         })?;
-        set_reach(&mut self.state, object, part);
+        self.reaches.put_part(object, part);
         Ok(())
     }
 
@@ -53,7 +53,7 @@ impl<'a, const K: usize> Walk<'a, K> {
         requires { K ≤ MAX_DIMS }
     {
         while let Some(node) = self.nodes.pop() {
-            set_reach(&mut self.state, node.object, &node.held);
+            self.reaches.put(node.object, &node.held);
             if let Some(half) = node.second {
                 let part = node.held.second(half);
                 return self.enter(node.object, node.held, &part, None);
@@ -65,7 +65,7 @@ impl<'a, const K: usize> Walk<'a, K> {
     fn split(&mut self, o: ObjId, half: Half) -> Result<(), AllocError>
         requires { K ≤ MAX_DIMS }
     {
-        match reach_of(&self.state, o) {
+        match self.reaches.get(o) {
             Some(held) => self.enter(o, held, &held.first(half), Some(half)),
             None => Ok(()),
         }
@@ -81,16 +81,15 @@ impl<'a, const K: usize> Walk<'a, K> {
     ) -> Result<usize, AllocError>
         requires { K ≤ MAX_DIMS }
     {
-        let rest = events_from(self.events, from);
-        let n = cover_len(rest);
         let swept = Swept {
             conditions: self.conditions,
-            state: &self.state,
+            events: self.events,
+            state: &self.reaches.state,
+            versions: self.reaches.versions.as_slice(),
             object,
             place,
         };
-        self.coverer.simplify(&swept, &rest[..n], b, &mut self.out)?;
-        Ok(from.saturating_add(n))
+        self.coverer.simplify(&swept, from, b, &mut self.out)
     }
 
     // The list of covers of a box that begins at an index. It gives the index behind it.
@@ -99,14 +98,15 @@ impl<'a, const K: usize> Walk<'a, K> {
     {
         let events = self.events;
         let mut next = from;
-        for at in from..events.len() {
-            if next <= at {
-                let e = events[at];
-                self.out.add(e)?;
-                match e {
-                    Event::Cover(place) => next = self.cover(at + 1, o, place, b)?,
-                    _ => return Ok(at + 1),
-                }
+        for _ in from..events.len() {
+            let Some(e) = events.get(next) else {
+                return Ok(next);
+            };
+            self.out.add(*e)?;
+            next = next.saturating_add(1);
+            match e {
+                Event::Cover(place) => next = self.cover(next, o, *place, b)?,
+                _ => return Ok(next),
             }
         }
         Ok(next)
@@ -115,7 +115,7 @@ impl<'a, const K: usize> Walk<'a, K> {
     fn drop_place(&mut self, at: usize, o: ObjId, place: u8) -> Result<usize, AllocError>
         requires { K ≤ MAX_DIMS }
     {
-        let Some(held) = reach_of(&self.state, o) else {
+        let Some(held) = self.reaches.get(o) else {
             return Ok(at);
         };
         let next = self.cover(at, o, place, &held.region)?;
@@ -127,7 +127,7 @@ impl<'a, const K: usize> Walk<'a, K> {
     fn bound(&mut self, at: usize, o: ObjId, side: Side) -> Result<usize, AllocError>
         requires { K ≤ MAX_DIMS }
     {
-        let Some(held) = reach_of(&self.state, o) else {
+        let Some(held) = self.reaches.get(o) else {
             return Ok(at);
         };
         let next = self.covers(at, o, &far(&held.region, side))?;
@@ -139,7 +139,7 @@ impl<'a, const K: usize> Walk<'a, K> {
     fn gone(&mut self, at: usize, o: ObjId) -> Result<usize, AllocError>
         requires { K ≤ MAX_DIMS }
     {
-        let Some(held) = reach_of(&self.state, o) else {
+        let Some(held) = self.reaches.get(o) else {
             return Ok(at);
         };
         let next = self.covers(at, o, &held.region)?;
@@ -181,15 +181,16 @@ pub fn with_simpler_covers<const K: usize>(
     let mut walk = Walk {
         conditions,
         events,
-        state: first.copy()?,
+        reaches: Reaches::start(alloc, first)?,
         nodes: Vec::new(alloc),
-        coverer: Coverer::new(alloc),
+        coverer: Coverer::start(alloc, conditions.len())?,
         out: Log::new(alloc),
     };
     let mut next: usize = 0;
-    for (at, e) in events.iter().enumerate() {
-        if next <= at {
-            next = walk.node(*e, at + 1)?;
+    for _ in 0..events.len() {
+        match events.get(next) {
+            Some(e) => next = walk.node(*e, next.saturating_add(1))?,
+            None => break,
         }
     }
     Ok(walk.out)
