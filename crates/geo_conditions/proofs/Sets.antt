@@ -1,7 +1,7 @@
 -- Sets of places as lists of tests.
-use Rattle.std.proofs.Common.{◌≡◌, ℕ, zero, suc, ◌+◌, ◌<◌, ◌≤◌, ◌++◌, replicate, set, Bool, true, false, List, [], ◌∷◌, length, get_or, refl, sym, ap, ◌∙◌, subst, inl, inr, arith, eqb}
+use Rattle.std.proofs.Common.{◌≡◌, ℕ, zero, suc, ◌+◌, ◌-◌, ◌<◌, ◌≤◌, cond, ◌++◌, replicate, set, Bool, true, false, List, [], ◌∷◌, length, get_or, refl, sym, ap, ◌∙◌, subst, inl, inr, arith, eqb}
 use Rattle.std.proofs.lemmas.Bool.{and_from, and_parts, eq-eqb, eqb-true, false≢true, cases_Bool, false_from_ne_true}
-use Rattle.geo_conditions.specs.Reach.{place_in, is_only, only, how_many, count}
+use Rattle.geo_conditions.specs.Reach.{place_in, is_only, only, how_many, count, first_place, sole_place}
 
 -- ---- how many are there
 
@@ -93,6 +93,57 @@ only_out bs s h =
 
 pub only_in : (bs : List Bool) (s : ℕ) → place_in bs s ≡ true → ((u : ℕ) → place_in bs u ≡ true → u ≡ s) → is_only bs s ≡ true
 only_in bs s h k = and_from (place_in bs s) (eqb (how_many bs) 1) h (eq-eqb (how_many bs) 1 (alone_counted bs s h k))
+
+-- ---- the sole place
+
+-- where one is counted, the first place that is there is there
+first_there : (bs : List Bool) → 0 < how_many bs → place_in bs (first_place bs) ≡ true
+first_there [] h = absurd (omega arith)
+first_there (true ∷ bs) h = refl
+first_there (false ∷ bs) h = later bs (first_there bs (omega arith))
+  where
+    later : (bs : List Bool) → place_in bs (first_place bs) ≡ true → place_in (false ∷ bs) (suc (first_place bs)) ≡ true
+    later [] k = absurd (false≢true k)
+    later (true ∷ bs) k = refl
+    later (false ∷ bs) k = k
+
+-- the first place is the one before which none is there
+pub first_is : (bs : List Bool) (i : ℕ) → ((k : ℕ) → k < i → get_or bs k false ≡ false) → get_or bs i false ≡ true → first_place bs ≡ i + 1
+first_is [] i none h = absurd (false≢true h)
+first_is (true ∷ bs) zero none h = refl
+first_is (true ∷ bs) (suc i) none h = absurd (false≢true (sym (none 0 (omega arith))))
+first_is (false ∷ bs) zero none h = absurd (false≢true h)
+first_is (false ∷ bs) (suc i) none h =
+    let e : first_place bs ≡ i + 1 = first_is bs i (λ k l. none (suc k) (omega arith)) h in omega arith
+
+-- where none is there, none is counted
+pub none_at : (bs : List Bool) (n : ℕ) → length bs ≤ n → ((k : ℕ) → k < n → get_or bs k false ≡ false) → how_many bs ≡ 0
+none_at [] n l none = refl
+none_at (true ∷ bs) n l none = absurd (false≢true (sym (none 0 (omega arith))))
+none_at (false ∷ bs) n l none =
+    let e : how_many bs ≡ 0 = none_at bs (n - 1) (omega arith) (λ k h. none (suc k) (omega arith)) in omega arith
+
+-- where not one is counted, no place is there alone
+pub sole_none : (bs : List Bool) → (how_many bs ≡ 1 → ⊥) → 0 ≡ sole_place bs
+sole_none bs n = ap (λ (b : Bool). cond b (first_place bs) 0) (sym (false_from_ne_true (eqb (how_many bs) 1) (λ e. n (eqb-true (how_many bs) 1 e))))
+
+pub sole_one : (bs : List Bool) → how_many bs ≡ 1 → sole_place bs ≡ first_place bs
+sole_one bs h = ap (λ (b : Bool). cond b (first_place bs) 0) (eq-eqb (how_many bs) 1 h)
+
+-- what the sole place is
+pub sole_out : (bs : List Bool) → (sole_place bs ≡ 0 → ⊥) → is_only bs (sole_place bs) ≡ true
+sole_out bs n = elim (cases_Bool (eqb (how_many bs) 1)) [
+  | inl e ↦
+      let one : how_many bs ≡ 1 = eqb-true (how_many bs) 1 e in
+      subst (λ (s : ℕ). is_only bs s ≡ true) (sym (sole_one bs one)) (and_from (place_in bs (first_place bs)) (eqb (how_many bs) 1) (first_there bs (omega (arith, one))) e)
+  | inr e ↦ absurd (n (ap (λ (b : Bool). cond b (first_place bs) 0) e))
+]
+
+pub sole_in : (bs : List Bool) (s : ℕ) → is_only bs s ≡ true → s ≡ sole_place bs
+sole_in bs s h =
+    let p = and_parts (place_in bs s) (eqb (how_many bs) 1) h in
+    let one : how_many bs ≡ 1 = eqb-true (how_many bs) 1 p.1 in
+    one_there bs s (first_place bs) one p.0 (first_there bs (omega (arith, one))) ∙ sym (sole_one bs one)
 
 -- the set of one place has that place alone
 pub only_self : (s : ℕ) → 0 < s → place_in (only s) s ≡ true

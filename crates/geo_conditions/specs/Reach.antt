@@ -38,6 +38,16 @@ how_many (b ∷ bs) = count b + how_many bs
 abbrev pub is_only : List Bool → ℕ → Bool
 is_only places s = place_in places s && (how_many places == 1)
 
+-- the first place that is there, where one is
+abbrev pub first_place : List Bool → ℕ
+first_place [] = 0
+first_place (true ∷ bs) = 1
+first_place (false ∷ bs) = suc (first_place bs)
+
+-- the place that is there alone; 0 where none is there, or several are
+abbrev pub sole_place : List Bool → ℕ
+sole_place places = cond (how_many places == 1) (first_place places) 0
+
 -- the set of that place alone
 abbrev pub only : ℕ → List Bool
 only zero = []

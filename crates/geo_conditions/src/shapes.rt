@@ -1,5 +1,5 @@
-ghost use Rattle.std.specs.Prelude.{◌≡◌, ◌↔◌, ◌-◌, ◌≤◌, IsTrue, slice_set};
-ghost use Rattle.geo_conditions.specs.Reach.{place_in, is_only, first_places, count};
+ghost use Rattle.std.specs.Prelude.{◌≡◌, ◌≢◌, ◌↔◌, ℕ, ◌-◌, ◌≤◌, IsTrue, slice_set, true, length};
+ghost use Rattle.geo_conditions.specs.Reach.{place_in, is_only, first_places, count, how_many, sole_place};
 
 use super::object::MAX_SHAPES;
 use std::marker::Model;
@@ -9,28 +9,51 @@ use std::marker::Model;
 pub struct ShapeSet {
     there: [bool; MAX_SHAPES],
     // how many are there
-    count: usize,
+    count: u8,
+    // the place that is there alone, 0 where there is none or there are several
+    sole: u8,
 }
 
 impl Model for ShapeSet {
     ghost use Rattle.std.specs.Prelude.{List, Bool, ◌≡◌, length};
     ghost use Rattle.geo_conditions.specs.declared.object.TheConstants.{MAX_SHAPES};
-    ghost use Rattle.geo_conditions.specs.Reach.{how_many};
+    ghost use Rattle.geo_conditions.specs.Reach.{how_many, sole_place};
 
     ghost Value = { List Bool };
 
     ghost view = { λ s. s.there };
 
-    ghost invariant = { λ s. (length s.there ≡ MAX_SHAPES) × (s.count ≡ how_many s.there) };
+    ghost invariant = { λ s. (length s.there ≡ MAX_SHAPES) × (s.count ≡ how_many s.there)
+        × (s.sole ≡ sole_place s.there) };
 
-    ghost inverse = { λ l. record { there = l; count = how_many l } };
+    ghost inverse = { λ l. record {
+      there = l;
+      count = how_many l;
+      sole = sole_place l;
+    } };
 }
 
 // One for a place that is there.
-fn counted(there: bool) -> usize
+fn counted(there: bool) -> u8
     ensures { result ≡ count there }
 {
     if there { 1 } else { 0 }
+}
+
+// The place that is there alone, of so many that are there.
+fn sole_of(there: &[bool; MAX_SHAPES], count: u8) -> u8
+    requires { count ≡ how_many there.now }
+    ensures { result ≡ sole_place there.now }
+{
+    if count != 1 {
+        return 0;
+    }
+    for i in 0..MAX_SHAPES {
+        if there[i] {
+            return i as u8 + 1;
+        }
+    }
+    0
 }
 
 impl ShapeSet {
@@ -43,9 +66,11 @@ impl ShapeSet {
         for i in 0..n as usize {
             there[i] = true;
         }
+        let sole = sole_of(&there, n);
         ShapeSet {
             there,
-            count: n as usize,
+            count: n,
+            sole,
         }
     }
 
@@ -70,6 +95,14 @@ impl ShapeSet {
         self.count == 1 && self.has(place)
     }
 
+    /// The place that is left alone; 0 where none is left, or several are.
+    pub fn sole(&self) -> u8
+        ensures alone { result ≢ 0 → is_only self.now result ≡ true }
+        ensures only { (place : ℕ) → is_only self.now place ≡ true → place ≡ result }
+    {
+        self.sole
+    }
+
     /// Whether both sets have the same places.
     pub fn is_same(&self, other: &ShapeSet) -> bool
         ensures { IsTrue result ↔ (self.now ≡ other.now) }
@@ -85,5 +118,6 @@ impl ShapeSet {
         let i = (place - 1) as usize;
         self.count = self.count + counted(there) - counted(self.there[i]);
         self.there[i] = there;
+        self.sole = sole_of(&self.there, self.count);
     }
 }

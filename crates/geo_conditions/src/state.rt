@@ -1,4 +1,4 @@
-ghost use Rattle.std.specs.Prelude.{◌≡◌, ℕ, ◌+◌, ◌-◌, ◌<◌, ◌≤◌, length, List, [], ◌∷◌, ◌++◌, slice_set, IfOk, OnOk, OnErr, false};
+ghost use Rattle.std.specs.Prelude.{◌≡◌, ◌≢◌, ℕ, ◌+◌, ◌-◌, ◌<◌, ◌≤◌, length, List, [], ◌∷◌, ◌++◌, slice_set, IfOk, OnOk, OnErr, true, false};
 ghost use Rattle.geo_conditions.specs.Reach.{low, high, has, reach, place_in, is_only, dims, with_interval, with_low, with_high, with_place, with_places, without, first_places, IsState};
 ghost use Rattle.geo_conditions.specs.Regions.{region_of};
 
@@ -167,6 +167,18 @@ impl<const K: usize> State<K> {
     {
         let held = &self.objects[o.0 as usize];
         held.places.is_only(place)
+    }
+
+    /// The place that is left alone to the object; 0 where none is left, or several are.
+    pub fn sole_place(&self, o: ObjId) -> u8
+        requires k { K ≤ MAX_DIMS }
+        requires object { o.0 < length self.now }
+        ensures alone { result ≢ 0 → is_only (reach self.now o.0).places result ≡ true }
+        ensures only { (place : ℕ) → is_only (reach self.now o.0).places place ≡ true
+            → place ≡ result }
+    {
+        let held = &self.objects[o.0 as usize];
+        held.places.sole()
     }
 
     /// The numbers that are open to a coordinate of the object.

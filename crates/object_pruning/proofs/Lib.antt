@@ -6,3 +6,5 @@ pub mod Record
 pub mod LivePicks
 pub mod InRows
 pub mod Possible
+pub mod Runs
+pub mod RunPicks

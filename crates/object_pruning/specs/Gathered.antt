@@ -1,9 +1,10 @@
 -- Picks that are gathered for an object at a place: those whose conditions may be refuted there, in a region.
-use Rattle.std.specs.Prelude.{◌≡◌, ◌⊎◌, ℕ, true, ◌-◌, ◌<◌, ◌≤◌, List, length, slice_get, slice_index, Option, Some, Contains}
+use Rattle.std.specs.Prelude.{◌≡◌, ◌⊎◌, ℕ, true, ◌-◌, ◌<◌, ◌≤◌, List, length, slice_get, slice_index, Option, Some, Contains, IfSome, MatchOption}
 use Rattle.geo_base.specs.declared.kbox.KBox.{KBox}
 use Rattle.geo_conditions.specs.declared.cond.Cond.{Cond}
 use Rattle.geo_conditions.specs.Conditions.{possible}
-use Rattle.geo_conditions.specs.Reach.{State, Region}
+use Rattle.geo_conditions.specs.declared.object.ObjId.{ObjId}
+use Rattle.geo_conditions.specs.Reach.{State, Region, reach, is_only}
 use Rattle.geo_conditions.specs.Regions.{region_of}
 use Rattle.indexical.specs.declared.forbidden.ForbiddenPart.TheVariants.{Nothing}
 use Rattle.indexical.specs.Forbidden.{Forbids, IsForbiddenPart}
@@ -44,3 +45,7 @@ IsNumberPossible cs T i = (x : Cond) → slice_get cs (i - 1) ≡ Some x → pos
 -- so is what each of those numbers names
 abbrev pub AllPossible : List Cond → State → (ℕ → Type 0) → Type 0
 AllPossible cs T Those = (i : ℕ) → Those i → IsNumberPossible cs T i
+
+-- the place is the one that the other object has alone, or 0; it is told where there is another object
+abbrev pub IsSolePlace : State → Option ObjId → Option ℕ → Type 0
+IsSolePlace S other sole = IfSome sole (λ p. MatchOption other ⊥ (λ u. (q : ℕ) → is_only (reach S u.0).places q ≡ true → q ≡ p))

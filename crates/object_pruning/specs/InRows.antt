@@ -1,5 +1,5 @@
 -- The picks of an object in rows, by the places that their conditions ask for.
-use Rattle.std.specs.Prelude.{◌≡◌, ◌⊎◌, ℕ, zero, suc, ◌+◌, ◌-◌, ◌<◌, ◌≤◌, List, [], ◌∷◌, ◌++◌, length, slice_get, slice_index, slice_set, Some, Contains}
+use Rattle.std.specs.Prelude.{◌≡◌, ◌⊎◌, ℕ, ◌+◌, ◌-◌, ◌<◌, ◌≤◌, List, [], ◌∷◌, ◌++◌, length, slice_get, slice_index, slice_set, Some, Contains}
 use Rattle.std.specs.declared.vec.Vec.{Vec}
 use Rattle.std.specs.declared.alloc.Global.{Global}
 use Rattle.geo_conditions.specs.declared.object.TheConstants.{MAX_SHAPES}
@@ -9,16 +9,7 @@ use Rattle.indexical.specs.Faces.{Faces}
 use Rattle.sweep.specs.Picks.{ArePicks}
 use Rattle.object_pruning.specs.declared.rows.Group.{Group}
 use Rattle.object_pruning.specs.declared.rows.Rows.{Rows}
-
--- what the r-th row has; nothing past the last one
-abbrev pub row : {X : Type 0} → List (Vec X Global) → ℕ → List X
-row [] r = []
-row (v ∷ vs) zero = v.items
-row (v ∷ vs) (suc r) = row vs r
-
--- the number is one of the group's
-abbrev pub IsInGroup : Group → ℕ → Type 0
-IsInGroup g i = (g.first ≤ i) × (i ≤ g.last)
+pub use Rattle.object_pruning.specs.Runs.{row, IsInGroup}
 
 -- some group has the number
 abbrev pub HaveNumber : List Group → ℕ → Type 0
@@ -41,6 +32,10 @@ IsSomeGroup cs o g = (picks : List ℕ) × (r : ℕ) × ArePicks (length cs) pic
 -- so are the groups of row r
 abbrev pub AreGroups : List Cond → ℕ → List ℕ → ℕ → List Group → Type 0
 AreGroups cs o picks r gs = (k : ℕ) (g : Group) → slice_get gs k ≡ Some g → IsGroup cs o picks r g
+
+-- each group of the list is a group of some row
+abbrev pub AreSomeGroups : List Cond → ℕ → List Group → Type 0
+AreSomeGroups cs o gs = (k : ℕ) (g : Group) → slice_get gs k ≡ Some g → IsSomeGroup cs o g
 
 -- the rows of the first n picks
 pub record AreRowsBelow (cs : List Cond) (o : ℕ) (picks : List ℕ) (n : ℕ) (rows : List (Vec Group Global)) : Type 0 where

@@ -5,3 +5,4 @@ pub mod Kept
 pub mod Record
 pub mod Gathered
 pub mod InRows
+pub mod Runs

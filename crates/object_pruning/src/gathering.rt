@@ -1,16 +1,16 @@
 //! The conditions that may be refuted somewhere with an object at a place, gathered once for a sweep.
 
-ghost use Rattle.std.specs.Prelude.{◌≡◌, ◌≢◌, ℕ, ◌+◌, ◌-◌, ◌<◌, ◌≤◌, false, length, map, slice_get, slice_set, Some, IfNone, IfSome, IsTrue, MatchOption};
+ghost use Rattle.std.specs.Prelude.{◌≡◌, ◌≢◌, ℕ, ◌+◌, ◌-◌, ◌<◌, ◌≤◌, true, false, length, map, slice_get, slice_set, Some, IfNone, IfSome, IsTrue, MatchOption};
 ghost use Rattle.geo_base.specs.declared.kbox.KBox.{KBox};
 ghost use Rattle.geo_conditions.specs.Conditions.{AllFit};
 ghost use Rattle.geo_conditions.specs.Reach.{reach, is_only};
 ghost use Rattle.sweep.specs.Picks.{ArePicks};
 ghost use Rattle.geo_conditions.specs.Regions.{region_of};
-ghost use Rattle.object_pruning.specs.Gathered.{AreGathered, GoesOn, HoldParts};
-ghost use Rattle.object_pruning.specs.declared.rows.Group.{Group};
-ghost use Rattle.object_pruning.specs.InRows.{AreRows, HaveNumber, IsInGroup, IsSomeGroup};
+ghost use Rattle.object_pruning.specs.Gathered.{AreGathered, GoesOn, HoldParts, IsSolePlace};
+ghost use Rattle.object_pruning.specs.InRows.{AreRows, AreSomeGroups, HaveNumber, IsSomeGroup};
+ghost use Rattle.object_pruning.specs.Runs.{AreRuns, HaveBetween, IsInGroup, IsRun};
 
-use super::rows::{Group, Rows};
+use super::rows::{Group, Rows, Run};
 use geo_base::{KBox, MAX_DIMS};
 use geo_conditions::{ObjId, State};
 use indexical::{ForbiddenPart, Indexical};
@@ -121,6 +121,19 @@ fn gather_numbers<const K: usize, I: Indexical<K>>(
     Some(gathered)
 }
 
+/// The place that the other object has alone; 0 where it has none alone. None where there is no other object.
+#[inline(always)]
+pub fn sole_place_of<const K: usize>(s: &State<K>, other: Option<ObjId>) -> Option<u8>
+    requires k { K ≤ MAX_DIMS }
+    requires other { IfSome other (λ u. u.0 < length s.now) }
+    ensures { IsSolePlace s.now other result }
+{
+    match other {
+        Some(u) => Some(s.sole_place(u)),
+        None => None,
+    }
+}
+
 /// Whether the conditions of a group can be in the way: the other object has the place that is asked for alone.
 pub fn can_be_in_the_way<const K: usize>(s: &State<K>, group: &Group) -> bool
     requires k { K ≤ MAX_DIMS }
@@ -135,6 +148,18 @@ pub fn can_be_in_the_way<const K: usize>(s: &State<K>, group: &Group) -> bool
     }
 }
 
+// The same, where it is told which place the other object has alone.
+#[inline(always)]
+pub fn can_be_beside(group: &Group, sole: Option<u8>) -> bool
+    ensures { result ≡ false → MatchOption sole ⊥ (λ p.
+        (group.now.other_place ≢ 0) × (group.now.other_place ≢ p)) }
+{
+    match sole {
+        Some(place) => group.other_place == 0 || group.other_place == place,
+        None => true,
+    }
+}
+
 // The same for a group, of which nothing is gathered where its conditions cannot be in the way.
 fn gather_group<const K: usize, I: Indexical<K>>(
     s: &State<K>,
@@ -143,6 +168,7 @@ fn gather_group<const K: usize, I: Indexical<K>>(
     region: &KBox<K>,
     list: &[I],
     group: &Group,
+    sole: Option<u8>,
     live: &mut [u32],
     parts: &mut [Option<KBox<K>>],
     count: usize,
@@ -151,6 +177,7 @@ fn gather_group<const K: usize, I: Indexical<K>>(
     requires fits { AllFit (map I.cond list.now) s.now }
     requires object { o.0 < length s.now }
     requires group { IsSomeGroup (map I.cond list.now) o.0 group.now }
+    requires sole { IsSolePlace s.now group.now.other sole }
     requires room { count ≤ length live.old }
     requires parts { HoldParts K (map I.cond list.now) s.now o.0 place (region_of region.now)
         live.old parts.old }
@@ -159,20 +186,22 @@ fn gather_group<const K: usize, I: Indexical<K>>(
     ensures parts { HoldParts K (map I.cond list.now) s.now o.0 place (region_of region.now)
         live.new parts.new }
 {
-    if !can_be_in_the_way(s, group) {
+    if !can_be_beside(group, sole) {
         return Some(count);
     }
     gather_numbers(s, o, place, region, list, group, live, parts, count)
 }
 
-// The same for each group of a row.
-fn gather_row<const K: usize, I: Indexical<K>>(
+// The same for each group of a run.
+fn gather_groups<const K: usize, I: Indexical<K>>(
     s: &State<K>,
     o: ObjId,
     place: u8,
     region: &KBox<K>,
     list: &[I],
     groups: &[Group],
+    run: &Run,
+    sole: Option<u8>,
     live: &mut [u32],
     parts: &mut [Option<KBox<K>>],
     count: usize,
@@ -180,8 +209,92 @@ fn gather_row<const K: usize, I: Indexical<K>>(
     requires k { K ≤ MAX_DIMS }
     requires fits { AllFit (map I.cond list.now) s.now }
     requires object { o.0 < length s.now }
-    requires groups { (k : ℕ) (g : Group) → slice_get groups.now k ≡ Some g
-        → IsSomeGroup (map I.cond list.now) o.0 g }
+    requires groups { AreSomeGroups (map I.cond list.now) o.0 groups.now }
+    requires run { IsRun groups.now run.now.first run.now }
+    requires sole { IsSolePlace s.now run.now.other sole }
+    requires room { count ≤ length live.old }
+    requires parts { HoldParts K (map I.cond list.now) s.now o.0 place (region_of region.now)
+        live.old parts.old }
+    ensures goes { IfSome result (λ n. GoesOn K (map I.cond list.now) s.now o.0 place
+        (region_of region.now) (HaveBetween groups.now run.now.first run.now.end)
+        count live.old n live.new) }
+    ensures parts { HoldParts K (map I.cond list.now) s.now o.0 place (region_of region.now)
+        live.new parts.new }
+{
+    let mut gathered = count;
+    for k in run.first..run.end {
+        gathered = gather_group(
+            s, o, place, region, list, &groups[k], sole, live, parts, gathered,
+        )?;
+    }
+    Some(gathered)
+}
+
+// Whether no group of the run can be in the way: all ask for a place, and the other object has none alone.
+fn is_passed_over(run: &Run, sole: Option<u8>) -> bool
+    ensures asks { IsTrue result → run.now.asks ≡ true }
+    ensures sole { IsTrue result → sole ≡ Some 0 }
+{
+    match sole {
+        Some(place) => run.asks && place == 0,
+        None => false,
+    }
+}
+
+// The same. All groups are passed over at once where none can be in the way.
+fn gather_run<const K: usize, I: Indexical<K>>(
+    s: &State<K>,
+    o: ObjId,
+    place: u8,
+    region: &KBox<K>,
+    list: &[I],
+    groups: &[Group],
+    run: &Run,
+    live: &mut [u32],
+    parts: &mut [Option<KBox<K>>],
+    count: usize,
+) -> Option<usize>
+    requires k { K ≤ MAX_DIMS }
+    requires fits { AllFit (map I.cond list.now) s.now }
+    requires object { o.0 < length s.now }
+    requires groups { AreSomeGroups (map I.cond list.now) o.0 groups.now }
+    requires run { IsRun groups.now run.now.first run.now }
+    requires room { count ≤ length live.old }
+    requires parts { HoldParts K (map I.cond list.now) s.now o.0 place (region_of region.now)
+        live.old parts.old }
+    ensures goes { IfSome result (λ n. GoesOn K (map I.cond list.now) s.now o.0 place
+        (region_of region.now) (HaveBetween groups.now run.now.first run.now.end)
+        count live.old n live.new) }
+    ensures parts { HoldParts K (map I.cond list.now) s.now o.0 place (region_of region.now)
+        live.new parts.new }
+{
+    let sole = sole_place_of(s, run.other);
+    if is_passed_over(run, sole) {
+        return Some(count);
+    }
+    gather_groups(
+        s, o, place, region, list, groups, run, sole, live, parts, count,
+    )
+}
+
+// The same for each run of a row.
+fn gather_row<const K: usize, I: Indexical<K>>(
+    s: &State<K>,
+    o: ObjId,
+    place: u8,
+    region: &KBox<K>,
+    list: &[I],
+    groups: &[Group],
+    runs: &[Run],
+    live: &mut [u32],
+    parts: &mut [Option<KBox<K>>],
+    count: usize,
+) -> Option<usize>
+    requires k { K ≤ MAX_DIMS }
+    requires fits { AllFit (map I.cond list.now) s.now }
+    requires object { o.0 < length s.now }
+    requires groups { AreSomeGroups (map I.cond list.now) o.0 groups.now }
+    requires runs { AreRuns groups.now runs.now }
     requires room { count ≤ length live.old }
     requires parts { HoldParts K (map I.cond list.now) s.now o.0 place (region_of region.now)
         live.old parts.old }
@@ -191,8 +304,10 @@ fn gather_row<const K: usize, I: Indexical<K>>(
         live.new parts.new }
 {
     let mut gathered = count;
-    for k in 0..groups.len() {
-        gathered = gather_group(s, o, place, region, list, &groups[k], live, parts, gathered)?;
+    for j in 0..runs.len() {
+        gathered = gather_run(
+            s, o, place, region, list, groups, &runs[j], live, parts, gathered,
+        )?;
     }
     Some(gathered)
 }
@@ -223,14 +338,27 @@ fn gather_by_rows<const K: usize, I: Indexical<K>>(
     ensures parts { HoldParts K (map I.cond list.now) s.now o.0 place (region_of region.now)
         live.new parts.new }
 {
-    let count = gather_row(s, o, place, region, list, rows.row(0), live, parts, 0)?;
+    let count = gather_row(
+        s,
+        o,
+        place,
+        region,
+        list,
+        rows.row(0),
+        rows.runs(0),
+        live,
+        parts,
+        0,
+    )?;
+    let r = usize::from(place);
     gather_row(
         s,
         o,
         place,
         region,
         list,
-        rows.row(usize::from(place)),
+        rows.row(r),
+        rows.runs(r),
         live,
         parts,
         count,

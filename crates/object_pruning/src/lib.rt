@@ -12,11 +12,14 @@ mod outer_points;
 mod places;
 mod prune;
 mod region_sweep;
+mod row_making;
 mod rows;
+mod run_making;
 mod unrefuted;
 
 pub use gathering::can_be_in_the_way;
 pub use kept::{Placed, is_same_point, retry, slots};
 pub use prune::{Pruned, prune_kept, prune_object};
-pub use rows::{Group, Rows, rows_of};
+pub use row_making::rows_of;
+pub use rows::{Group, Rows, Run};
 pub use unrefuted::are_possible;

@@ -1,13 +1,9 @@
 //! The conditions that name an object, by the places that they ask for.
 
-ghost use Rattle.std.specs.Prelude.{◌≡◌, ◌≢◌, ℕ, ◌+◌, ◌-◌, ◌<◌, ◌≤◌, [], List, length, map, IfOk, IsTrue, OnOk};
-ghost use Rattle.geo_conditions.specs.declared.cond.Cond.{Cond};
-ghost use Rattle.sweep.specs.Picks.{ArePicks};
-ghost use Rattle.object_pruning.specs.InRows.{AreRows, AreRowsBelow, PutsNumber, row};
+ghost use Rattle.std.specs.Prelude.{◌≡◌, ℕ};
+ghost use Rattle.object_pruning.specs.Runs.{AreRuns, row};
 
-use geo_conditions::{MAX_SHAPES, ObjId};
-use indexical::{AnyIndexical, Facing};
-use std::alloc::{AllocError, Global};
+use geo_conditions::ObjId;
 
 /// Neighbours in a list of conditions that ask for the same places.
 #[derive(Clone, Copy)]
@@ -22,10 +18,26 @@ pub struct Group {
     pub last: u32,
 }
 
+/// Neighbours in a row of groups that have the same other object.
+#[derive(Clone, Copy)]
+pub struct Run {
+    /// The other object, where the groups have one.
+    pub other: Option<ObjId>,
+    /// Whether each of the groups asks for a place of it; else none does.
+    pub asks: bool,
+    /// The first group, from 0.
+    pub first: usize,
+    /// The group behind the last one.
+    pub end: usize,
+}
+
 /// The conditions that name an object, in rows: first those that ask for no place of it, and then, place by place, those that ask for it.
 #[derive(Drop)]
 pub struct Rows {
     pub rows: Vec<Vec<Group>>,
+    /// The runs of the groups of each row.
+    pub runs: Vec<Vec<Run>>,
+    ghost in_runs: { (r : ℕ) → AreRuns (row rows.items r) (row runs.items r) },
 }
 
 impl Rows {
@@ -40,110 +52,16 @@ impl Rows {
             &[]
         }
     }
-}
 
-fn is_same_object(a: Option<ObjId>, b: Option<ObjId>) -> bool
-    ensures { IsTrue result → a ≡ b }
-{
-    match (a, b) {
-        (Some(u), Some(v)) => u.0 == v.0,
-        (None, None) => true,
-        _ => false,
-    }
-}
-
-// Whether the number comes next in the group, and its condition asks for the same places.
-fn goes_on(group: &Group, number: u32, facing: &Facing) -> bool
-    requires { 0 < number }
-    ensures number { IsTrue result → group.now.last + 1 ≡ number }
-    ensures other { IsTrue result → group.now.other ≡ facing.now.other }
-    ensures place { IsTrue result → group.now.other_place ≡ facing.now.other_place }
-{
-    group.last == number - 1
-        && group.other_place == facing.other_place
-        && is_same_object(group.other, facing.other)
-}
-
-// Puts a number behind the others of a row: into the last group, where it goes on, or else into a group of its own.
-fn put_number(groups: &mut Vec<Group>, number: u32, facing: &Facing) -> Result<(), AllocError>
-    requires { 0 < number }
-    ensures { OnOk result (PutsNumber facing.now number groups.old.items groups.new.items) }
-{
-    let n = groups.len();
-    if n > 0 {
-        let group = groups[n - 1];
-        if goes_on(&group, number, facing) {
-            groups[n - 1] = Group {
-                last: number,
-                ..group
-            };
-            return Ok(());
+    /// The runs of those groups.
+    pub fn runs(&self, r: usize) -> &[Run]
+        ensures { AreRuns (row self.now.rows.items r) result.now }
+    {
+        let runs = self.runs.as_slice();
+        if r < runs.len() {
+            runs[r].as_slice()
+        } else {
+            &[]
         }
     }
-    groups.push(Group {
-        other: facing.other,
-        other_place: facing.other_place,
-        first: number,
-        last: number,
-    })?;
-    Ok(())
-}
-
-// The row of a condition that asks for these places.
-fn row_of(facing: &Facing) -> usize
-    ensures below { result ≤ MAX_SHAPES }
-    ensures place { result ≢ 0 → result ≡ facing.now.place }
-{
-    let place = usize::from(facing.place);
-    if place <= MAX_SHAPES { place } else { 0 }
-}
-
-// Rows without a group.
-fn empty_rows(alloc: Global) -> Result<Vec<Vec<Group>>, AllocError>
-    ensures { IfOk result (λ v.
-        (length v.items ≡ MAX_SHAPES + 1) × ((r : ℕ) → row v.items r ≡ [])) }
-{
-    let mut rows = Vec::new(alloc);
-    for _ in 0..MAX_SHAPES + 1 {
-        rows.push(Vec::new(alloc))?;
-    }
-    Ok(rows)
-}
-
-// Puts the k-th pick into its row.
-fn put_pick<const K: usize>(
-    list: &[AnyIndexical<K>],
-    picks: &[u32],
-    o: ObjId,
-    k: usize,
-    rows: &mut [Vec<Group>],
-) -> Result<(), AllocError>
-    requires picks { ArePicks (length list.now) picks.now }
-    requires pick { k < length picks.now }
-    requires below { AreRowsBelow (map (λ x. x.cond) list.now) o.0 picks.now k rows.old }
-    ensures { OnOk result
-        (AreRowsBelow (map (λ x. x.cond) list.now) o.0 picks.now (k + 1) rows.new) }
-{
-    let number = picks[k];
-    let facing = list[number as usize - 1].facing(o);
-    let groups = &mut rows[row_of(&facing)];
-    put_number(groups, number, &facing)
-}
-
-/// The picked conditions in rows, by what they ask of places before they can be in the object's way. The answer is an error
-/// where memory runs out.
-pub fn rows_of<const K: usize>(
-    alloc: Global,
-    list: &[AnyIndexical<K>],
-    picks: &[u32],
-    o: ObjId,
-) -> Result<Rows, AllocError>
-    requires { ArePicks (length list.now) picks.now }
-    ensures { IfOk result (AreRows (map (λ x. x.cond) list.now) o.0 picks.now) }
-{
-    let mut rows = empty_rows(alloc)?;
-    for k in 0..picks.len() {
-        put_pick(list, picks, o, k, &mut rows)?;
-    }
-    Ok(Rows { rows })
 }

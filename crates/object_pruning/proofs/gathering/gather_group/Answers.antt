@@ -1,24 +1,19 @@
 use Rattle.std.proofs.Common.{ℕ, ◌-◌, ◌<◌, length, map, subst, rules}
-use Rattle.std.specs.Prelude.{IfSome}
 use Rattle.std.proofs.lemmas.List.{length-map}
-use Rattle.object_pruning.specs.InRows.{IsInGroup}
-use Rattle.object_pruning.proofs.LivePicks.{group_number, group_fits, group_spared, goes_past}
+use Rattle.object_pruning.specs.Runs.{IsInGroup}
+use Rattle.object_pruning.proofs.LivePicks.{group_number, group_spared, goes_past}
+use Rattle.object_pruning.proofs.RunPicks.{sole_free}
 use Rattle.geo_conditions.specs.Regions.{region_of}
 use Rattle.object_pruning.proofs.gathering.gather_group.Goals as goal
-
-pub can_be_in_the_way-requires : goal.can_be_in_the_way-requires
-can_be_in_the_way-requires g c =
-    let there : IfSome c.args.group.now.other (λ u. u.0 < length c.args.s.now) = group_fits (map g.I.Indexical.cond c.args.list.now) c.args.s.now c.args.o.0 c.requires.fits c.requires.object c.args.group.now c.requires.group in
-    search rules
 
 pub gather_numbers-requires : goal.gather_numbers-requires
 gather_numbers-requires g c =
     let numbers : (i : ℕ) → IsInGroup c.args.group.now i → (0 < i) × (i - 1 < length c.args.list.now) = λ i b. subst (λ (n : ℕ). (0 < i) × (i - 1 < n)) (length-map c.args.list.now g.I.Indexical.cond) (group_number (map g.I.Indexical.cond c.args.list.now) c.args.s.now c.args.o.0 c.requires.fits c.requires.object c.args.group.now c.requires.group i b) in
     search rules
 
-pub returns-then-not-can_be_in_the_way-clause-goes : goal.returns-then-not-can_be_in_the_way-clause-goes
-returns-then-not-can_be_in_the_way-clause-goes g c =
+pub returns-then-not-can_be_beside-clause-goes : goal.returns-then-not-can_be_beside-clause-goes
+returns-then-not-can_be_beside-clause-goes g c =
     let cs = map g.I.Indexical.cond c.args.list.now in
     let group = c.args.group.now in
     goes_past g.row.K cs c.args.s.now c.args.o.0 c.args.place (region_of c.args.region.now) (IsInGroup group) c.args.count c.args.live.now c.requires.room
-    (group_spared cs c.args.s.now c.args.o.0 c.requires.fits c.requires.object g.row.K c.args.place (region_of c.args.region.now) group c.requires.group (c.can_be_in_the_way.ensures c.if-not-can_be_in_the_way.true))
+    (group_spared cs c.args.s.now c.args.o.0 c.requires.fits c.requires.object g.row.K c.args.place (region_of c.args.region.now) group c.requires.group (sole_free c.args.s.now group.other group.other_place c.args.sole c.requires.sole (c.can_be_beside.ensures c.if-not-can_be_beside.true)))

@@ -1,29 +1,49 @@
-use Rattle.std.proofs.Common.{map, get_or, arith, rules}
+use Rattle.std.proofs.Common.{◌≡◌, ◌+◌, suc, length, map, get_or, arith, ap, sym, ◌∙◌, subst, rules, Some}
+use Rattle.std.specs.Prelude.{slice_get}
 use Rattle.std.proofs.lemmas.Option.{slice_get-get_or, slice_get_within}
-use Rattle.object_pruning.specs.declared.rows.Group.{Group}
-use Rattle.object_pruning.specs.InRows.{HaveNumber, IsSomeGroup}
-use Rattle.object_pruning.proofs.LivePicks.{HaveBelow, goes_as, goes_group}
+use Rattle.object_pruning.specs.declared.rows.Run.{Run}
+use Rattle.object_pruning.specs.InRows.{HaveNumber}
+use Rattle.object_pruning.specs.Runs.{HaveBetween, IsRun, start_at}
+use Rattle.object_pruning.proofs.LivePicks.{goes_as}
+use Rattle.object_pruning.proofs.RunPicks.{goes_run, start_next}
 use Rattle.geo_conditions.specs.Regions.{region_of}
 use Rattle.object_pruning.proofs.gathering.gather_row.Goals as goal
 
-pub gather_group-requires : goal.gather_group-requires
-gather_group-requires g c =
-    let gs = c.args.groups.now in
-    let some : (d : Group) → IsSomeGroup (map g.I.Indexical.cond c.args.list.now) c.args.o.0 (get_or gs c.loop-k.k d) = λ d. c.requires.groups c.loop-k.k (get_or gs c.loop-k.k d) (slice_get-get_or gs c.loop-k.k d c.loop-k-test.true) in
+pub gather_run-requires : goal.gather_run-requires
+gather_run-requires g c =
+    let runs = c.args.runs.now in
+    let j = c.loop-j.j in
+    let run : (d : Run) → IsRun c.args.groups.now (get_or runs j d).first (get_or runs j d) = λ d.
+    let is = c.requires.runs.each j (get_or runs j d) (slice_get-get_or runs j d c.loop-j-test.true) in
+    subst (λ n. IsRun c.args.groups.now n (get_or runs j d)) (sym is.first) is in
     search rules
 
-pub loop-k-preserved : goal.loop-k-preserved
-loop-k-preserved g c = record {
-  parts = c.in_ok-gathered.ensures.parts;
-  goes =
-      goes_group g.row.K (map g.I.Indexical.cond c.args.list.now) c.args.s.now c.args.o.0 c.args.place (region_of c.args.region.now) c.args.groups.now c.loop-k.k _ c.args.count c.loop-k.gathered c.in_ok-gathered.gathered c.args.live.now c.loop-k.live c.gather_group.new.live c.loop-k-test.true c.loop-k.invariant.goes c.in_ok-gathered.ensures.goes;
-}
+pub loop-j-preserved : goal.loop-j-preserved
+loop-j-preserved g c =
+    let runs = c.args.runs.now in
+    let j = c.loop-j.j in
+    let after : j + 1 ≡ suc j = omega arith in
+    let run = get_or runs j _ in
+    let at : slice_get runs j ≡ Some run = slice_get-get_or runs j _ c.loop-j-test.true in
+    let next : start_at 0 runs (j + 1) ≡ run.end = ap (start_at 0 runs) after ∙ start_next 0 j runs run at in
+    record {
+      parts = c.in_ok-gathered.ensures.parts;
+      goes =
+          goes_run g.row.K (map g.I.Indexical.cond c.args.list.now) c.args.s.now c.args.o.0 c.args.place (region_of c.args.region.now) c.args.groups.now (start_at 0 runs j) (start_at 0 runs (j + 1)) c.args.count c.loop-j.gathered c.in_ok-gathered.gathered run c.args.live.now c.loop-j.live c.gather_run.new.live
+          (c.requires.runs.each j run at)
+          next
+          c.loop-j.invariant.goes
+          c.in_ok-gathered.ensures.goes;
+    }
 
 pub returns-clause-goes : goal.returns-clause-goes
 returns-clause-goes g c =
     let gs = c.args.groups.now in
-    let k = c.loop-k.k in
-    goes_as g.row.K (map g.I.Indexical.cond c.args.list.now) c.args.s.now c.args.o.0 c.args.place (region_of c.args.region.now) (HaveBelow gs k) (HaveNumber gs) c.args.count c.loop-k.gathered c.args.live.now c.loop-k.live
-    (λ i p. (p.0, p.1, p.3, p.4))
-    (λ i q. (q.0, q.1, omega (arith, slice_get_within gs q.0 q.1 q.2, c.loop-k-test.false), q.2, q.3))
-    c.loop-k.invariant.goes
+    let runs = c.args.runs.now in
+    let j = c.loop-j.j in
+    let all : j ≡ length runs = omega (arith, c.loop-j-test.false, c.loop-j.auto.j-end) in
+    let end : start_at 0 runs j ≡ length gs = ap (start_at 0 runs) all ∙ c.requires.runs.whole in
+    goes_as g.row.K (map g.I.Indexical.cond c.args.list.now) c.args.s.now c.args.o.0 c.args.place (region_of c.args.region.now) (HaveBetween gs 0 (start_at 0 runs j)) (HaveNumber gs) c.args.count c.loop-j.gathered c.args.live.now c.loop-j.live
+    (λ i p. (p.0, p.1, p.4, p.5))
+    (λ i q. (q.0, q.1, omega arith, omega (arith, slice_get_within gs q.0 q.1 q.2, end), q.2, q.3))
+    c.loop-j.invariant.goes

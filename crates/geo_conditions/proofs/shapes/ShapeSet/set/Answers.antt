@@ -18,4 +18,12 @@ invariant_of-self c =
     let l : i < length bs = omega (arith, c.self.invariant.0, c.requires.0, c.requires.1) in (
       length-set bs i c.args.there ∙ c.self.invariant.0,
       omega (arith, c.self.invariant.1, counted_at bs i, counted_set bs i c.args.there l, c.counted.ensures, c.counted-2.ensures),
+      c.sole_of-self-inside.ensures,
     )
+
+pub sole_of-self-inside-requires : goal.sole_of-self-inside-requires
+sole_of-self-inside-requires c =
+    let bs = c.self.inside.there in
+    let i = c.args.place - 1 in
+    let l : i < length bs = omega (arith, c.self.invariant.0, c.requires.0, c.requires.1) in
+    omega (arith, c.self.invariant.1, counted_at bs i, counted_set bs i c.args.there l, c.counted.ensures, c.counted-2.ensures)

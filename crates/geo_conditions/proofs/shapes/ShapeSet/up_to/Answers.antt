@@ -11,5 +11,14 @@ loop-i-preserved c = flags_more 16 c.loop-i.i c.loop-i.there (omega arith) c.loo
 pub invariant_of-result : goal.invariant_of-result
 invariant_of-result c =
     let i = c.loop-i.i in
+    let end : c.args.n ≡ i = omega (arith, c.loop-i-test.false, c.loop-i.auto.i-end) in (
+      ap length c.loop-i.invariant ∙ flags_length 16 i (omega (arith, c.requires)),
+      end ∙ sym (ap how_many c.loop-i.invariant ∙ counted_first i (MAX_SHAPES - i)),
+      c.sole_of-sole.ensures,
+    )
+
+pub sole_of-sole-requires : goal.sole_of-sole-requires
+sole_of-sole-requires c =
+    let i = c.loop-i.i in
     let end : c.args.n ≡ i = omega (arith, c.loop-i-test.false, c.loop-i.auto.i-end) in
-    (ap length c.loop-i.invariant ∙ flags_length 16 i (omega (arith, c.requires)), end ∙ sym (ap how_many c.loop-i.invariant ∙ counted_first i (MAX_SHAPES - i)))
+    end ∙ sym (ap how_many c.loop-i.invariant ∙ counted_first i (MAX_SHAPES - i))

@@ -4,7 +4,7 @@ use Rattle.std.specs.declared.alloc.Global.{Global}
 use Rattle.object_pruning.specs.declared.rows.Group.{Group}
 use Rattle.object_pruning.specs.InRows.{row}
 use Rattle.object_pruning.proofs.InRows.{row_empty, length_more}
-use Rattle.object_pruning.proofs.rows.empty_rows.Goals as goal
+use Rattle.object_pruning.proofs.row_making.empty_rows.Goals as goal
 
 pub loop-preserved : goal.loop-preserved
 loop-preserved c =

@@ -7,7 +7,7 @@ use Rattle.sweep.proofs.PickedConditions.{picks-map, one_pick}
 use Rattle.object_pruning.specs.declared.rows.Group.{Group}
 use Rattle.object_pruning.specs.InRows.{row, IsGroup, PutsNumber, group_of}
 use Rattle.object_pruning.proofs.InRows.{row_get, single_group, rows_more, on_ok}
-use Rattle.object_pruning.proofs.rows.put_pick.Goals as goal
+use Rattle.object_pruning.proofs.row_making.put_pick.Goals as goal
 
 pub returns : goal.returns
 returns g c =
