@@ -1,10 +1,11 @@
 -- Kept points are asked again by the conditions of marked objects.
 use Rattle.std.proofs.Common.{◌≡◌, ◌≢◌, ◌⊎◌, ℕ, ◌+◌, ◌-◌, ◌<◌, ◌≤◌, Bool, true, false, List, length, set, get_or, slice_index, refl, sym, ap, ◌∙◌, subst, inl, inr, arith, Some, None, Option, Vec, Global, []}
 use Rattle.std.specs.Prelude.{slice_get, MatchOption}
-use Rattle.std.proofs.lemmas.Bool.{cases_eq, cases_lt}
+use Rattle.std.proofs.lemmas.Bool.{cases_eq, cases_lt, false_from_ne_true}
 use Rattle.std.proofs.lemmas.List.{get_or_past, get_or-set_same, get_or-set_other}
 use Rattle.std.proofs.lemmas.Option.{same_Some, slice_get-get_or, slice_get_within}
 use Rattle.geo_conditions.specs.declared.cond.Cond.{Cond}
+use Rattle.geo_conditions.specs.declared.object.ObjId.{ObjId}
 use Rattle.geo_conditions.specs.Conditions.{possible, AllFit}
 use Rattle.geo_conditions.specs.Reach.{State, is_only, reach}
 use Rattle.indexical.specs.Names.{names}
@@ -52,6 +53,15 @@ has_past lists u i h w = none w.0 w.1 (subst (λ (bs : List RowGroup). slice_get
   where
     none : (k : ℕ) (b : RowGroup) → slice_get [] k ≡ Some b → ⊥
     none k b e = cc
+
+-- where a group asks for another place of u than the sole one, u has not that place alone
+pub spared_by_sole : (S : State) (other : Option ObjId) (u place sole : ℕ) → ((p : ℕ) → is_only (reach S u).places p ≡ true → p ≡ sole) → MatchOption other ⊥ (λ v. (v.0 ≡ u) × (place ≢ 0) × (place ≢ sole))
+    → MatchOption other ⊥ (λ v. (place ≢ 0) × (is_only (reach S v.0).places place ≡ false))
+spared_by_sole S None u place sole alone m = absurd m
+spared_by_sole S (Some v) u place sole alone m = (
+  m.1,
+  subst (λ (n : ℕ). is_only (reach S n).places place ≡ false) (sym m.0) (false_from_ne_true (is_only (reach S u).places place) (λ h. m.2 (alone place h))),
+)
 
 module _ {K : ℕ} (cs : List Cond) (S : State) (o : ℕ) where
   -- ---- the slots

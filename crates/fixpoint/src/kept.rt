@@ -1,8 +1,9 @@
 //! Points that are kept of the objects, and asked again where something changed.
 
-ghost use Rattle.std.specs.Prelude.{◌≡◌, ℕ, ◌-◌, ◌<◌, ◌≤◌, Bool, false, List, None, Some, length, map, slice_get, slice_index_or, IfOk, IsTrue};
+ghost use Rattle.std.specs.Prelude.{◌≡◌, ◌≢◌, ℕ, ◌-◌, ◌<◌, ◌≤◌, Bool, true, false, List, None, Some, length, map, slice_get, slice_index_or, IfOk, IsTrue, MatchOption};
 ghost use Rattle.std.specs.List.{All, list_any};
 ghost use Rattle.geo_conditions.specs.Conditions.{AllFit, FitsIn};
+ghost use Rattle.geo_conditions.specs.Reach.{reach, is_only};
 ghost use Rattle.object_pruning.specs.Kept.{retried};
 ghost use Rattle.object_pruning.specs.InRows.{IsInGroup};
 ghost use Rattle.fixpoint.specs.Links.{AreLinks, NamedBy};
@@ -16,7 +17,7 @@ use super::pairs::{Pairs, RowGroup};
 use geo_base::MAX_DIMS;
 use geo_conditions::{ObjId, State};
 use indexical::{AnyIndexical, Watched};
-use object_pruning::{Group, Placed, are_possible, can_be_in_the_way, is_same_point, retry, slots};
+use object_pruning::{Group, Placed, are_possible, is_same_point, retry, slots};
 use std::alloc::{AllocError, Global};
 
 /// The slots of an object, with nothing kept. The answer is an error where memory is short.
@@ -255,46 +256,66 @@ fn ask_slots<const K: usize>(
     }
 }
 
+// Whether the conditions of a group can be in the way, where that is the place which u has alone, or 0.
+#[inline(always)]
+fn can_be_in_the_way(group: &Group, u: ObjId, sole: u8) -> bool
+    ensures { result ≡ false → MatchOption group.now.other ⊥ (λ v. (v.0 ≡ u.0)
+        × (group.now.other_place ≢ 0) × (group.now.other_place ≢ sole)) }
+{
+    match group.other {
+        Some(v) => group.other_place == 0 || group.other_place == sole || v.0 != u.0,
+        None => true,
+    }
+}
+
 // The same, of which nothing is asked where the conditions cannot be in the way.
 fn ask_group<const K: usize>(
     list: &[AnyIndexical<K>],
     b: &RowGroup,
     o: ObjId,
+    u: ObjId,
+    sole: u8,
     s: &State<K>,
     kept: &mut [Option<Placed<K>>],
 )
     requires k { K ≤ MAX_DIMS }
     requires fits { AllFit (map (λ x. x.cond) list.now) s.now }
     requires object { o.0 < length s.now }
+    requires sole { (place : ℕ) → is_only (reach s.now u.0).places place ≡ true
+        → place ≡ sole }
     requires group { IsGroupOf (map (λ x. x.cond) list.now) o.0 b.now.row b.now.group }
     ensures { (marks : List Bool) → RetriesThose (map (λ x. x.cond) list.now) s.now o.0 marks
         (IsInGroup b.now.group) kept.old kept.new }
 {
-    if !can_be_in_the_way(s, &b.group) {
+    if !can_be_in_the_way(&b.group, u, sole) {
         return;
     }
     ask_slots(list, b.row, &b.group, o, s, kept);
 }
 
-// The same for each of the groups.
+// The same for each of the groups, which mostly name u.
 #[inline(never)]
 fn ask_groups<const K: usize>(
     list: &[AnyIndexical<K>],
     groups: &[RowGroup],
     o: ObjId,
+    u: usize,
     s: &State<K>,
     kept: &mut [Option<Placed<K>>],
 )
     requires k { K ≤ MAX_DIMS }
     requires fits { AllFit (map (λ x. x.cond) list.now) s.now }
-    requires object { o.0 < length s.now }
+    requires object { (o.0 < length s.now) × (u < length s.now) }
     requires groups { (k : ℕ) (b : RowGroup) → slice_get groups.now k ≡ Some b
         → IsGroupOf (map (λ x. x.cond) list.now) o.0 b.row b.group }
     ensures { (marks : List Bool) → RetriesThose (map (λ x. x.cond) list.now) s.now o.0 marks
         (HaveIn groups.now) kept.old kept.new }
 {
+    let _objects = s.objects();
+    let neighbour = ObjId(u as u16);
+    let sole = s.sole_place(neighbour);
     for k in 0..groups.len() {
-        ask_group(list, &groups[k], o, s, kept);
+        ask_group(list, &groups[k], o, neighbour, sole, s, kept);
     }
 }
 
@@ -314,7 +335,7 @@ fn ask_all<const K: usize>(
         (HaveBeside pairs.now.beside.items) kept.old kept.new }
 {
     for u in 0..pairs.beside.len() {
-        ask_groups(list, &pairs.beside[u], o, s, kept);
+        ask_groups(list, &pairs.beside[u], o, u, s, kept);
     }
 }
 
@@ -337,7 +358,7 @@ fn ask_marked<const K: usize>(
 {
     for u in 0..pairs.beside.len() {
         if marks[u] {
-            ask_groups(list, &pairs.beside[u], o, s, kept);
+            ask_groups(list, &pairs.beside[u], o, u, s, kept);
         }
     }
 }

@@ -14,7 +14,7 @@ ghost use Rattle.fixpoint.specs.Queue.{Queues};
 
 use super::links::Links;
 use geo_base::MAX_DIMS;
-use geo_conditions::{MAX_SHAPES, ObjId, State};
+use geo_conditions::{ObjId, State};
 use indexical::AnyIndexical;
 use object_pruning::{Group, Rows};
 use std::alloc::{AllocError, Global};
@@ -245,18 +245,8 @@ fn only_place<const K: usize>(s: &State<K>, u: ObjId) -> Option<u8>
     requires object { u.0 < length s.now }
     ensures { (r : ℕ) → is_only (reach s.now u.0).places r ≡ true → result ≡ Some r }
 {
-    let places = s.places(u);
-    for i in 0..MAX_SHAPES {
-        let place = i as u8 + 1;
-        if places.has(place) {
-            return if places.is_only(place) {
-                Some(place)
-            } else {
-                None
-            };
-        }
-    }
-    None
+    let place = s.sole_place(u);
+    if place == 0 { None } else { Some(place) }
 }
 
 // The same for the conditions that ask for a place of u: where u has not that place alone, they leave the others free.

@@ -9,10 +9,12 @@ use Rattle.geo_conditions.specs.Conditions.{AllFit}
 use Rattle.geo_conditions.specs.Reach.{State, Region, reach, is_only}
 use Rattle.object_pruning.specs.declared.rows.Group.{Group}
 use Rattle.object_pruning.specs.declared.rows.Run.{Run}
-use Rattle.object_pruning.specs.Gathered.{GoesOn, IsNumberSpared, IsSolePlace}
+use Rattle.object_pruning.specs.declared.kept.Placed.{Placed}
+use Rattle.object_pruning.specs.Kept.{placed}
+use Rattle.object_pruning.specs.Gathered.{AllPossible, GoesOn, IsNumberSpared, IsSolePlace}
 use Rattle.object_pruning.specs.InRows.{AreSomeGroups}
 use Rattle.object_pruning.specs.Runs.{HaveBetween, IsInGroup, IsRun, start_at}
-use Rattle.object_pruning.proofs.LivePicks.{goes_both, group_fits, group_spared}
+use Rattle.object_pruning.proofs.LivePicks.{goes_both, group_fits, group_free, group_spared}
 
 -- where the place that is asked for is not the sole one, the other object has not that alone
 pub sole_free : (S : State) (other : Option ObjId) (place : ℕ) (sole : Option ℕ) → IsSolePlace S other sole → MatchOption sole ⊥ (λ p. (place ≢ 0) × (place ≢ p)) → MatchOption other ⊥ (λ u. (place ≢ 0) × (is_only (reach S u.0).places place ≡ false))
@@ -28,12 +30,21 @@ module _ (cs : List Cond) (S : State) (o : ℕ) (fits : AllFit cs S) (here : o <
     | inr w ↦ absurd (omega (arith, is.some, is.within, w.0))
   ]
 
-  -- where all groups ask for a place, and the other object has none alone, the conditions are spared
-  pub run_spared : (K s : ℕ) (b : Region) (sole : Option ℕ) → run.asks ≡ true → sole ≡ Some 0 → IsSolePlace S run.other sole → (i : ℕ) → HaveBetween gs run.first run.end i → IsNumberSpared K cs S o s b i
-  run_spared K s b sole asks none alone i w =
-      let place = is.asks w.0 w.1 w.2 w.3 w.4 asks in
-      let of_group : IsSolePlace S w.1.other (Some 0) = subst (λ (u : Option ObjId). IsSolePlace S u (Some 0)) (sym (is.other w.0 w.1 w.2 w.3 w.4)) (subst (IsSolePlace S run.other) none alone) in
-      group_spared cs S o fits here K s b w.1 (some w.0 w.1 w.4) (sole_free S w.1.other w.1.other_place (Some 0) of_group (place, place)) i w.5
+  module _ (sole : Option ℕ) (asks : run.asks ≡ true) (none : sole ≡ Some 0) (alone : IsSolePlace S run.other sole) where
+    -- where all groups ask for a place, and the other object has none alone, it has not that of a group alone
+    passed : (i : ℕ) (w : HaveBetween gs run.first run.end i) → MatchOption w.1.other ⊥ (λ u. (w.1.other_place ≢ 0) × (is_only (reach S u.0).places w.1.other_place ≡ false))
+    passed i w =
+        let place = is.asks w.0 w.1 w.2 w.3 w.4 asks in
+        let of_group : IsSolePlace S w.1.other (Some 0) = subst (λ (u : Option ObjId). IsSolePlace S u (Some 0)) (sym (is.other w.0 w.1 w.2 w.3 w.4)) (subst (IsSolePlace S run.other) none alone) in
+        sole_free S w.1.other w.1.other_place (Some 0) of_group (place, place)
+
+    -- so the conditions are spared
+    pub run_spared : (K s : ℕ) (b : Region) (i : ℕ) → HaveBetween gs run.first run.end i → IsNumberSpared K cs S o s b i
+    run_spared K s b i w = group_spared cs S o fits here K s b w.1 (some w.0 w.1 w.4) (passed i w) i w.5
+
+    -- and possible
+    pub run_free : {K : ℕ} (q : Placed K) → AllPossible cs (placed S o q) (HaveBetween gs run.first run.end)
+    run_free q i w x e = group_free cs S o fits here w.1 (some w.0 w.1 w.4) (passed i w) i x w.5 e q.place q.point.coordinates
 
 -- where the next run begins
 pub start_next : (from j : ℕ) (runs : List Run) (run : Run) → slice_get runs j ≡ Some run → start_at from runs (suc j) ≡ run.end

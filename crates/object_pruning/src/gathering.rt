@@ -3,7 +3,6 @@
 ghost use Rattle.std.specs.Prelude.{◌≡◌, ◌≢◌, ℕ, ◌+◌, ◌-◌, ◌<◌, ◌≤◌, true, false, length, map, slice_get, slice_set, Some, IfNone, IfSome, IsTrue, MatchOption};
 ghost use Rattle.geo_base.specs.declared.kbox.KBox.{KBox};
 ghost use Rattle.geo_conditions.specs.Conditions.{AllFit};
-ghost use Rattle.geo_conditions.specs.Reach.{reach, is_only};
 ghost use Rattle.sweep.specs.Picks.{ArePicks};
 ghost use Rattle.geo_conditions.specs.Regions.{region_of};
 ghost use Rattle.object_pruning.specs.Gathered.{AreGathered, GoesOn, HoldParts, IsSolePlace};
@@ -134,23 +133,9 @@ pub fn sole_place_of<const K: usize>(s: &State<K>, other: Option<ObjId>) -> Opti
     }
 }
 
-/// Whether the conditions of a group can be in the way: the other object has the place that is asked for alone.
-pub fn can_be_in_the_way<const K: usize>(s: &State<K>, group: &Group) -> bool
-    requires k { K ≤ MAX_DIMS }
-    requires other { IfSome group.now.other (λ u. u.0 < length s.now) }
-    ensures { result ≡ false → MatchOption group.now.other ⊥ (λ u.
-        (group.now.other_place ≢ 0)
-        × (is_only (reach s.now u.0).places group.now.other_place ≡ false)) }
-{
-    match group.other {
-        Some(u) => group.other_place == 0 || s.is_only_shape(u, group.other_place),
-        None => true,
-    }
-}
-
-// The same, where it is told which place the other object has alone.
+/// Whether the conditions of a group can be in the way, where it is told which place the other object has alone.
 #[inline(always)]
-pub fn can_be_beside(group: &Group, sole: Option<u8>) -> bool
+pub fn can_be_in_the_way(group: &Group, sole: Option<u8>) -> bool
     ensures { result ≡ false → MatchOption sole ⊥ (λ p.
         (group.now.other_place ≢ 0) × (group.now.other_place ≢ p)) }
 {
@@ -186,7 +171,7 @@ fn gather_group<const K: usize, I: Indexical<K>>(
     ensures parts { HoldParts K (map I.cond list.now) s.now o.0 place (region_of region.now)
         live.new parts.new }
 {
-    if !can_be_beside(group, sole) {
+    if !can_be_in_the_way(group, sole) {
         return Some(count);
     }
     gather_numbers(s, o, place, region, list, group, live, parts, count)
@@ -230,8 +215,8 @@ fn gather_groups<const K: usize, I: Indexical<K>>(
     Some(gathered)
 }
 
-// Whether no group of the run can be in the way: all ask for a place, and the other object has none alone.
-fn is_passed_over(run: &Run, sole: Option<u8>) -> bool
+/// Whether no group of the run can be in the way: all ask for a place, and the other object has none alone.
+pub fn is_passed_over(run: &Run, sole: Option<u8>) -> bool
     ensures asks { IsTrue result → run.now.asks ≡ true }
     ensures sole { IsTrue result → sole ≡ Some 0 }
 {

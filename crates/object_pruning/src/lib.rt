@@ -17,7 +17,6 @@ mod rows;
 mod run_making;
 mod unrefuted;
 
-pub use gathering::can_be_in_the_way;
 pub use kept::{Placed, is_same_point, retry, slots};
 pub use prune::{Pruned, prune_kept, prune_object};
 pub use row_making::rows_of;

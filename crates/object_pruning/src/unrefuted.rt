@@ -1,17 +1,18 @@
 //! Whether any picked condition is refuted with an object at a point.
 
-ghost use Rattle.std.specs.Prelude.{◌≡◌, ℕ, ◌-◌, ◌<◌, ◌≤◌, ◌↔◌, length, map, slice_get, IfSome, IsTrue, Some};
+ghost use Rattle.std.specs.Prelude.{◌≡◌, ℕ, ◌-◌, ◌<◌, ◌≤◌, ◌↔◌, length, map, IfSome, IsTrue};
 ghost use Rattle.geo_conditions.specs.Conditions.{AllFit};
 ghost use Rattle.geo_conditions.specs.Supported.{NoneRefuted};
 ghost use Rattle.sweep.specs.Picks.{ArePicks, picked};
 ghost use Rattle.object_pruning.specs.declared.rows.Group.{Group};
-ghost use Rattle.object_pruning.specs.Gathered.{AllPossible, IsNumberPossible};
-ghost use Rattle.object_pruning.specs.InRows.{AreRows, HaveNumber, IsInGroup, IsSomeGroup};
+ghost use Rattle.object_pruning.specs.Gathered.{AllPossible, IsNumberPossible, IsSolePlace};
+ghost use Rattle.object_pruning.specs.InRows.{AreRows, AreSomeGroups, HaveNumber, IsSomeGroup};
+ghost use Rattle.object_pruning.specs.Runs.{AreRuns, HaveBetween, IsInGroup, IsRun};
 ghost use Rattle.object_pruning.specs.Kept.{placed};
 
-use super::gathering::can_be_in_the_way;
+use super::gathering::{can_be_in_the_way, is_passed_over, sole_place_of};
 use super::kept::Placed;
-use super::rows::{Group, Rows};
+use super::rows::{Group, Rows, Run};
 use geo_base::MAX_DIMS;
 use geo_conditions::{ObjId, State};
 use indexical::Indexical;
@@ -66,38 +67,92 @@ fn is_group_possible<const K: usize, I: Indexical<K>>(
     q: &Placed<K>,
     list: &[I],
     group: &Group,
+    sole: Option<u8>,
 ) -> bool
     requires k { K ≤ MAX_DIMS }
     requires fits { AllFit (map I.cond list.now) s.now }
     requires object { o.0 < length s.now }
     requires group { IsSomeGroup (map I.cond list.now) o.0 group.now }
+    requires sole { IsSolePlace s.now group.now.other sole }
     ensures { IsTrue result ↔ AllPossible (map I.cond list.now) (placed s.now o.0 q.now)
         (IsInGroup group.now) }
 {
-    if !can_be_in_the_way(s, group) {
+    if !can_be_in_the_way(group, sole) {
         return true;
     }
     are_possible(s, o, q, list, group)
 }
 
-// The same for each group of a row.
+// The same for each group of a run.
+fn are_groups_possible<const K: usize, I: Indexical<K>>(
+    s: &State<K>,
+    o: ObjId,
+    q: &Placed<K>,
+    list: &[I],
+    groups: &[Group],
+    run: &Run,
+    sole: Option<u8>,
+) -> bool
+    requires k { K ≤ MAX_DIMS }
+    requires fits { AllFit (map I.cond list.now) s.now }
+    requires object { o.0 < length s.now }
+    requires groups { AreSomeGroups (map I.cond list.now) o.0 groups.now }
+    requires run { IsRun groups.now run.now.first run.now }
+    requires sole { IsSolePlace s.now run.now.other sole }
+    ensures { IsTrue result ↔ AllPossible (map I.cond list.now) (placed s.now o.0 q.now)
+        (HaveBetween groups.now run.now.first run.now.end) }
+{
+    for k in run.first..run.end {
+        if !is_group_possible(s, o, q, list, &groups[k], sole) {
+            return false;
+        }
+    }
+    true
+}
+
+// The same. All groups are passed over at once where none can be in the way.
+fn is_run_possible<const K: usize, I: Indexical<K>>(
+    s: &State<K>,
+    o: ObjId,
+    q: &Placed<K>,
+    list: &[I],
+    groups: &[Group],
+    run: &Run,
+) -> bool
+    requires k { K ≤ MAX_DIMS }
+    requires fits { AllFit (map I.cond list.now) s.now }
+    requires object { o.0 < length s.now }
+    requires groups { AreSomeGroups (map I.cond list.now) o.0 groups.now }
+    requires run { IsRun groups.now run.now.first run.now }
+    ensures { IsTrue result ↔ AllPossible (map I.cond list.now) (placed s.now o.0 q.now)
+        (HaveBetween groups.now run.now.first run.now.end) }
+{
+    let sole = sole_place_of(s, run.other);
+    if is_passed_over(run, sole) {
+        return true;
+    }
+    are_groups_possible(s, o, q, list, groups, run, sole)
+}
+
+// The same for each run of a row.
 fn is_row_possible<const K: usize, I: Indexical<K>>(
     s: &State<K>,
     o: ObjId,
     q: &Placed<K>,
     list: &[I],
     groups: &[Group],
+    runs: &[Run],
 ) -> bool
     requires k { (0 < K) × (K ≤ MAX_DIMS) }
     requires fits { AllFit (map I.cond list.now) s.now }
     requires object { o.0 < length s.now }
-    requires groups { (k : ℕ) (g : Group) → slice_get groups.now k ≡ Some g
-        → IsSomeGroup (map I.cond list.now) o.0 g }
+    requires groups { AreSomeGroups (map I.cond list.now) o.0 groups.now }
+    requires runs { AreRuns groups.now runs.now }
     ensures { IsTrue result ↔ AllPossible (map I.cond list.now) (placed s.now o.0 q.now)
         (HaveNumber groups.now) }
 {
-    for k in 0..groups.len() {
-        if !is_group_possible(s, o, q, list, &groups[k]) {
+    for j in 0..runs.len() {
+        if !is_run_possible(s, o, q, list, groups, &runs[j]) {
             return false;
         }
     }
@@ -121,10 +176,11 @@ fn is_unrefuted_by_rows<const K: usize, I: Indexical<K>>(
     ensures { IsTrue result
         ↔ NoneRefuted (picked (map I.cond list.now) picks.now) (placed s.now o.0 q.now) }
 {
-    if !is_row_possible(s, o, q, list, rows.row(0)) {
+    if !is_row_possible(s, o, q, list, rows.row(0), rows.runs(0)) {
         return false;
     }
-    is_row_possible(s, o, q, list, rows.row(usize::from(q.place)))
+    let r = usize::from(q.place);
+    is_row_possible(s, o, q, list, rows.row(r), rows.runs(r))
 }
 
 // Asks all picks.

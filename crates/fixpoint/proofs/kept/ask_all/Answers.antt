@@ -1,13 +1,12 @@
-use Rattle.std.proofs.Common.{◌≡◌, ◌+◌, ◌<◌, ℕ, List, Option, length, map, ap, sym, ◌∙◌, subst, arith, rules, Some, Vec, Global}
+use Rattle.std.proofs.Common.{◌≡◌, ◌<◌, ℕ, List, length, map, ap, sym, ◌∙◌, subst, arith, rules, Some, Vec, Global}
 use Rattle.std.specs.Prelude.{slice_get}
 use Rattle.indexical.specs.declared.any.AnyIndexical.{AnyIndexical}
-use Rattle.object_pruning.specs.declared.kept.Placed.{Placed}
 use Rattle.fixpoint.specs.declared.pairs.RowGroup.{RowGroup}
 use Rattle.fixpoint.specs.Links.{row}
-use Rattle.fixpoint.specs.Pairs.{HaveIn, IsGroupOf, NamesNoThird}
+use Rattle.fixpoint.specs.Pairs.{HaveIn, IsGroupOf}
 use Rattle.fixpoint.specs.Kept.{RetriesThose}
 use Rattle.fixpoint.proofs.Linking.{row_get}
-use Rattle.fixpoint.proofs.Asked.{BesideBelow, those_none, those_unmarked, those_beside, those_lists}
+use Rattle.fixpoint.proofs.Asked.{BesideBelow, those_none, those_beside, those_lists}
 use Rattle.fixpoint.proofs.kept.ask_all.Goals as goal
 
 pub loop-u-init : goal.loop-u-init
@@ -22,6 +21,7 @@ ask_groups-requires g c =
     let h : u < length lists = omega (arith, c.loop-u-test.true, c.len-u-end.ensures) in
     let same : c.deref.result.now ≡ row lists u = c.deref.ensures.value ∙ ap (λ (v : Vec RowGroup Global). v.items) c.index.ensures ∙ sym (row_get lists u c.index.result.now h) in
     let groups : (k : ℕ) (b : RowGroup) → slice_get c.deref.result.now k ≡ Some b → IsGroupOf cs c.args.o.0 b.row b.group = λ k b e. (a.0, a.1, (a.2.beside u b (k, subst (λ (bs : List RowGroup). slice_get bs k ≡ Some b) same e)).0) in
+    let there : u < length c.args.s.now = omega (arith, h, a.2.objects) in
     search rules
 
 pub loop-u-preserved : goal.loop-u-preserved

@@ -23,6 +23,7 @@ ask_groups-requires g c =
     let h : u < length lists = omega (arith, c.loop-u-test.true, c.len-u-end.ensures) in
     let same : c.deref.result.now ≡ row lists u = c.deref.ensures.value ∙ ap (λ (v : Vec RowGroup Global). v.items) c.index.ensures ∙ sym (row_get lists u c.index.result.now h) in
     let groups : (k : ℕ) (b : RowGroup) → slice_get c.deref.result.now k ≡ Some b → IsGroupOf cs c.args.o.0 b.row b.group = λ k b e. (a.0, a.1, (a.2.beside u b (k, subst (λ (bs : List RowGroup). slice_get bs k ≡ Some b) same e)).0) in
+    let there : u < length c.args.s.now = omega (arith, h, a.2.objects) in
     search rules
 
 pub loop-u-preserved : goal.loop-u-preserved

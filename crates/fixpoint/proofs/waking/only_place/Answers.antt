@@ -1,18 +1,15 @@
-use Rattle.std.proofs.Common.{◌≡◌, ℕ, zero, suc, ◌+◌, ◌≤◌, Bool, true, false, List, Some, refl, sym, ap, ◌∙◌, subst, arith}
-use Rattle.geo_conditions.specs.Reach.{place_in, is_only}
-use Rattle.geo_conditions.proofs.Sets.{only_out}
+use Rattle.std.proofs.Common.{◌≡◌, ℕ, zero, suc, List, Bool, true, Some, sym, ap, ◌∙◌}
+use Rattle.std.proofs.lemmas.Bool.{false≢true}
+use Rattle.geo_conditions.specs.Reach.{is_only}
 use Rattle.fixpoint.proofs.waking.only_place.Goals as goal
 
--- no place comes before the first one
-before_first : (bs : List Bool) (r : ℕ) → r ≤ 0 → place_in bs r ≡ false
-before_first bs zero h = refl
-before_first bs (suc r) h = absurd (omega arith)
+-- no set has place 0 alone
+not_zero : (bs : List Bool) (r : ℕ) → is_only bs r ≡ true → r ≡ 0 → ⊥
+not_zero bs zero h e = false≢true h
+not_zero bs (suc r) h e = cc
 
-pub loop-i-init : goal.loop-i-init
-loop-i-init g c = λ r h. before_first c.places-places.result r h
+pub returns-then-place-eq0 : goal.returns-then-place-eq0
+returns-then-place-eq0 g c = λ r h. absurd (not_zero _ r h (c.sole_place-place.ensures.only r h ∙ c.if-place-eq0.true))
 
-pub returns-then-is_only : goal.returns-then-is_only
-returns-then-is_only g c = λ r o.
-    let bs = c.places-places.result in
-    let alone = subst (λ (l : List Bool). is_only l r ≡ true) (sym c.places-places.ensures.value) o in
-    ap (λ (n : ℕ). Some n) ((only_out bs r alone).1 (c.loop-i.i + 1) (sym c.has.ensures ∙ c.if-has.true))
+pub returns-else-place-eq0 : goal.returns-else-place-eq0
+returns-else-place-eq0 g c = λ r h. ap (λ (n : ℕ). Some n) (sym (c.sole_place-place.ensures.only r h))

@@ -11,9 +11,9 @@ gather_numbers-requires g c =
     let numbers : (i : ℕ) → IsInGroup c.args.group.now i → (0 < i) × (i - 1 < length c.args.list.now) = λ i b. subst (λ (n : ℕ). (0 < i) × (i - 1 < n)) (length-map c.args.list.now g.I.Indexical.cond) (group_number (map g.I.Indexical.cond c.args.list.now) c.args.s.now c.args.o.0 c.requires.fits c.requires.object c.args.group.now c.requires.group i b) in
     search rules
 
-pub returns-then-not-can_be_beside-clause-goes : goal.returns-then-not-can_be_beside-clause-goes
-returns-then-not-can_be_beside-clause-goes g c =
+pub returns-then-not-can_be_in_the_way-clause-goes : goal.returns-then-not-can_be_in_the_way-clause-goes
+returns-then-not-can_be_in_the_way-clause-goes g c =
     let cs = map g.I.Indexical.cond c.args.list.now in
     let group = c.args.group.now in
     goes_past g.row.K cs c.args.s.now c.args.o.0 c.args.place (region_of c.args.region.now) (IsInGroup group) c.args.count c.args.live.now c.requires.room
-    (group_spared cs c.args.s.now c.args.o.0 c.requires.fits c.requires.object g.row.K c.args.place (region_of c.args.region.now) group c.requires.group (sole_free c.args.s.now group.other group.other_place c.args.sole c.requires.sole (c.can_be_beside.ensures c.if-not-can_be_beside.true)))
+    (group_spared cs c.args.s.now c.args.o.0 c.requires.fits c.requires.object g.row.K c.args.place (region_of c.args.region.now) group c.requires.group (sole_free c.args.s.now group.other group.other_place c.args.sole c.requires.sole (c.can_be_in_the_way.ensures c.if-not-can_be_in_the_way.true)))

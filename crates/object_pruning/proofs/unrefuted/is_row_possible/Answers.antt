@@ -1,36 +1,47 @@
-use Rattle.std.proofs.Common.{map, get_or, refl, sym, ap, ◌∙◌, subst, inl, inr, arith, rules}
+use Rattle.std.proofs.Common.{◌≡◌, ◌+◌, suc, length, get_or, refl, sym, ap, ◌∙◌, subst, inl, inr, arith, rules, Some, None, false}
 use Rattle.std.specs.Prelude.{slice_get}
-use Rattle.std.proofs.lemmas.Bool.{false≢true, cases_eq}
-use Rattle.std.proofs.lemmas.Option.{same_Some, slice_get-get_or, slice_get_within}
-use Rattle.object_pruning.specs.declared.rows.Group.{Group}
-use Rattle.object_pruning.specs.InRows.{IsInGroup, IsSomeGroup}
+use Rattle.std.proofs.lemmas.Bool.{false≢true, cases_lt}
+use Rattle.std.proofs.lemmas.Option.{slice_get-get_or, slice_get_within}
+use Rattle.object_pruning.specs.declared.rows.Run.{Run}
+use Rattle.object_pruning.specs.Runs.{IsRun, start_at}
+use Rattle.object_pruning.proofs.RunPicks.{start_next}
 use Rattle.object_pruning.proofs.unrefuted.is_row_possible.Goals as goal
 
-pub is_group_possible-requires : goal.is_group_possible-requires
-is_group_possible-requires g c =
-    let gs = c.args.groups.now in
-    let some : (d : Group) → IsSomeGroup (map g.I.Indexical.cond c.args.list.now) c.args.o.0 (get_or gs c.loop-k.k d) = λ d. c.requires.groups c.loop-k.k (get_or gs c.loop-k.k d) (slice_get-get_or gs c.loop-k.k d c.loop-k-test.true) in
+pub is_run_possible-requires : goal.is_run_possible-requires
+is_run_possible-requires g c =
+    let runs = c.args.runs.now in
+    let j = c.loop-j.j in
+    let run : (d : Run) → IsRun c.args.groups.now (get_or runs j d).first (get_or runs j d) = λ d.
+    let is = c.requires.runs.each j (get_or runs j d) (slice_get-get_or runs j d c.loop-j-test.true) in
+    subst (λ n. IsRun c.args.groups.now n (get_or runs j d)) (sym is.first) is in
     search rules
 
-pub loop-k-preserved : goal.loop-k-preserved
-loop-k-preserved g c = λ i w.
-    let gs = c.args.groups.now in
-    let k = c.loop-k.k in
-    elim (cases_eq w.0 k) [
-      | inl e ↦
-          let same = same_Some _ _ (sym w.3 ∙ ap (slice_get gs) e ∙ slice_get-get_or gs k _ c.loop-k-test.true) in
-          c.is_group_possible.ensures.0 c.if-not-is_group_possible.false i (subst (λ (h : Group). IsInGroup h i) same w.4)
-      | inr ne ↦ c.loop-k.invariant i (w.0, w.1, omega (arith, w.2, ne), w.3, w.4)
+pub loop-j-preserved : goal.loop-j-preserved
+loop-j-preserved g c = λ i w.
+    let runs = c.args.runs.now in
+    let j = c.loop-j.j in
+    let after : j + 1 ≡ suc j = omega arith in
+    let default : Run = record { other = None; asks = false; first = 0; end = 0 } in
+    let run = get_or runs j default in
+    let at : slice_get runs j ≡ Some run = slice_get-get_or runs j default c.loop-j-test.true in
+    let next : start_at 0 runs (j + 1) ≡ run.end = ap (start_at 0 runs) after ∙ start_next 0 j runs run at in
+    elim (cases_lt w.0 (start_at 0 runs j)) [
+      | inl h ↦ c.loop-j.invariant i (w.0, w.1, w.2, h, w.4, w.5)
+      | inr h ↦ c.is_run_possible.ensures.0 c.if-not-is_run_possible.false i (w.0, w.1, omega (arith, h, (c.requires.runs.each j run at).first), omega (arith, w.3, next), w.4, w.5)
     ]
 
-pub returns-then-not-is_group_possible : goal.returns-then-not-is_group_possible
-returns-then-not-is_group_possible g c = (
+pub returns-then-not-is_run_possible : goal.returns-then-not-is_run_possible
+returns-then-not-is_run_possible g c = (
   λ e. absurd (false≢true e),
-  λ n. absurd (false≢true (sym c.if-not-is_group_possible.true ∙ c.is_group_possible.ensures.1 (λ i b. n i (c.loop-k.k, get_or c.args.groups.now c.loop-k.k _, slice_get-get_or c.args.groups.now c.loop-k.k _ c.loop-k-test.true, b)))),
+  λ n. absurd (false≢true (sym c.if-not-is_run_possible.true ∙ c.is_run_possible.ensures.1 (λ i b. n i (b.0, b.1, b.4, b.5)))),
 )
 
 pub returns : goal.returns
-returns g c = (
-  λ e i w. c.loop-k.invariant i (w.0, w.1, omega (arith, slice_get_within c.args.groups.now w.0 w.1 w.2, c.loop-k-test.false), w.2, w.3),
-  λ n. refl,
-)
+returns g c =
+    let gs = c.args.groups.now in
+    let runs = c.args.runs.now in
+    let all : c.loop-j.j ≡ length runs = omega (arith, c.loop-j-test.false, c.loop-j.auto.j-end) in
+    let end : start_at 0 runs c.loop-j.j ≡ length gs = ap (start_at 0 runs) all ∙ c.requires.runs.whole in (
+      λ e i w. c.loop-j.invariant i (w.0, w.1, omega arith, omega (arith, slice_get_within gs w.0 w.1 w.2, end), w.2, w.3),
+      λ n. refl,
+    )
