@@ -9,7 +9,7 @@ ghost use Rattle.std.specs.Prelude.{◌≤◌};
 use crate::reach::near;
 use derivation::Side;
 use geo_base::{KBox, MAX_DIMS, Point};
-use geo_conditions::{Cond, Form, ObjId, State, Term};
+use geo_conditions::{Cond, Conds, Form, ObjId, State, Term};
 
 /// The boxes of an object at a place on which a condition is refuted.
 #[derive(Clone, Copy)]
@@ -148,7 +148,26 @@ impl<'a, const K: usize> Narrowing<'a, K> {
         }
     }
 
-    // Narrows the box to where the condition is refuted.
+    // Narrows the box to where all of the conditions are refuted.
+    #[cycle(take)]
+    fn take_all(&mut self, conditions: &Conds) -> Part
+        requires { K ≤ MAX_DIMS }
+    {
+        let mut all = Part::Within;
+        for c in conditions.as_slice() {
+            match self.take(c) {
+                Part::Never => return Part::Never,
+                Part::Within => {}
+                Part::Asked => all = Part::Asked,
+            }
+        }
+        all
+    }
+
+    // Narrows the box to where the condition is refuted. It is inlined where parts are narrowed to,
+    // so that a part takes no call.
+    #[cycle(take)]
+    #[inline(always)]
     fn take(&mut self, c: &Cond) -> Part
         requires { K ≤ MAX_DIMS }
     {
@@ -156,17 +175,7 @@ impl<'a, const K: usize> Narrowing<'a, K> {
             Cond::Lin(f) => self.take_form(f).unwrap_or(Part::Asked),
             Cond::Shape(o, place) => literal(self.has(*o, *place)),
             Cond::NotShape(o, place) => literal(self.has_other(*o, *place)),
-            Cond::AtLeast(1, children) => {
-                let mut all = Part::Within;
-                for child in children.as_slice() {
-                    match self.take(child) {
-                        Part::Never => return Part::Never,
-                        Part::Within => {}
-                        Part::Asked => all = Part::Asked,
-                    }
-                }
-                all
-            }
+            Cond::AtLeast(1, conditions) => self.take_all(conditions),
             Cond::AtLeast(_, _) => Part::Asked,
         }
     }
