@@ -30,11 +30,11 @@ module _ (cs : List Cond) (S : State) (o : ℕ) (fits : AllFit cs S) (here : o <
     | inr w ↦ absurd (omega (arith, is.some, is.within, w.0))
   ]
 
-  module _ (sole : Option ℕ) (asks : run.asks ≡ true) (none : sole ≡ Some 0) (alone : IsSolePlace S run.other sole) where
+  module _ (sole : Option ℕ) (asks : IfSome sole (λ p. run.asks ≡ true)) (none : sole ≡ Some 0) (alone : IsSolePlace S run.other sole) where
     -- where all groups ask for a place, and the other object has none alone, it has not that of a group alone
     passed : (i : ℕ) (w : HaveBetween gs run.first run.end i) → MatchOption w.1.other ⊥ (λ u. (w.1.other_place ≢ 0) × (is_only (reach S u.0).places w.1.other_place ≡ false))
     passed i w =
-        let place = is.asks w.0 w.1 w.2 w.3 w.4 asks in
+        let place = is.asks w.0 w.1 w.2 w.3 w.4 (subst (λ (p : Option ℕ). IfSome p (λ q. run.asks ≡ true)) none asks) in
         let of_group : IsSolePlace S w.1.other (Some 0) = subst (λ (u : Option ObjId). IsSolePlace S u (Some 0)) (sym (is.other w.0 w.1 w.2 w.3 w.4)) (subst (IsSolePlace S run.other) none alone) in
         sole_free S w.1.other w.1.other_place (Some 0) of_group (place, place)
 

@@ -120,15 +120,22 @@ fn gather_numbers<const K: usize, I: Indexical<K>>(
     Some(gathered)
 }
 
-/// The place that the other object has alone; 0 where it has none alone. None where there is no other object.
+/// The place that the other object of a run has alone; 0 where it has none alone. None where the groups do not ask for places of it.
 #[inline(always)]
-pub fn sole_place_of<const K: usize>(s: &State<K>, other: Option<ObjId>) -> Option<u8>
+pub fn sole_place_of<const K: usize>(s: &State<K>, run: &Run) -> Option<u8>
     requires k { K ≤ MAX_DIMS }
-    requires other { IfSome other (λ u. u.0 < length s.now) }
-    ensures { IsSolePlace s.now other result }
+    requires other { IfSome run.now.other (λ u. u.0 < length s.now) }
+    ensures sole { IsSolePlace s.now run.now.other result }
+    ensures asks { IfSome result (λ p. run.now.asks ≡ true) }
 {
-    match other {
-        Some(u) => Some(s.sole_place(u)),
+    match run.other {
+        Some(u) => {
+            if run.asks {
+                Some(s.sole_place(u))
+            } else {
+                None
+            }
+        }
         None => None,
     }
 }
@@ -215,13 +222,12 @@ fn gather_groups<const K: usize, I: Indexical<K>>(
     Some(gathered)
 }
 
-/// Whether no group of the run can be in the way: all ask for a place, and the other object has none alone.
-pub fn is_passed_over(run: &Run, sole: Option<u8>) -> bool
-    ensures asks { IsTrue result → run.now.asks ≡ true }
-    ensures sole { IsTrue result → sole ≡ Some 0 }
+/// Whether no group of a run can be in the way: all ask for a place, and the other object has none alone.
+pub fn is_passed_over(sole: Option<u8>) -> bool
+    ensures { IsTrue result → sole ≡ Some 0 }
 {
     match sole {
-        Some(place) => run.asks && place == 0,
+        Some(place) => place == 0,
         None => false,
     }
 }
@@ -253,8 +259,8 @@ fn gather_run<const K: usize, I: Indexical<K>>(
     ensures parts { HoldParts K (map I.cond list.now) s.now o.0 place (region_of region.now)
         live.new parts.new }
 {
-    let sole = sole_place_of(s, run.other);
-    if is_passed_over(run, sole) {
+    let sole = sole_place_of(s, run);
+    if is_passed_over(sole) {
         return Some(count);
     }
     gather_groups(

@@ -127,8 +127,8 @@ fn is_run_possible<const K: usize, I: Indexical<K>>(
     ensures { IsTrue result ↔ AllPossible (map I.cond list.now) (placed s.now o.0 q.now)
         (HaveBetween groups.now run.now.first run.now.end) }
 {
-    let sole = sole_place_of(s, run.other);
-    if is_passed_over(run, sole) {
+    let sole = sole_place_of(s, run);
+    if is_passed_over(sole) {
         return true;
     }
     are_groups_possible(s, o, q, list, groups, run, sole)

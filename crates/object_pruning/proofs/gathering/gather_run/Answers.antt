@@ -16,4 +16,4 @@ returns-then-is_passed_over-clause-goes g c =
     let cs = map g.I.Indexical.cond c.args.list.now in
     let run = c.args.run.now in
     goes_past g.row.K cs c.args.s.now c.args.o.0 c.args.place (region_of c.args.region.now) (HaveBetween c.args.groups.now run.first run.end) c.args.count c.args.live.now c.requires.room
-    (run_spared cs c.args.s.now c.args.o.0 c.requires.fits c.requires.object c.args.groups.now c.requires.groups run c.requires.run c.sole_place_of-sole.result (c.is_passed_over.ensures.asks c.if-is_passed_over.true) (c.is_passed_over.ensures.sole c.if-is_passed_over.true) c.sole_place_of-sole.ensures g.row.K c.args.place (region_of c.args.region.now))
+    (run_spared cs c.args.s.now c.args.o.0 c.requires.fits c.requires.object c.args.groups.now c.requires.groups run c.requires.run c.sole_place_of-sole.result c.sole_place_of-sole.ensures.asks (c.is_passed_over.ensures c.if-is_passed_over.true) c.sole_place_of-sole.ensures.sole g.row.K c.args.place (region_of c.args.region.now))

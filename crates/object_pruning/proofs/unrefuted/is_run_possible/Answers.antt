@@ -10,6 +10,6 @@ sole_place_of-sole-requires g c =
 
 pub returns-then-is_passed_over : goal.returns-then-is_passed_over
 returns-then-is_passed_over g c = (
-  λ e. run_free (map g.I.Indexical.cond c.args.list.now) c.args.s.now c.args.o.0 c.requires.fits c.requires.object c.args.groups.now c.requires.groups c.args.run.now c.requires.run c.sole_place_of-sole.result (c.is_passed_over.ensures.asks c.if-is_passed_over.true) (c.is_passed_over.ensures.sole c.if-is_passed_over.true) c.sole_place_of-sole.ensures c.args.q.now,
+  λ e. run_free (map g.I.Indexical.cond c.args.list.now) c.args.s.now c.args.o.0 c.requires.fits c.requires.object c.args.groups.now c.requires.groups c.args.run.now c.requires.run c.sole_place_of-sole.result c.sole_place_of-sole.ensures.asks (c.is_passed_over.ensures c.if-is_passed_over.true) c.sole_place_of-sole.ensures.sole c.args.q.now,
   λ n. refl,
 )
