@@ -1,3 +1,4 @@
+pub mod MadeOfItems
 pub mod OneProblem
 pub mod Answered
 pub mod PrintingLists

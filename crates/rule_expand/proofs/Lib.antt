@@ -4,5 +4,6 @@ pub mod Called
 pub mod HandedOn
 pub mod Steps
 pub mod Operands
+pub mod OneNode
 pub mod Degrees
 pub mod Wholes

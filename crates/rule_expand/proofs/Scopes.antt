@@ -104,7 +104,7 @@ pub parameters-seen : (p : ProblemData) {s : Scope} (params : Bor (List ParamDef
     scope_view p s ≡ give_all (map param_data params.now) (arguments_meant (expansions_of p n) p (arguments (map argument_view args.now)) (scope_view p caller.now))
 parameters-seen p params args caller n h = rw h (ap (scope_view p) (sym (rolls-Parameters params args caller n)) ∙ fold-roll-Scope Subst (scope_layer p) (Scope-F.Parameters params args caller n))
 
-variable-seen : (p : ProblemData) (outer : Bor Scope) (own : Bor Name) (n : ℕ) → scope_view p (Variable outer own n) ≡ give own.now (a_subject (subjects.Variable n)) (scope_view p outer.now)
+pub variable-seen : (p : ProblemData) (outer : Bor Scope) (own : Bor Name) (n : ℕ) → scope_view p (Variable outer own n) ≡ give own.now (a_subject (subjects.Variable n)) (scope_view p outer.now)
 variable-seen p outer own n = ap (scope_view p) (sym (rolls-Variable outer own n)) ∙ fold-roll-Scope Subst (scope_layer p) (Scope-F.Variable outer own n)
 
 variable-priced : (p : ProblemData) (outer : Bor Scope) (own : Bor Name) (n : ℕ) → prices p (Variable outer own n) ≡ price own.now 0 (prices p outer.now)

@@ -17,7 +17,7 @@ use crate::expressions::expand_expr;
 use crate::limits::ExpandFault;
 use crate::make::{
     add_formula, all_of, any_of, comparison, equivalence, falsehood, implication, negation,
-    quantified, take_node,
+    quantified, take_node, truth,
 };
 use crate::plain::{PlainColl, PlainFormula};
 use crate::scope::{Found, Scope, formula_macro, look_up};
@@ -125,18 +125,8 @@ pub fn expand_formula(
         result }
 {
     match f {
-        Formula::True(_) => {
-            if !take_node(room, deep) {
-                return Err(ExpandFault::TooLarge);
-            }
-            Ok(PlainFormula::True)
-        }
-        Formula::False(_) => {
-            if !take_node(room, deep) {
-                return Err(ExpandFault::TooLarge);
-            }
-            Ok(PlainFormula::False)
-        }
+        Formula::True(_) => truth(room, deep),
+        Formula::False(_) => falsehood(room, deep),
         Formula::Not(_, f) => expand_negation(source, in_sight, f, &*scope, next, room, deep),
         Formula::And(_, fs) => expand_all_of(source, in_sight, fs, &*scope, next, room, deep),
         Formula::Or(_, fs) => expand_any_of(source, in_sight, fs, &*scope, next, room, deep),

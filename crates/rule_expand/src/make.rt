@@ -126,6 +126,16 @@ pub fn add_product(steps: &mut Vec<PlainProd>, step: PlainProd) -> Result<(), Ex
     Ok(())
 }
 
+/// `true`.
+pub fn truth(room: &mut u32, deep: u32) -> Result<PlainFormula, ExpandFault>
+    ensures { GivesUnbound plain.truth room.old deep room.new result }
+{
+    if !take_node(room, deep) {
+        return Err(ExpandFault::TooLarge);
+    }
+    Ok(PlainFormula::True)
+}
+
 /// `false`.
 pub fn falsehood(room: &mut u32, deep: u32) -> Result<PlainFormula, ExpandFault>
     ensures { GivesUnbound plain.falsehood room.old deep room.new result }

@@ -63,11 +63,11 @@ pub fn position_of(names: &SeenNames<'_>, name: &[u8]) -> Option<usize>
 fn names_of<'a, T: HasName>(alloc: Global, items: &'a [T]) -> Result<Box<SeenNames<'a>>, AllocError>
     ensures { IfOk result (λ names. names.value ≡ met (map T.own_name items.now)) }
 {
-    let mut names = SeenNames::new(alloc);
+    let mut names = Box::new(alloc, SeenNames::new(alloc))?;
     for item in items {
         let _is_new = names.meet(item.own_name())?;
     }
-    Ok(Box::new(alloc, names)?)
+    Ok(names)
 }
 
 // Meets the names of an object's attributes.
@@ -90,11 +90,11 @@ fn attribute_names<'a>(
     ensures { IfOk result (λ names. (n : List ℕ) → list_any (bytes_eq n) names.value
         ≡ list_any (λ o. lists_attribute o n) objects.now) }
 {
-    let mut names = SeenNames::new(alloc);
+    let mut names = Box::new(alloc, SeenNames::new(alloc))?;
     for object in objects {
         add_attributes(&mut names, object)?;
     }
-    Ok(Box::new(alloc, names)?)
+    Ok(names)
 }
 
 /// The tables of a problem.

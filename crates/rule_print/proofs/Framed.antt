@@ -30,6 +30,12 @@ pub more_framed : {E : Type 0} (r : Result Unit E) (b : Bool) (o c : Sym) (now o
     IfOk r (λ _. later ≡ two ++ (if b then symbol c ∷ [] else [])) → whole ≡ bracketed b o c (f ++ g) → IfOk r (λ _. later ≡ now ++ whole)
 more_framed r b o c now one two later f g whole e t h is = IfOk-equal r later _ _ h (others_behind b o c now one two f g e t ∙ sym (ap (λ l. now ++ l) is))
 
+-- one part alone
+pub one_framed : {E : Type 0} (r : Result Unit E) (b d : Bool) (o c : Sym) (now one two later f : List Written) → b ≡ d → one ≡ now ++ (if b then symbol o ∷ [] else []) → two ≡ one ++ f → IfOk r (λ _. later ≡ two ++ (if b then symbol c ∷ [] else [])) →
+    IfOk r (λ _. later ≡ now ++ bracketed d o c f)
+one_framed r b d o c now one two later f i e t h =
+    IfOk-equal r later _ _ h (others_behind b o c now one two [] f (e ∙ sym (append-nil (now ++ (if b then symbol o ∷ [] else [])))) t ∙ ap (λ x. now ++ bracketed x o c f) i)
+
 -- what was spelled is the whole
 pub spelled_as : {E : Type 0} (r : Result Unit E) (now later given whole : List Written) → whole ≡ given → IfOk r (λ _. later ≡ now ++ given) → IfOk r (λ _. later ≡ now ++ whole)
 spelled_as r now later given whole is h = IfOk-equal r later _ _ h (sym (ap (λ l. now ++ l) is))

@@ -1,6 +1,8 @@
 -- One member more: what was spelled, and what is left to spell, is the whole.
-use Rattle.std.proofs.Common.{◌≡◌, ◌<◌, ◌≤◌, ◌+◌, ◌++◌, ◌∷◌, [], ℕ, List, Bool, true, false, map, drop, length, get_or, append_assoc, sym, ap, ◌∙◌, refl, arith}
+use Rattle.std.proofs.Common.{◌≡◌, ◌<◌, ◌≤◌, ◌+◌, ◌++◌, ◌∷◌, [], ℕ, List, Result, Bool, true, false, map, drop, length, get_or, append_assoc, sym, ap, ◌∙◌, refl, arith}
 use Rattle.std.specs.Prelude.{if◌then◌else◌, not}
+use Rattle.std.specs.Result.{IfOk}
+use Rattle.std.proofs.lemmas.Result.{IfOk-equal}
 use Rattle.std.proofs.lemmas.Grind.{common_steps}
 use Rattle.std.proofs.lemmas.List.{append-nil, drop_more}
 use Rattle.std.proofs.Math.ListN.{drop_of_length-le}
@@ -17,7 +19,7 @@ use Rattle.rule_syntax.specs.View.{expr_view, sum_view, product_view, argument_v
 use Rattle.rule_print.specs.Canonical.{Written, name, symbol, word}
 use Rattle.rule_print.specs.declared.rank.ExprRank.TheVariants as ranks
 use Rattle.rule_print.specs.declared.rank.FormulaRank.{FormulaRank}
-use Rattle.rule_print.specs.Spelled.{expr_spelling, formula_spelling, mark_before, more_operands_spelling, operands_spelling, sum_spelling, sum_step_spelling, product_spelling, product_step_spelling, argument_spelling, arguments_spelling, more_arguments_spelling, names_spelling, more_names_spelling}
+use Rattle.rule_print.specs.Spelled.{expr_spelling, formula_spelling, mark_before, more_operands_spelling, operands_spelling, sum_spelling, sum_step_spelling, product_spelling, product_step_spelling, argument_spelling, arguments_spelling, more_arguments_spelling, names_spelling, more_names_spelling, in_list}
 use Rattle.rule_print.proofs.Printing.{left_arguments, left_names, left_operands}
 
 -- behind what was spelled, the next member, and the rest
@@ -61,6 +63,18 @@ arguments-step false xs i x now marked later whole h e m is k =
     ∙ sym (ap (λ ys. now ++ more_arguments_spelling (arguments (map argument_view ys))) (next xs i x h e))
     ∙ k
 
+none-left-arguments : (b : Bool) → left_arguments b (arguments []) ≡ []
+none-left-arguments true = refl
+none-left-arguments false = refl
+
+-- all arguments, and the bracket that closes behind them
+pub arguments-end : {E : Type 0} (r : Result Unit E) (b : Bool) (xs : List Argument) (i : ℕ) (start now all later : List Written) → length xs ≤ i →
+    now ++ left_arguments b (arguments (map argument_view (drop i xs))) ≡ (start ++ symbol syms.ParenOpen ∷ []) ++ all → IfOk r (λ _. later ≡ now ++ symbol syms.ParenClose ∷ []) → IfOk r (λ _. later ≡ start ++ in_list all)
+arguments-end r b xs i start now all later h k e =
+    let whole : now ≡ start ++ symbol syms.ParenOpen ∷ all =
+    sym (append-nil now) ∙ sym (ap (λ l. now ++ l) (ap (λ ys. left_arguments b (arguments (map argument_view ys))) (drop_of_length-le xs h) ∙ none-left-arguments b)) ∙ k ∙ append_assoc start (symbol syms.ParenOpen ∷ []) all in
+    IfOk-equal r later _ _ e (ap (λ l. l ++ symbol syms.ParenClose ∷ []) whole ∙ append_assoc start (symbol syms.ParenOpen ∷ all) (symbol syms.ParenClose ∷ []))
+
 pub operands-step : (mark : Keyword) (r : FormulaRank) (b : Bool) (fs : List Formula) (i : ℕ) (f : Formula) (now marked later whole : List Written) → i < length fs → f ≡ get_or fs i f →
     marked ≡ now ++ mark_before b mark → later ≡ marked ++ formula_spelling r (formula_view f) →
     now ++ left_operands mark r b (formulas (map formula_view (drop i fs))) ≡ whole → later ++ left_operands mark r false (formulas (map formula_view (drop (i + 1) fs))) ≡ whole
@@ -78,6 +92,14 @@ operands-step mark r false fs i f now marked later whole h e m is k =
     ∙ append_assoc now (word mark ∷ own) rest
     ∙ sym (ap (λ xs. now ++ more_operands_spelling mark r (formulas (map formula_view xs))) (next fs i f h e))
     ∙ k
+
+none-left-operands : (mark : Keyword) (r : FormulaRank) (b : Bool) → left_operands mark r b (formulas []) ≡ []
+none-left-operands mark r true = refl
+none-left-operands mark r false = refl
+
+pub operands-end : (mark : Keyword) (r : FormulaRank) (b : Bool) (fs : List Formula) (i : ℕ) (now whole : List Written) → length fs ≤ i → now ++ left_operands mark r b (formulas (map formula_view (drop i fs))) ≡ whole → now ≡ whole
+operands-end mark r b fs i now whole h k =
+    sym (append-nil now) ∙ sym (ap (λ l. now ++ l) (ap (λ xs. left_operands mark r b (formulas (map formula_view xs))) (drop_of_length-le fs h) ∙ none-left-operands mark r b)) ∙ k
 
 pub names-step : (b : Bool) (xs : List PlacedName) (i : ℕ) (x : PlacedName) (now marked later whole : List Written) → i < length xs → x ≡ get_or xs i x →
     marked ≡ now ++ (if not b then symbol syms.Comma ∷ [] else []) → later ≡ marked ++ name x.name ∷ [] →

@@ -1,3 +1,4 @@
 pub mod Expressions
 pub mod Views
+pub mod Stopped
 mod Refusals

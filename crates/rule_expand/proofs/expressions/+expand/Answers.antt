@@ -1,18 +1,21 @@
-use Rattle.std.proofs.Common.{◌≡◌, ◌∙◌, ℕ, List, ap, sym, map, length, subst, arith}
+use Rattle.std.proofs.Common.{◌≡◌, ◌∙◌, ◌+◌, ℕ, List, ap, sym, map, length, subst, refl, arith}
 use Rattle.std.specs.Prelude.{Option, Result, Err}
 use Rattle.std.proofs.lemmas.Result.{err_from_is_err_and}
 use Rattle.rule_syntax.specs.Tree as tree
-use Rattle.rule_syntax.specs.View.{expr_view, argument_view}
+use Rattle.rule_syntax.specs.View.{expr_view, sum_view, product_view, argument_view}
 use Rattle.rule_syntax.specs.Tree.{ExprTree, SumTree, ProductTree}
 use Rattle.problem_data.specs.Problem.{ProblemData}
+use Rattle.rule_expand.specs.Plain as plain
 use Rattle.rule_expand.specs.Plain.{PlainExprTree}
-use Rattle.rule_expand.specs.Expansion.{Subst, Expansions, arguments_meant, expr_expanded, expansions_of}
+use Rattle.rule_expand.specs.Expansion.{Subst, Expansions, arguments_meant, expr_expanded, sums_expanded, products_expanded, expansions_of}
+use Rattle.rule_expand.specs.Counts.{expr_nodes, expr_depth, sums_nodes, sums_depth, products_nodes, products_depth}
 use Rattle.rule_expand.specs.Costs.{cost, sum_cost, product_cost, costs, costs_of}
 use Rattle.rule_expand.specs.Limits.{GivesExpr}
 use Rattle.rule_expand.specs.ScopeView.{scope_view, prices}
 use Rattle.rule_expand.specs.Handed.{IsHandedIndex}
 use Rattle.rule_expand.specs.declared.plain.PlainExpr.{PlainExpr}
 use Rattle.rule_expand.specs.declared.limits.ExpandFault.{ExpandFault}
+use Rattle.rule_expand.proofs.OneNode.{no-node, expr-lacks, negative-made, extreme-made, sum-made, product-made}
 use Rattle.rule_expand.proofs.Scopes.{prices-parameters}
 use Rattle.rule_expand.proofs.HandedOn.{argument-costs, call-handed}
 use Rattle.rule_expand.proofs.Steps.{sums-step, sums-fault, sums-end, sums-cost-at, products-step, products-fault, products-end, products-cost-at, plus-made, plus-fault, minus-made, minus-fault, times-made, times-fault}
@@ -204,3 +207,176 @@ expand_product_step-returns-in_err-expand_expr-in-Times t c =
 pub expand_product_step-returns-in_ok-expand_expr-in-Times : goal.expand_product_step-returns-in_ok-expand_expr-in-Times
 expand_product_step-returns-in_ok-expand_expr-in-Times t c =
     times-made (expansions_of c.args.source.now.problem.now c.args.in_sight) c.args.source.now.problem.now (scope_view c.args.source.now.problem.now c.args.scope.now) c.in-Times.e c.args.room.now c.args.deep _ c.in_ok-expand_expr-in-Times.field-0 c.in-Times.is (c.in_ok-expand_expr-in-Times.ensures {u = tt})
+
+pub expand_negative-expand_expr-requires : goal.expand_negative-expand_expr-requires
+expand_negative-expand_expr-requires t c = (omega arith, c.requires)
+
+pub expand_negative-returns-in_err-inner : goal.expand_negative-returns-in_err-inner
+expand_negative-returns-in_err-inner t c =
+    let p = c.args.source.now.problem.now in
+    let sub = scope_view p c.args.scope.now in
+    let e = expr_expanded (expansions_of p c.args.in_sight) p (expr_view c.args.e.now) sub in
+    let k = c.if-not-take_node.ensures {u = tt} in
+    let r = err_from_is_err_and c.from_residual.result c.from_residual.ensures.1 in
+    expr-lacks (plain.negative e) (expr_nodes e) (expr_depth e) 1 c.args.room.now c.take_node.new.room c.args.deep c.expand_expr.new.room _ c.from_residual.result (r.1 ∙ ap (λ (f : ExpandFault). Err f) r.2) k.0 (omega arith) (omega arith) k.1 (c.in_err-inner.ensures {u = tt})
+
+pub expand_negative-returns : goal.expand_negative-returns
+expand_negative-returns t c =
+    let p = c.args.source.now.problem.now in
+    let sub = scope_view p c.args.scope.now in
+    negative-made (expr_expanded (expansions_of p c.args.in_sight) p (expr_view c.args.e.now) sub) c.args.room.now c.take_node.new.room c.args.deep c.expand_expr.new.room c.in_ok-inner.inner c.negative.result (c.if-not-take_node.ensures {u = tt}) (c.in_ok-inner.ensures {u = tt}) c.negative.ensures
+
+pub expand_least-expand_expr-requires : goal.expand_least-expand_expr-requires
+expand_least-expand_expr-requires t c = (omega arith, c.requires)
+
+pub expand_least-returns-in_err-left : goal.expand_least-returns-in_err-left
+expand_least-returns-in_err-left t c =
+    let p = c.args.source.now.problem.now in
+    let sub = scope_view p c.args.scope.now in
+    let a = expr_expanded (expansions_of p c.args.in_sight) p (expr_view c.args.a.now) sub in
+    let b = expr_expanded (expansions_of p c.args.in_sight) p (expr_view c.args.b.now) sub in
+    let k = c.if-not-take_node.ensures {u = tt} in
+    let r = err_from_is_err_and c.from_residual.result c.from_residual.ensures.1 in
+    expr-lacks (plain.least a b) (expr_nodes a) (expr_depth a) 1 c.args.room.now c.take_node.new.room c.args.deep c.expand_expr.new.room _ c.from_residual.result (r.1 ∙ ap (λ (f : ExpandFault). Err f) r.2) k.0 (omega arith) (omega arith) k.1 (c.in_err-left.ensures {u = tt})
+
+pub expand_least-expand_expr-requires-2 : goal.expand_least-expand_expr-requires-2
+expand_least-expand_expr-requires-2 t c = (omega arith, c.requires)
+
+pub expand_least-returns-in_err-right : goal.expand_least-returns-in_err-right
+expand_least-returns-in_err-right t c =
+    let p = c.args.source.now.problem.now in
+    let sub = scope_view p c.args.scope.now in
+    let a = expr_expanded (expansions_of p c.args.in_sight) p (expr_view c.args.a.now) sub in
+    let b = expr_expanded (expansions_of p c.args.in_sight) p (expr_view c.args.b.now) sub in
+    let k = c.if-not-take_node.ensures {u = tt} in
+    let r = err_from_is_err_and c.from_residual-in_err-right.result c.from_residual-in_err-right.ensures.1 in
+    let n = (c.in_ok-left.ensures {u = tt}).taken in
+    expr-lacks (plain.least a b) (expr_nodes b) (expr_depth b) (1 + expr_nodes a) c.args.room.now c.expand_expr.new.room c.args.deep c.expand_expr-2.new.room _ c.from_residual-in_err-right.result (r.1 ∙ ap (λ (f : ExpandFault). Err f) r.2) (let z = k.0 in omega arith) (omega arith) (omega arith) k.1 (c.in_err-right.ensures {u = tt})
+
+pub expand_least-returns : goal.expand_least-returns
+expand_least-returns t c =
+    let p = c.args.source.now.problem.now in
+    let sub = scope_view p c.args.scope.now in
+    let a = expr_expanded (expansions_of p c.args.in_sight) p (expr_view c.args.a.now) sub in
+    let b = expr_expanded (expansions_of p c.args.in_sight) p (expr_view c.args.b.now) sub in
+    extreme-made plain.least a b c.args.room.now c.take_node.new.room c.expand_expr.new.room c.args.deep c.expand_expr-2.new.room c.in_ok-left.left c.in_ok-right.right c.least.result refl refl (c.if-not-take_node.ensures {u = tt}) (c.in_ok-left.ensures {u = tt}) (c.in_ok-right.ensures {u = tt}) c.least.ensures
+
+pub expand_greatest-expand_expr-requires : goal.expand_greatest-expand_expr-requires
+expand_greatest-expand_expr-requires t c = (omega arith, c.requires)
+
+pub expand_greatest-returns-in_err-left : goal.expand_greatest-returns-in_err-left
+expand_greatest-returns-in_err-left t c =
+    let p = c.args.source.now.problem.now in
+    let sub = scope_view p c.args.scope.now in
+    let a = expr_expanded (expansions_of p c.args.in_sight) p (expr_view c.args.a.now) sub in
+    let b = expr_expanded (expansions_of p c.args.in_sight) p (expr_view c.args.b.now) sub in
+    let k = c.if-not-take_node.ensures {u = tt} in
+    let r = err_from_is_err_and c.from_residual.result c.from_residual.ensures.1 in
+    expr-lacks (plain.greatest a b) (expr_nodes a) (expr_depth a) 1 c.args.room.now c.take_node.new.room c.args.deep c.expand_expr.new.room _ c.from_residual.result (r.1 ∙ ap (λ (f : ExpandFault). Err f) r.2) k.0 (omega arith) (omega arith) k.1 (c.in_err-left.ensures {u = tt})
+
+pub expand_greatest-expand_expr-requires-2 : goal.expand_greatest-expand_expr-requires-2
+expand_greatest-expand_expr-requires-2 t c = (omega arith, c.requires)
+
+pub expand_greatest-returns-in_err-right : goal.expand_greatest-returns-in_err-right
+expand_greatest-returns-in_err-right t c =
+    let p = c.args.source.now.problem.now in
+    let sub = scope_view p c.args.scope.now in
+    let a = expr_expanded (expansions_of p c.args.in_sight) p (expr_view c.args.a.now) sub in
+    let b = expr_expanded (expansions_of p c.args.in_sight) p (expr_view c.args.b.now) sub in
+    let k = c.if-not-take_node.ensures {u = tt} in
+    let r = err_from_is_err_and c.from_residual-in_err-right.result c.from_residual-in_err-right.ensures.1 in
+    let n = (c.in_ok-left.ensures {u = tt}).taken in
+    expr-lacks (plain.greatest a b) (expr_nodes b) (expr_depth b) (1 + expr_nodes a) c.args.room.now c.expand_expr.new.room c.args.deep c.expand_expr-2.new.room _ c.from_residual-in_err-right.result (r.1 ∙ ap (λ (f : ExpandFault). Err f) r.2) (let z = k.0 in omega arith) (omega arith) (omega arith) k.1 (c.in_err-right.ensures {u = tt})
+
+pub expand_greatest-returns : goal.expand_greatest-returns
+expand_greatest-returns t c =
+    let p = c.args.source.now.problem.now in
+    let sub = scope_view p c.args.scope.now in
+    let a = expr_expanded (expansions_of p c.args.in_sight) p (expr_view c.args.a.now) sub in
+    let b = expr_expanded (expansions_of p c.args.in_sight) p (expr_view c.args.b.now) sub in
+    extreme-made plain.greatest a b c.args.room.now c.take_node.new.room c.expand_expr.new.room c.args.deep c.expand_expr-2.new.room c.in_ok-left.left c.in_ok-right.right c.greatest.result refl refl (c.if-not-take_node.ensures {u = tt}) (c.in_ok-left.ensures {u = tt}) (c.in_ok-right.ensures {u = tt}) c.greatest.ensures
+
+pub expand_sum-expand_expr-requires : goal.expand_sum-expand_expr-requires
+expand_sum-expand_expr-requires t c = (omega arith, c.requires)
+
+pub expand_sum-returns-in_err-start : goal.expand_sum-returns-in_err-start
+expand_sum-returns-in_err-start t c =
+    let p = c.args.source.now.problem.now in
+    let sub = scope_view p c.args.scope.now in
+    let a = expr_expanded (expansions_of p c.args.in_sight) p (expr_view c.args.first.now) sub in
+    let b = sums_expanded (expansions_of p c.args.in_sight) p (tree.sums (map sum_view c.args.steps.now)) sub in
+    let k = c.if-not-take_node.ensures {u = tt} in
+    let r = err_from_is_err_and c.from_residual.result c.from_residual.ensures.1 in
+    expr-lacks (plain.sum a b) (expr_nodes a) (expr_depth a) 1 c.args.room.now c.take_node.new.room c.args.deep c.expand_expr.new.room _ c.from_residual.result (r.1 ∙ ap (λ (f : ExpandFault). Err f) r.2) k.0 (omega arith) (omega arith) k.1 (c.in_err-start.ensures {u = tt})
+
+pub expand_sum-expand_sum_steps-requires : goal.expand_sum-expand_sum_steps-requires
+expand_sum-expand_sum_steps-requires t c = (omega arith, c.requires)
+
+pub expand_sum-returns-in_err-others : goal.expand_sum-returns-in_err-others
+expand_sum-returns-in_err-others t c =
+    let p = c.args.source.now.problem.now in
+    let sub = scope_view p c.args.scope.now in
+    let a = expr_expanded (expansions_of p c.args.in_sight) p (expr_view c.args.first.now) sub in
+    let b = sums_expanded (expansions_of p c.args.in_sight) p (tree.sums (map sum_view c.args.steps.now)) sub in
+    let k = c.if-not-take_node.ensures {u = tt} in
+    let r = err_from_is_err_and c.from_residual-in_err-others.result c.from_residual-in_err-others.ensures.1 in
+    let n = (c.in_ok-start.ensures {u = tt}).taken in
+    expr-lacks (plain.sum a b) (sums_nodes b) (sums_depth b) (1 + expr_nodes a) c.args.room.now c.expand_expr.new.room c.args.deep c.expand_sum_steps.new.room _ c.from_residual-in_err-others.result (r.1 ∙ ap (λ (f : ExpandFault). Err f) r.2) (let z = k.0 in omega arith) (omega arith) (omega arith) k.1 (c.in_err-others.ensures {u = tt})
+
+pub expand_sum-returns : goal.expand_sum-returns
+expand_sum-returns t c =
+    let p = c.args.source.now.problem.now in
+    let sub = scope_view p c.args.scope.now in
+    let a = expr_expanded (expansions_of p c.args.in_sight) p (expr_view c.args.first.now) sub in
+    let b = sums_expanded (expansions_of p c.args.in_sight) p (tree.sums (map sum_view c.args.steps.now)) sub in
+    sum-made a b c.args.room.now c.take_node.new.room c.expand_expr.new.room c.args.deep c.expand_sum_steps.new.room c.in_ok-start.start c.in_ok-others.others.items c.sum.result (c.if-not-take_node.ensures {u = tt}) (c.in_ok-start.ensures {u = tt}) (c.in_ok-others.ensures {u = tt}) c.sum.ensures
+
+pub expand_product-expand_expr-requires : goal.expand_product-expand_expr-requires
+expand_product-expand_expr-requires t c = (omega arith, c.requires)
+
+pub expand_product-returns-in_err-start : goal.expand_product-returns-in_err-start
+expand_product-returns-in_err-start t c =
+    let p = c.args.source.now.problem.now in
+    let sub = scope_view p c.args.scope.now in
+    let a = expr_expanded (expansions_of p c.args.in_sight) p (expr_view c.args.first.now) sub in
+    let b = products_expanded (expansions_of p c.args.in_sight) p (tree.products (map product_view c.args.steps.now)) sub in
+    let k = c.if-not-take_node.ensures {u = tt} in
+    let r = err_from_is_err_and c.from_residual.result c.from_residual.ensures.1 in
+    expr-lacks (plain.product a b) (expr_nodes a) (expr_depth a) 1 c.args.room.now c.take_node.new.room c.args.deep c.expand_expr.new.room _ c.from_residual.result (r.1 ∙ ap (λ (f : ExpandFault). Err f) r.2) k.0 (omega arith) (omega arith) k.1 (c.in_err-start.ensures {u = tt})
+
+pub expand_product-expand_product_steps-requires : goal.expand_product-expand_product_steps-requires
+expand_product-expand_product_steps-requires t c = (omega arith, c.requires)
+
+pub expand_product-returns-in_err-others : goal.expand_product-returns-in_err-others
+expand_product-returns-in_err-others t c =
+    let p = c.args.source.now.problem.now in
+    let sub = scope_view p c.args.scope.now in
+    let a = expr_expanded (expansions_of p c.args.in_sight) p (expr_view c.args.first.now) sub in
+    let b = products_expanded (expansions_of p c.args.in_sight) p (tree.products (map product_view c.args.steps.now)) sub in
+    let k = c.if-not-take_node.ensures {u = tt} in
+    let r = err_from_is_err_and c.from_residual-in_err-others.result c.from_residual-in_err-others.ensures.1 in
+    let n = (c.in_ok-start.ensures {u = tt}).taken in
+    expr-lacks (plain.product a b) (products_nodes b) (products_depth b) (1 + expr_nodes a) c.args.room.now c.expand_expr.new.room c.args.deep c.expand_product_steps.new.room _ c.from_residual-in_err-others.result (r.1 ∙ ap (λ (f : ExpandFault). Err f) r.2) (let z = k.0 in omega arith) (omega arith) (omega arith) k.1 (c.in_err-others.ensures {u = tt})
+
+pub expand_product-returns : goal.expand_product-returns
+expand_product-returns t c =
+    let p = c.args.source.now.problem.now in
+    let sub = scope_view p c.args.scope.now in
+    let a = expr_expanded (expansions_of p c.args.in_sight) p (expr_view c.args.first.now) sub in
+    let b = products_expanded (expansions_of p c.args.in_sight) p (tree.products (map product_view c.args.steps.now)) sub in
+    product-made a b c.args.room.now c.take_node.new.room c.expand_expr.new.room c.args.deep c.expand_product_steps.new.room c.in_ok-start.start c.in_ok-others.others.items c.product.result (c.if-not-take_node.ensures {u = tt}) (c.in_ok-start.ensures {u = tt}) (c.in_ok-others.ensures {u = tt}) c.product.ensures
+
+pub expand_negative-returns-then-not-take_node : goal.expand_negative-returns-then-not-take_node
+expand_negative-returns-then-not-take_node t c = no-node _ _ _ _ (omega arith) (omega arith) (c.if-not-take_node.ensures {u = tt})
+
+pub expand_least-returns-then-not-take_node : goal.expand_least-returns-then-not-take_node
+expand_least-returns-then-not-take_node t c = no-node _ _ _ _ (omega arith) (omega arith) (c.if-not-take_node.ensures {u = tt})
+
+pub expand_greatest-returns-then-not-take_node : goal.expand_greatest-returns-then-not-take_node
+expand_greatest-returns-then-not-take_node t c = no-node _ _ _ _ (omega arith) (omega arith) (c.if-not-take_node.ensures {u = tt})
+
+pub expand_sum-returns-then-not-take_node : goal.expand_sum-returns-then-not-take_node
+expand_sum-returns-then-not-take_node t c = no-node _ _ _ _ (omega arith) (omega arith) (c.if-not-take_node.ensures {u = tt})
+
+pub expand_product-returns-then-not-take_node : goal.expand_product-returns-then-not-take_node
+expand_product-returns-then-not-take_node t c = no-node _ _ _ _ (omega arith) (omega arith) (c.if-not-take_node.ensures {u = tt})

@@ -1,19 +1,24 @@
-use Rattle.std.proofs.Common.{◌≡◌, ℕ, ap, sym, map, subst, arith}
+use Rattle.std.proofs.Common.{◌≡◌, ◌∙◌, ℕ, ◌+◌, ◌-◌, max, ap, sym, map, subst, refl, arith}
 use Rattle.std.proofs.lemmas.Result.{err_from_is_err_and}
-use Rattle.std.specs.Prelude.{Result}
+use Rattle.std.specs.Prelude.{Result, Err}
 use Rattle.rule_syntax.specs.Tree as tree
 use Rattle.rule_syntax.specs.Tree.{FormulaTree}
 use Rattle.problem_data.specs.Problem.{ProblemData}
-use Rattle.rule_syntax.specs.View.{formula_view, argument_view}
-use Rattle.rule_expand.specs.Expansion.{Subst, Expansions, arguments_meant, expansions_of, formula_expanded}
+use Rattle.rule_syntax.specs.View.{coll_view, formula_view, argument_view}
+use Rattle.rule_expand.specs.Expansion.{Subst, Expansions, a_subject, arguments_meant, binders, coll_expanded, expansions_of, formula_expanded, formulas_expanded, give}
+use Rattle.rule_expand.specs.Counts.{nodes, depth, nodes_in, depth_in}
 use Rattle.rule_expand.specs.Costs.{formula_cost, formula_costs_of}
-use Rattle.rule_expand.specs.Limits.{GivesFormula}
+use Rattle.rule_expand.specs.Limits.{IsLimitFault, FormulaMade, GivesFormula}
+use Rattle.rule_expand.specs.Plain as plain
 use Rattle.rule_expand.specs.Plain.{PlainFormulaTree}
+use Rattle.rule_expand.specs.declared.plain.Subject.TheVariants as subjects
 use Rattle.rule_expand.specs.declared.plain.PlainFormula.{PlainFormula}
 use Rattle.rule_expand.specs.declared.limits.ExpandFault.{ExpandFault}
 use Rattle.rule_expand.specs.ScopeView.{scope_view}
+use Rattle.rule_expand.proofs.OneNode.{no-node, formula-lacks, formula-forgone, negation-made, operands-made, both-made, quantified-made}
+use Rattle.rule_expand.proofs.Scopes.{variable-seen}
 use Rattle.rule_expand.proofs.Operands.{operands-fault, operands-step, operands-end, operand-cost, binders-nodes}
-use Rattle.rule_syntax.proofs.Views.{negation-seen, all_of-seen, any_of-seen, implication-seen, equivalence-seen, comparison-seen, quantified-seen, formula_call-seen}
+use Rattle.rule_syntax.proofs.Views.{truth-seen, falsehood-seen, negation-seen, all_of-seen, any_of-seen, implication-seen, equivalence-seen, comparison-seen, quantified-seen, formula_call-seen}
 use Rattle.rule_expand.proofs.formulas.+formula.Goals as goal
 
 given-as : (x : Expansions) (p : ProblemData) (sub : Subst) {u v : FormulaTree} (next room deep next' left : ℕ) (r : Result PlainFormula ExpandFault) → v ≡ u →
@@ -120,3 +125,177 @@ expand_formula-expand_formula_call-requires t c =
 pub expand_formula-returns-in-Call : goal.expand_formula-returns-in-Call
 expand_formula-returns-in-Call t c =
     given-as (expansions_of c.args.source.now.problem.now c.args.in_sight) c.args.source.now.problem.now (scope_view c.args.source.now.problem.now c.args.scope.now) c.args.next.now c.args.room.now c.args.deep _ _ _ (formula_call-seen c.in-Call.field-0 c.in-Call.m c.in-Call.args c.in-Call.is c.deref-in-Call.ensures.value) c.expand_formula_call.ensures
+
+pub expand_negation-expand_formula-requires : goal.expand_negation-expand_formula-requires
+expand_negation-expand_formula-requires t c =
+    let k = (c.if-not-take_node.ensures {u = tt}).0 in
+    let n = c.requires.numbers in
+    (omega arith, (c.requires.known, omega (arith, k, n)))
+
+pub expand_negation-returns-in_err-inner : goal.expand_negation-returns-in_err-inner
+expand_negation-returns-in_err-inner t c =
+    let p = c.args.source.now.problem.now in
+    let sub = scope_view p c.args.scope.now in
+    let f = formula_expanded (expansions_of p c.args.in_sight) p (formula_view c.args.f.now) sub c.args.next.now in
+    let k = c.if-not-take_node.ensures {u = tt} in
+    let r = err_from_is_err_and c.from_residual.result c.from_residual.ensures.1 in
+    formula-lacks (plain.negation f) (nodes f) (depth f) 1 c.args.next.now c.args.room.now c.take_node.new.room c.args.deep c.expand_formula.new.next c.expand_formula.new.room _ c.from_residual.result (r.1 ∙ ap (λ (f : ExpandFault). Err f) r.2) k.0 (omega arith) (omega arith) k.1 (c.in_err-inner.ensures {u = tt})
+
+pub expand_negation-returns : goal.expand_negation-returns
+expand_negation-returns t c =
+    let p = c.args.source.now.problem.now in
+    let sub = scope_view p c.args.scope.now in
+    negation-made (formula_expanded (expansions_of p c.args.in_sight) p (formula_view c.args.f.now) sub c.args.next.now) c.args.next.now c.args.room.now c.take_node.new.room c.args.deep c.expand_formula.new.next c.expand_formula.new.room c.in_ok-inner.inner c.negation.result (c.if-not-take_node.ensures {u = tt}) (c.in_ok-inner.ensures {u = tt}) c.negation.ensures
+
+pub expand_all_of-expand_each-requires : goal.expand_all_of-expand_each-requires
+expand_all_of-expand_each-requires t c =
+    let k = (c.if-not-take_node.ensures {u = tt}).0 in
+    let n = c.requires.numbers in
+    (omega arith, (c.requires.known, omega (arith, k, n)))
+
+pub expand_all_of-returns-in_err-parts : goal.expand_all_of-returns-in_err-parts
+expand_all_of-returns-in_err-parts t c =
+    let p = c.args.source.now.problem.now in
+    let sub = scope_view p c.args.scope.now in
+    let fs = formulas_expanded (expansions_of p c.args.in_sight) p (tree.formulas (map formula_view c.args.fs.now)) sub c.args.next.now in
+    let k = c.if-not-take_node.ensures {u = tt} in
+    let r = err_from_is_err_and c.from_residual.result c.from_residual.ensures.1 in
+    formula-lacks (plain.all_of fs) (nodes_in fs) (depth_in fs) 1 c.args.next.now c.args.room.now c.take_node.new.room c.args.deep c.expand_each.new.next c.expand_each.new.room _ c.from_residual.result (r.1 ∙ ap (λ (f : ExpandFault). Err f) r.2) k.0 (omega arith) (omega arith) k.1 (c.in_err-parts.ensures {u = tt})
+
+pub expand_all_of-returns : goal.expand_all_of-returns
+expand_all_of-returns t c =
+    let p = c.args.source.now.problem.now in
+    let sub = scope_view p c.args.scope.now in
+    let fs = formulas_expanded (expansions_of p c.args.in_sight) p (tree.formulas (map formula_view c.args.fs.now)) sub c.args.next.now in
+    operands-made plain.all_of fs c.args.next.now c.args.room.now c.take_node.new.room c.args.deep c.expand_each.new.next c.expand_each.new.room c.in_ok-parts.parts.items c.all_of.result refl refl refl (c.if-not-take_node.ensures {u = tt}) (c.in_ok-parts.ensures {u = tt}) c.all_of.ensures
+
+pub expand_any_of-expand_each-requires : goal.expand_any_of-expand_each-requires
+expand_any_of-expand_each-requires t c =
+    let k = (c.if-not-take_node.ensures {u = tt}).0 in
+    let n = c.requires.numbers in
+    (omega arith, (c.requires.known, omega (arith, k, n)))
+
+pub expand_any_of-returns-in_err-parts : goal.expand_any_of-returns-in_err-parts
+expand_any_of-returns-in_err-parts t c =
+    let p = c.args.source.now.problem.now in
+    let sub = scope_view p c.args.scope.now in
+    let fs = formulas_expanded (expansions_of p c.args.in_sight) p (tree.formulas (map formula_view c.args.fs.now)) sub c.args.next.now in
+    let k = c.if-not-take_node.ensures {u = tt} in
+    let r = err_from_is_err_and c.from_residual.result c.from_residual.ensures.1 in
+    formula-lacks (plain.any_of fs) (nodes_in fs) (depth_in fs) 1 c.args.next.now c.args.room.now c.take_node.new.room c.args.deep c.expand_each.new.next c.expand_each.new.room _ c.from_residual.result (r.1 ∙ ap (λ (f : ExpandFault). Err f) r.2) k.0 (omega arith) (omega arith) k.1 (c.in_err-parts.ensures {u = tt})
+
+pub expand_any_of-returns : goal.expand_any_of-returns
+expand_any_of-returns t c =
+    let p = c.args.source.now.problem.now in
+    let sub = scope_view p c.args.scope.now in
+    let fs = formulas_expanded (expansions_of p c.args.in_sight) p (tree.formulas (map formula_view c.args.fs.now)) sub c.args.next.now in
+    operands-made plain.any_of fs c.args.next.now c.args.room.now c.take_node.new.room c.args.deep c.expand_each.new.next c.expand_each.new.room c.in_ok-parts.parts.items c.any_of.result refl refl refl (c.if-not-take_node.ensures {u = tt}) (c.in_ok-parts.ensures {u = tt}) c.any_of.ensures
+
+pub expand_implication-expand_pair-requires : goal.expand_implication-expand_pair-requires
+expand_implication-expand_pair-requires t c =
+    let k = (c.if-not-take_node.ensures {u = tt}).0 in
+    let n = c.requires.numbers in
+    (omega arith, (c.requires.known, omega (arith, k, n)))
+
+pub expand_implication-returns-in_err-pair : goal.expand_implication-returns-in_err-pair
+expand_implication-returns-in_err-pair t c =
+    let p = c.args.source.now.problem.now in
+    let sub = scope_view p c.args.scope.now in
+    let f = formula_expanded (expansions_of p c.args.in_sight) p (formula_view c.args.f.now) sub c.args.next.now in
+    let g = formula_expanded (expansions_of p c.args.in_sight) p (formula_view c.args.g.now) sub (c.args.next.now + binders f) in
+    let k = c.if-not-take_node.ensures {u = tt} in
+    let r = err_from_is_err_and c.from_residual.result c.from_residual.ensures.1 in
+    formula-lacks (plain.implication f g) (nodes f + nodes g) (max (depth f) (depth g)) 1 c.args.next.now c.args.room.now c.take_node.new.room c.args.deep c.expand_pair.new.next c.expand_pair.new.room _ c.from_residual.result (r.1 ∙ ap (λ (f : ExpandFault). Err f) r.2) k.0 (omega arith) (omega arith) k.1 (c.in_err-pair.ensures {u = tt})
+
+pub expand_implication-returns : goal.expand_implication-returns
+expand_implication-returns t c =
+    let p = c.args.source.now.problem.now in
+    let sub = scope_view p c.args.scope.now in
+    let f = formula_expanded (expansions_of p c.args.in_sight) p (formula_view c.args.f.now) sub c.args.next.now in
+    let g = formula_expanded (expansions_of p c.args.in_sight) p (formula_view c.args.g.now) sub (c.args.next.now + binders f) in
+    both-made plain.implication f g c.args.next.now c.args.room.now c.take_node.new.room c.args.deep c.expand_pair.new.next c.expand_pair.new.room _ _ c.implication.result refl refl refl (c.if-not-take_node.ensures {u = tt}) (c.in_ok-pair.ensures {u = tt}) c.implication.ensures
+
+pub expand_equivalence-expand_pair-requires : goal.expand_equivalence-expand_pair-requires
+expand_equivalence-expand_pair-requires t c =
+    let k = (c.if-not-take_node.ensures {u = tt}).0 in
+    let n = c.requires.numbers in
+    (omega arith, (c.requires.known, omega (arith, k, n)))
+
+pub expand_equivalence-returns-in_err-pair : goal.expand_equivalence-returns-in_err-pair
+expand_equivalence-returns-in_err-pair t c =
+    let p = c.args.source.now.problem.now in
+    let sub = scope_view p c.args.scope.now in
+    let f = formula_expanded (expansions_of p c.args.in_sight) p (formula_view c.args.f.now) sub c.args.next.now in
+    let g = formula_expanded (expansions_of p c.args.in_sight) p (formula_view c.args.g.now) sub (c.args.next.now + binders f) in
+    let k = c.if-not-take_node.ensures {u = tt} in
+    let r = err_from_is_err_and c.from_residual.result c.from_residual.ensures.1 in
+    formula-lacks (plain.equivalence f g) (nodes f + nodes g) (max (depth f) (depth g)) 1 c.args.next.now c.args.room.now c.take_node.new.room c.args.deep c.expand_pair.new.next c.expand_pair.new.room _ c.from_residual.result (r.1 ∙ ap (λ (f : ExpandFault). Err f) r.2) k.0 (omega arith) (omega arith) k.1 (c.in_err-pair.ensures {u = tt})
+
+pub expand_equivalence-returns : goal.expand_equivalence-returns
+expand_equivalence-returns t c =
+    let p = c.args.source.now.problem.now in
+    let sub = scope_view p c.args.scope.now in
+    let f = formula_expanded (expansions_of p c.args.in_sight) p (formula_view c.args.f.now) sub c.args.next.now in
+    let g = formula_expanded (expansions_of p c.args.in_sight) p (formula_view c.args.g.now) sub (c.args.next.now + binders f) in
+    both-made plain.equivalence f g c.args.next.now c.args.room.now c.take_node.new.room c.args.deep c.expand_pair.new.next c.expand_pair.new.room _ _ c.equivalence.result refl refl refl (c.if-not-take_node.ensures {u = tt}) (c.in_ok-pair.ensures {u = tt}) c.equivalence.ensures
+
+pub expand_negation-returns-then-not-take_node : goal.expand_negation-returns-then-not-take_node
+expand_negation-returns-then-not-take_node t c = no-node _ _ _ _ (omega arith) (omega arith) (c.if-not-take_node.ensures {u = tt})
+
+pub expand_all_of-returns-then-not-take_node : goal.expand_all_of-returns-then-not-take_node
+expand_all_of-returns-then-not-take_node t c = no-node _ _ _ _ (omega arith) (omega arith) (c.if-not-take_node.ensures {u = tt})
+
+pub expand_any_of-returns-then-not-take_node : goal.expand_any_of-returns-then-not-take_node
+expand_any_of-returns-then-not-take_node t c = no-node _ _ _ _ (omega arith) (omega arith) (c.if-not-take_node.ensures {u = tt})
+
+pub expand_implication-returns-then-not-take_node : goal.expand_implication-returns-then-not-take_node
+expand_implication-returns-then-not-take_node t c = no-node _ _ _ _ (omega arith) (omega arith) (c.if-not-take_node.ensures {u = tt})
+
+pub expand_equivalence-returns-then-not-take_node : goal.expand_equivalence-returns-then-not-take_node
+expand_equivalence-returns-then-not-take_node t c = no-node _ _ _ _ (omega arith) (omega arith) (c.if-not-take_node.ensures {u = tt})
+
+pub expand_quantified-returns-then-not-take_node : goal.expand_quantified-returns-then-not-take_node
+expand_quantified-returns-then-not-take_node t c = no-node _ _ _ _ (omega arith) (omega arith) (c.if-not-take_node.ensures {u = tt})
+
+pub expand_quantified-expand_formula-requires : goal.expand_quantified-expand_formula-requires
+expand_quantified-expand_formula-requires t c =
+    let k = (c.if-not-take_node.ensures {u = tt}).0 in
+    let n = c.requires.numbers in
+    (omega arith, (c.requires.known, omega (arith, k, n)))
+
+pub expand_quantified-returns-in_err-elements : goal.expand_quantified-returns-in_err-elements
+expand_quantified-returns-in_err-elements t c =
+    let p = c.args.source.now.problem.now in
+    let sub = scope_view p c.args.scope.now in
+    let elements = coll_expanded p (coll_view c.args.coll.now) sub in
+    let f = formula_expanded (expansions_of p c.args.in_sight) p (formula_view c.args.f.now) (give c.args.v.now.name (a_subject (subjects.Variable c.args.next.now)) sub) (c.args.next.now + 1) in
+    let r = err_from_is_err_and c.from_residual.result c.from_residual.ensures.1 in
+    formula-forgone (plain.quantified c.args.kind c.args.next.now elements f) c.args.next.now c.args.room.now c.args.deep c.args.next.now c.take_node.new.room _ c.from_residual.result (r.1 ∙ ap (λ (f : ExpandFault). Err f) r.2) (c.in_err-elements.ensures {u = tt})
+
+pub expand_quantified-returns-in_err-body : goal.expand_quantified-returns-in_err-body
+expand_quantified-returns-in_err-body t c =
+    let p = c.args.source.now.problem.now in
+    let sub = scope_view p c.args.scope.now in
+    let elements = coll_expanded p (coll_view c.args.coll.now) sub in
+    let f = formula_expanded (expansions_of p c.args.in_sight) p (formula_view c.args.f.now) (give c.args.v.now.name (a_subject (subjects.Variable c.args.next.now)) sub) (c.args.next.now + 1) in
+    let k = c.if-not-take_node.ensures {u = tt} in
+    let r = err_from_is_err_and c.from_residual-in_err-body.result c.from_residual-in_err-body.ensures.1 in
+    formula-lacks (plain.quantified c.args.kind c.args.next.now elements f) (nodes f) (depth f) 1 c.args.next.now c.args.room.now c.take_node.new.room c.args.deep c.expand_formula.new.next c.expand_formula.new.room _ c.from_residual-in_err-body.result (r.1 ∙ ap (λ (f : ExpandFault). Err f) r.2) k.0 (omega arith) (omega arith) k.1
+    (subst (λ (s : Subst). IsLimitFault (nodes (formula_expanded (expansions_of p c.args.in_sight) p (formula_view c.args.f.now) s (c.args.next.now + 1))) (depth (formula_expanded (expansions_of p c.args.in_sight) p (formula_view c.args.f.now) s (c.args.next.now + 1))) c.take_node.new.room (c.args.deep - 1) c.in_err-body.field-0.0) (variable-seen p _ _ _) (c.in_err-body.ensures {u = tt}))
+
+pub expand_quantified-returns : goal.expand_quantified-returns
+expand_quantified-returns t c =
+    let p = c.args.source.now.problem.now in
+    let sub = scope_view p c.args.scope.now in
+    let elements = coll_expanded p (coll_view c.args.coll.now) sub in
+    let f = formula_expanded (expansions_of p c.args.in_sight) p (formula_view c.args.f.now) (give c.args.v.now.name (a_subject (subjects.Variable c.args.next.now)) sub) (c.args.next.now + 1) in
+    quantified-made c.args.kind elements f c.args.next.now c.args.room.now c.take_node.new.room c.args.deep c.expand_formula.new.next c.expand_formula.new.room c.in_ok-elements.elements c.in_ok-body.body c.quantified.result (c.if-not-take_node.ensures {u = tt}) (c.in_ok-elements.ensures {u = tt})
+    (subst (λ (s : Subst). FormulaMade (formula_expanded (expansions_of p c.args.in_sight) p (formula_view c.args.f.now) s (c.args.next.now + 1)) (c.args.next.now + 1) c.take_node.new.room (c.args.deep - 1) c.expand_formula.new.next c.expand_formula.new.room c.in_ok-body.body) (variable-seen p _ _ _) (c.in_ok-body.ensures {u = tt})) c.quantified.ensures
+
+pub expand_formula-returns-in-True : goal.expand_formula-returns-in-True
+expand_formula-returns-in-True t c =
+    given-as (expansions_of c.args.source.now.problem.now c.args.in_sight) c.args.source.now.problem.now (scope_view c.args.source.now.problem.now c.args.scope.now) c.args.next.now c.args.room.now c.args.deep _ _ _ (truth-seen c.in-True.field-0 c.in-True.is) (c.truth.ensures c.args.next.now)
+
+pub expand_formula-returns-in-False : goal.expand_formula-returns-in-False
+expand_formula-returns-in-False t c =
+    given-as (expansions_of c.args.source.now.problem.now c.args.in_sight) c.args.source.now.problem.now (scope_view c.args.source.now.problem.now c.args.scope.now) c.args.next.now c.args.room.now c.args.deep _ _ _ (falsehood-seen c.in-False.field-0 c.in-False.is) (c.falsehood.ensures c.args.next.now)

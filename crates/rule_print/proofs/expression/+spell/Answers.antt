@@ -1,9 +1,17 @@
-use Rattle.std.proofs.Common.{◌∷◌, [], ◌∙◌, sym, ap}
-use Rattle.rule_print.specs.Canonical.{Written}
+use Rattle.std.proofs.Common.{◌≡◌, ◌∷◌, [], ◌∙◌, ℕ, sym, ap, map}
+use Rattle.geo_tokens.specs.declared.token.Keyword.TheVariants as keywords
+use Rattle.rule_syntax.specs.Tree as tree
+use Rattle.rule_syntax.specs.Tree.{ExprTree, SumTree, ProductTree, ArgumentTree}
+use Rattle.rule_syntax.specs.View.{product_view, expr_step, sum_step, product_step, argument_step}
+use Rattle.rule_syntax.specs.declared.tree.ProdStep.{ProdStep}
+use Rattle.rule_syntax.specs.declared.tree.ProdStep.TheVariants as product_steps
+use Rattle.rule_syntax.specs.declared.tree.Expr.TheOpen.{ProdStep-F}
+use Rattle.rule_syntax.specs.declared.tree.Expr.TheFolds.{fold-roll-ProdStep}
+use Rattle.rule_print.specs.Canonical.{Written, word, written}
 use Rattle.rule_print.specs.Spelled.{expr_spelling, sum_step_spelling, product_step_spelling}
-use Rattle.rule_syntax.proofs.Views.{num-seen, field-seen, param-seen, negative-seen, sum-seen, product-seen, least-seen, greatest-seen, call-seen, plus-seen, minus-seen, times-seen}
+use Rattle.rule_syntax.proofs.Views.{num-seen, field-seen, param-seen, shape-seen, negative-seen, sum-seen, product-seen, least-seen, greatest-seen, call-seen, plus-seen, minus-seen, times-seen}
 use Rattle.rule_print.proofs.Framed.{more_framed, spelled_as, two_listed}
-use Rattle.rule_print.proofs.Loops.{arguments-step, products-step, sums-step}
+use Rattle.rule_print.proofs.Loops.{arguments-step, arguments-end, products-step, sums-step}
 use Rattle.rule_print.proofs.expression.+spell.Goals as goal
 
 pub spell_sum_steps-steps-preserved : goal.spell_sum_steps-steps-preserved
@@ -63,3 +71,24 @@ spell_sum_step-returns-in-Plus t c =
 pub spell_sum_step-returns-in-Minus : goal.spell_sum_step-returns-in-Minus
 spell_sum_step-returns-in-Minus t c =
     spelled_as c.spell_behind-in-Minus.result _ _ _ _ (ap sum_step_spelling (minus-seen c.in-Minus.term c.in-Minus.is)) c.spell_behind-in-Minus.ensures
+
+pub spell_arguments-returns : goal.spell_arguments-returns
+spell_arguments-returns t c = arguments-end c.push_symbol-2.result c.arguments.is_first c.args.given.now c.arguments.argument-index (map written c.args.into.now.items) _ _ _ c.arguments-test.false c.arguments.invariant c.push_symbol-2.ensures
+
+pub spell_expression-returns-in-ShapeNum : goal.spell_expression-returns-in-ShapeNum
+spell_expression-returns-in-ShapeNum t c =
+    spelled_as c.push_all.result _ _ _ _ (ap (expr_spelling c.args.rank) (shape-seen c.in-ShapeNum.field-0 c.in-ShapeNum.name c.in-ShapeNum.is) ∙ ap (λ (w : Written). word keywords.Shape ∷ w ∷ []) (sym c.name_lexeme.ensures)) c.push_all.ensures
+
+div-seen : {e : ProdStep} (place n : ℕ) → e ≡ product_steps.Div place n → product_view e ≡ tree.over place n
+div-seen place n h = rw h (ap product_view (sym (product_steps.rolls-Div place n)) ∙ fold-roll-ProdStep ExprTree ProductTree SumTree ArgumentTree expr_step product_step sum_step argument_step (ProdStep-F.Div place n))
+
+mod-seen : {e : ProdStep} (place n : ℕ) → e ≡ product_steps.Mod place n → product_view e ≡ tree.modulo place n
+mod-seen place n h = rw h (ap product_view (sym (product_steps.rolls-Mod place n)) ∙ fold-roll-ProdStep ExprTree ProductTree SumTree ArgumentTree expr_step product_step sum_step argument_step (ProdStep-F.Mod place n))
+
+pub spell_product_step-returns-in-Div : goal.spell_product_step-returns-in-Div
+spell_product_step-returns-in-Div t c =
+    spelled_as c.push_all.result _ _ _ _ (ap product_step_spelling (div-seen c.in-Div.field-0 c.in-Div.n c.in-Div.is) ∙ ap (λ (w : Written). word keywords.Div ∷ w ∷ []) (sym c.number_lexeme.ensures)) c.push_all.ensures
+
+pub spell_product_step-returns-in-Mod : goal.spell_product_step-returns-in-Mod
+spell_product_step-returns-in-Mod t c =
+    spelled_as c.push_all-in-Mod.result _ _ _ _ (ap product_step_spelling (mod-seen c.in-Mod.field-0 c.in-Mod.n c.in-Mod.is) ∙ ap (λ (w : Written). word keywords.Mod ∷ w ∷ []) (sym c.number_lexeme-in-Mod.ensures)) c.push_all-in-Mod.ensures

@@ -1,8 +1,12 @@
-use Rattle.std.proofs.Common.{ap}
-use Rattle.rule_print.specs.Spelled.{formula_spelling}
+use Rattle.std.proofs.Common.{ap, map}
+use Rattle.geo_tokens.specs.declared.token.Sym.TheVariants as syms
+use Rattle.rule_syntax.specs.Tree.{formulas}
+use Rattle.rule_syntax.specs.View.{formula_view}
+use Rattle.rule_print.specs.Canonical.{written}
+use Rattle.rule_print.specs.Spelled.{formula_spelling, operands_spelling}
 use Rattle.rule_syntax.proofs.Views.{truth-seen, falsehood-seen, negation-seen, all_of-seen, any_of-seen, implication-seen, equivalence-seen, comparison-seen, quantified-seen, formula_call-seen}
-use Rattle.rule_print.proofs.Framed.{two_framed, spelled_as, spelled_behind, range_behind}
-use Rattle.rule_print.proofs.Loops.{operands-step}
+use Rattle.rule_print.proofs.Framed.{one_framed, two_framed, spelled_as, spelled_behind, range_behind}
+use Rattle.rule_print.proofs.Loops.{operands-step, operands-end}
 use Rattle.rule_print.proofs.formula.+spell_formula.Goals as goal
 
 pub spell_operands-operands-preserved : goal.spell_operands-operands-preserved
@@ -46,3 +50,11 @@ spell_formula-returns-in-Call t c =
 pub spell_formula-returns-in_ok-spell_range-in-Quant : goal.spell_formula-returns-in_ok-spell_range-in-Quant
 spell_formula-returns-in_ok-spell_range-in-Quant t c =
     range_behind c.spell_formula.result _ _ _ _ _ _ _ _ _ _ (c.in_ok-spell_range-in-Quant.ensures {u = tt}) c.spell_formula.ensures (ap (formula_spelling c.args.rank) (quantified-seen c.in-Quant.field-0 c.in-Quant.kind c.in-Quant.variable c.in-Quant.coll c.in-Quant.body c.in-Quant.is c.deref-in-Quant.ensures))
+
+pub spell_operands-returns : goal.spell_operands-returns
+spell_operands-returns t c = operands-end c.args.mark c.args.rank c.operands.is_first c.args.operands.now c.operands.operand-index (map written c.operands.into.items) _ c.operands-test.false c.operands.invariant
+
+pub spell_joined-returns : goal.spell_joined-returns
+spell_joined-returns t c =
+    one_framed c.push_if-2.result c.is_looser-in_brackets.result _ syms.BracketOpen syms.BracketClose (map written c.args.into.now.items) _ _ _ (operands_spelling c.args.mark c.args.inner (formulas (map formula_view c.args.operands.now))) c.is_looser-in_brackets.ensures
+    (c.in_ok-push_if.ensures {u = tt}) (c.in_ok-spell_operands.ensures {u = tt}) c.push_if-2.ensures
