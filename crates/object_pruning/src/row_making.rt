@@ -1,7 +1,6 @@
 //! Making the rows of an object.
 
-ghost use Rattle.std.specs.Prelude.{◌≡◌, ◌≢◌, ℕ, ◌+◌, ◌-◌, ◌<◌, ◌≤◌, [], List, length, map, IfOk, IsTrue, OnOk};
-ghost use Rattle.geo_conditions.specs.declared.cond.Cond.{Cond};
+ghost use Rattle.std.specs.Prelude.{◌≡◌, ◌≢◌, ℕ, ◌+◌, ◌-◌, ◌<◌, ◌≤◌, [], length, map, IfOk, IsTrue, OnOk};
 ghost use Rattle.sweep.specs.Picks.{ArePicks};
 ghost use Rattle.object_pruning.specs.InRows.{AreRows, AreRowsBelow, PutsNumber};
 ghost use Rattle.object_pruning.specs.Runs.{row};

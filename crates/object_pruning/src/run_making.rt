@@ -1,12 +1,13 @@
 //! Making the runs of groups in rows.
 
-ghost use Rattle.std.specs.Prelude.{◌≡◌, ◌≢◌, ℕ, zero, ◌+◌, ◌<◌, true, List, length, slice_get, Some, IfOk, IsTrue, OnOk};
+ghost use Rattle.std.specs.Prelude.{◌≡◌, ◌≢◌, ℕ, ◌+◌, ◌<◌, true, length, IfOk, IsTrue, OnOk};
 ghost use Rattle.object_pruning.specs.Runs.{AreRuns, AreRunsTo, row};
 
 use super::rows::{Group, Rows, Run};
 use geo_conditions::ObjId;
 use std::alloc::{AllocError, Global};
 
+/// Whether both are the same object, or neither is one.
 pub fn is_same_object(a: Option<ObjId>, b: Option<ObjId>) -> bool
     ensures { IsTrue result → a ≡ b }
 {
