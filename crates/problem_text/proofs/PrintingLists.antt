@@ -1,8 +1,9 @@
 -- Members with commas between them that are still to be spelled: from the first one on, or behind it. And one member more: what was
 -- spelled, and what is left to spell, is the whole.
-use Rattle.std.proofs.Common.{◌≡◌, ◌<◌, ◌+◌, ◌++◌, ◌∷◌, [], ℕ, List, Bool, true, false, drop, length, get_or, append_assoc, sym, ap, ◌∙◌}
+use Rattle.std.proofs.Common.{◌≡◌, ◌<◌, ◌≤◌, ◌+◌, ◌++◌, ◌∷◌, [], ℕ, List, Bool, true, false, drop, length, get_or, append_assoc, refl, sym, ap, ◌∙◌}
 use Rattle.std.specs.Prelude.{if◌then◌else◌, not}
 use Rattle.std.proofs.lemmas.List.{append-nil, drop_more, get_or_default}
+use Rattle.std.proofs.Math.ListN.{drop_of_length-le}
 use Rattle.geo_tokens.specs.declared.token.Sym.TheVariants as syms
 use Rattle.rule_print.specs.Canonical.{Written, symbol}
 use Rattle.problem_text.specs.Canonical.{listed, more_listed}
@@ -43,3 +44,11 @@ pub comma_joined_at : {X : Type 0} (left : Bool → List X → List Written) (on
     (b : Bool) (xs : List X) (i : ℕ) (d x : X) (now marked later whole : List Written) → i < length xs → x ≡ get_or xs i d → marked ≡ now ++ (if not b then symbol syms.Comma ∷ [] else []) → later ≡ marked ++ one x →
     now ++ left b (drop i xs) ≡ whole → later ++ left false (drop (i + 1) xs) ≡ whole
 comma_joined_at left one first more b xs i d x now marked later whole h e = comma_joined left one first more b xs i x now marked later whole h (e ∙ sym (get_or_default xs i x d h))
+
+pub none_left : {A : Type 0} (s : A → List Written) (b : Bool) → left_listed b s [] ≡ []
+none_left s true = refl
+none_left s false = refl
+
+-- all members are spelled
+pub comma_joined_end : {X : Type 0} (left : Bool → List X → List Written) → ((b : Bool) → left b [] ≡ []) → (b : Bool) (xs : List X) (i : ℕ) (now whole : List Written) → length xs ≤ i → now ++ left b (drop i xs) ≡ whole → now ≡ whole
+comma_joined_end left none b xs i now whole h k = sym (append-nil now) ∙ sym (ap (λ l. now ++ l) (ap (left b) (drop_of_length-le xs h) ∙ none b)) ∙ k

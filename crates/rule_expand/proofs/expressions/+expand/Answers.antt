@@ -14,11 +14,13 @@ use Rattle.rule_expand.specs.Limits.{GivesExpr}
 use Rattle.rule_expand.specs.ScopeView.{scope_view, prices}
 use Rattle.rule_expand.specs.Handed.{IsHandedIndex}
 use Rattle.rule_expand.specs.declared.plain.PlainExpr.{PlainExpr}
+use Rattle.rule_expand.specs.declared.plain.PlainSum.{PlainSum}
+use Rattle.rule_expand.specs.declared.plain.PlainProd.{PlainProd}
 use Rattle.rule_expand.specs.declared.limits.ExpandFault.{ExpandFault}
 use Rattle.rule_expand.proofs.OneNode.{no-node, expr-lacks, negative-made, extreme-made, sum-made, product-made}
 use Rattle.rule_expand.proofs.Scopes.{prices-parameters}
 use Rattle.rule_expand.proofs.HandedOn.{argument-costs, call-handed}
-use Rattle.rule_expand.proofs.Steps.{sums-step, sums-fault, sums-end, sums-cost-at, products-step, products-fault, products-end, products-cost-at, plus-made, plus-fault, minus-made, minus-fault, times-made, times-fault}
+use Rattle.rule_expand.proofs.Steps.{SumsSoFar, ProductsSoFar, sums-init, products-init, sums-step, sums-fault, sums-end, sums-cost-at, products-step, products-fault, products-end, products-cost-at, plus-made, plus-fault, minus-made, minus-fault, times-made, times-fault}
 use Rattle.rule_syntax.proofs.Views.{num-seen, field-seen, param-seen, shape-seen, negative-seen, sum-seen, product-seen, least-seen, greatest-seen, call-seen, plus-seen, minus-seen, times-seen}
 use Rattle.rule_expand.proofs.expressions.+expand.Goals as goal
 
@@ -380,3 +382,19 @@ expand_sum-returns-then-not-take_node t c = no-node _ _ _ _ (omega arith) (omega
 
 pub expand_product-returns-then-not-take_node : goal.expand_product-returns-then-not-take_node
 expand_product-returns-then-not-take_node t c = no-node _ _ _ _ (omega arith) (omega arith) (c.if-not-take_node.ensures {u = tt})
+
+pub expand_sum_steps-loop-step-init : goal.expand_sum_steps-loop-step-init
+expand_sum_steps-loop-step-init t c = subst (λ (made : List PlainSum). SumsSoFar (expansions_of c.args.source.now.problem.now c.args.in_sight) c.args.source.now.problem.now (scope_view c.args.source.now.problem.now c.args.scope.now) c.args.steps.now 0 c.args.room.now c.args.deep c.args.room.now made) (sym c.new-made.ensures.items) (sums-init (expansions_of c.args.source.now.problem.now c.args.in_sight) c.args.source.now.problem.now (scope_view c.args.source.now.problem.now c.args.scope.now) c.args.steps.now c.args.room.now c.args.deep)
+
+pub expand_sum_steps-returns-in_err-add_sum : goal.expand_sum_steps-returns-in_err-add_sum
+expand_sum_steps-returns-in_err-add_sum t c =
+    let r = err_from_is_err_and c.from_residual-in_err-add_sum.result c.from_residual-in_err-add_sum.ensures.1 in
+    rw (r.1, r.2, c.in_err-add_sum.ensures {u = tt}) tt
+
+pub expand_product_steps-loop-step-init : goal.expand_product_steps-loop-step-init
+expand_product_steps-loop-step-init t c = subst (λ (made : List PlainProd). ProductsSoFar (expansions_of c.args.source.now.problem.now c.args.in_sight) c.args.source.now.problem.now (scope_view c.args.source.now.problem.now c.args.scope.now) c.args.steps.now 0 c.args.room.now c.args.deep c.args.room.now made) (sym c.new-made.ensures.items) (products-init (expansions_of c.args.source.now.problem.now c.args.in_sight) c.args.source.now.problem.now (scope_view c.args.source.now.problem.now c.args.scope.now) c.args.steps.now c.args.room.now c.args.deep)
+
+pub expand_product_steps-returns-in_err-add_product : goal.expand_product_steps-returns-in_err-add_product
+expand_product_steps-returns-in_err-add_product t c =
+    let r = err_from_is_err_and c.from_residual-in_err-add_product.result c.from_residual-in_err-add_product.ensures.1 in
+    rw (r.1, r.2, c.in_err-add_product.ensures {u = tt}) tt

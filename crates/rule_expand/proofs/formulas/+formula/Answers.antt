@@ -1,4 +1,4 @@
-use Rattle.std.proofs.Common.{◌≡◌, ◌∙◌, ℕ, ◌+◌, ◌-◌, max, ap, sym, map, subst, refl, arith}
+use Rattle.std.proofs.Common.{◌≡◌, ◌∙◌, ℕ, ◌+◌, ◌-◌, max, ap, sym, map, subst, refl, arith, List}
 use Rattle.std.proofs.lemmas.Result.{err_from_is_err_and}
 use Rattle.std.specs.Prelude.{Result, Err}
 use Rattle.rule_syntax.specs.Tree as tree
@@ -17,7 +17,7 @@ use Rattle.rule_expand.specs.declared.limits.ExpandFault.{ExpandFault}
 use Rattle.rule_expand.specs.ScopeView.{scope_view}
 use Rattle.rule_expand.proofs.OneNode.{no-node, formula-lacks, formula-forgone, negation-made, operands-made, both-made, quantified-made}
 use Rattle.rule_expand.proofs.Scopes.{variable-seen}
-use Rattle.rule_expand.proofs.Operands.{operands-fault, operands-step, operands-end, operand-cost, binders-nodes}
+use Rattle.rule_expand.proofs.Operands.{Continues, formula_trees, continues-init, operands-fault, operands-step, operands-end, operand-cost, binders-nodes}
 use Rattle.rule_syntax.proofs.Views.{truth-seen, falsehood-seen, negation-seen, all_of-seen, any_of-seen, implication-seen, equivalence-seen, comparison-seen, quantified-seen, formula_call-seen}
 use Rattle.rule_expand.proofs.formulas.+formula.Goals as goal
 
@@ -299,3 +299,12 @@ expand_formula-returns-in-True t c =
 pub expand_formula-returns-in-False : goal.expand_formula-returns-in-False
 expand_formula-returns-in-False t c =
     given-as (expansions_of c.args.source.now.problem.now c.args.in_sight) c.args.source.now.problem.now (scope_view c.args.source.now.problem.now c.args.scope.now) c.args.next.now c.args.room.now c.args.deep _ _ _ (falsehood-seen c.in-False.field-0 c.in-False.is) (c.falsehood.ensures c.args.next.now)
+
+pub expand_each-loop-f-init : goal.expand_each-loop-f-init
+expand_each-loop-f-init t c =
+    subst (λ (parts : List PlainFormula). Continues (expansions_of c.args.source.now.problem.now c.args.in_sight) c.args.source.now.problem.now (formula_trees c.args.fs.now) (formula_trees c.args.fs.now) (scope_view c.args.source.now.problem.now c.args.scope.now) c.args.next.now c.args.room.now c.args.deep c.args.next.now c.args.room.now parts) (sym c.new-parts.ensures.items) (continues-init (expansions_of c.args.source.now.problem.now c.args.in_sight) c.args.source.now.problem.now (formula_trees c.args.fs.now) (scope_view c.args.source.now.problem.now c.args.scope.now) c.args.next.now c.args.room.now c.args.deep)
+
+pub expand_each-returns-in_err-add_formula : goal.expand_each-returns-in_err-add_formula
+expand_each-returns-in_err-add_formula t c =
+    let r = err_from_is_err_and c.from_residual-in_err-add_formula.result c.from_residual-in_err-add_formula.ensures.1 in
+    rw (r.1, r.2, c.in_err-add_formula.ensures {u = tt}) tt
