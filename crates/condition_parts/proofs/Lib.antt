@@ -3,3 +3,4 @@ pub mod Either
 pub mod Under
 pub mod Apart
 pub mod Making
+pub mod Mapped

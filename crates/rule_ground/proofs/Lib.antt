@@ -3,6 +3,8 @@ pub mod ApartTruth
 pub mod Cells
 pub mod FlatTruth
 pub mod Lists
+pub mod Pairs
+pub mod Ends
 pub mod NamedSound
 pub mod Numbers
 pub mod Placing

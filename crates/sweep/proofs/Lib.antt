@@ -5,6 +5,7 @@ pub mod Chain
 pub mod RecordSteps
 pub mod Turns
 pub mod Digits
+pub mod Found
 pub mod Bound
 pub mod PickedConditions
 pub mod Promises

@@ -142,15 +142,20 @@ sound_found k keeps cs ds a b n p q found over some began old new r i none well 
     sound_behind k keeps cs ds a b n p q found true over over some true began old new i well same e m (λ o. h.2.5) (λ o. subst (λ (z : List Cond). IsReady z q true) (sym e) h.2.6) (λ o. absurd (cc)) (λ o. cc) (λ o. refl)
     (λ k b s t. absurd (cc))
 
+-- what a step leaves recorded of a search that has found nothing so far
+pub step_recorded : (k : ℕ) (keeps : Bool) (cs ds : List Cond) (a n : ℕ) (p q : Position) (found : Bool) (over : Option Step) (some began : Bool) (old new : List Event) (r s : Step) → IsSound k keeps cs a n p found over some began old →
+    over ≡ None → ds ≡ cs → r ≡ s → (keeps ≡ true → found ≡ false → p.token ≡ None → IsUnmoved p → old ≡ [] → RecordsStep cs q r new) → keeps ≡ true → began ≡ true → some ≡ false → p.token ≡ None → RecordsStep ds q s new
+step_recorded k keeps cs ds a n p q found over some began old new r s i none e is records h b f token =
+    let d = subst (λ (o : Option Step). Derives cs p o old) none (i.derives h b f token) in
+    subst (λ (z : List Cond). RecordsStep z q s new) (sym e) (subst (λ (z : Step). RecordsStep cs q z new) is (records h (none_found found some i.some f) token d.0 d.1))
+
 -- the same where it is over: a recorder that keeps nothing never wants memory
 pub sound_over : (k : ℕ) (keeps : Bool) (cs ds : List Cond) (a b n : ℕ) (p q : Position) (found : Bool) (over : Option Step) (some began : Bool) (old new : List Event) (r s : Step) → IsSound k keeps cs a n p found over some began old →
     over ≡ None → IsWell k q → SameWalk p q → ds ≡ cs → b ≡ a → r ≡ s → s ≢ Found → (s ≡ Memory → keeps ≢ false) → (keeps ≡ true → found ≡ false → p.token ≡ None → IsUnmoved p → old ≡ [] → RecordsStep cs q r new) →
     IsSound k keeps ds b n q false (Some s) some began new
 sound_over k keeps cs ds a b n p q found over some began old new r s i none well same e m is other memory records =
-    sound_behind k keeps cs ds a b n p q found false over (Some s) some some began old new i well same e m (λ o. absurd (cc)) (λ o. absurd (cc)) (λ o. kept keeps (memory (cc))) (λ o. other (cc)) (λ o. absurd (false≢true o)) (λ k b f t.
-    let token : p.token ≡ None = sym same.token ∙ t in
-    let d = subst (λ (o : Option Step). Derives cs p o old) none (i.derives k b f token) in
-    subst (λ (z : List Cond). RecordsStep z q s new) (sym e) (subst (λ (z : Step). RecordsStep cs q z new) is (records k (none_found found some i.some f) token d.0 d.1)))
+    sound_behind k keeps cs ds a b n p q found false over (Some s) some some began old new i well same e m (λ o. absurd (cc)) (λ o. absurd (cc)) (λ o. kept keeps (memory (cc))) (λ o. other (cc)) (λ o. absurd (false≢true o))
+    (λ h b f t. step_recorded k keeps cs ds a n p q found over some began old new r s i none e is records h b f (sym same.token ∙ t))
   where
     kept : (b : Bool) → b ≢ false → b ≡ true
     kept true h = refl

@@ -1,4 +1,4 @@
-use Rattle.std.proofs.Common.{◌≡◌, ◌+◌, ◌-◌, take, Bool, ap, ◌∙◌, subst, arith, length, Option, ℕ, true}
+use Rattle.std.proofs.Common.{◌≡◌, ◌+◌, ◌-◌, take, Bool, refl, ap, ◌∙◌, subst, arith, length, Option, ℕ, true}
 use Rattle.std.specs.Prelude.{MatchOption}
 use Rattle.geo_conditions.specs.Reach.{State}
 use Rattle.geo_conditions.specs.Supported.{NoneInside, NoneRefuted}
@@ -10,10 +10,10 @@ use Rattle.derivation.specs.Chains.{IsLed}
 use Rattle.plain_propagate.specs.Recorded.{RecordsOutcome}
 use Rattle.plain_propagate.proofs.Blaming.{blames_first, blames_none}
 use Rattle.derivation.proofs.Refuting.{some_refuted}
-use Rattle.derivation.proofs.Chains.{led_on, led_closed}
-use Rattle.derivation.proofs.Continuing.{growth_on, growth_failed}
+use Rattle.derivation.proofs.Chains.{led_same, led_on, led_closed}
+use Rattle.derivation.proofs.Continuing.{growth_none, growth_on, growth_failed}
 use Rattle.plain_propagate.proofs.Finding.{refuted_hopeless, all_supported}
-use Rattle.plain_propagate.proofs.Narrowed.{Unless, FineBelow}
+use Rattle.plain_propagate.proofs.Narrowed.{Unless, FineBelow, going_start}
 use Rattle.plain_propagate.proofs.Passing.{Along, along_changed, along_fine}
 use Rattle.plain_propagate.proofs.mending.pass.Goals as goal
 use Rattle.plain_propagate.proofs.mending.pass.Goals.{in-Changed, in-Fine}
@@ -32,6 +32,20 @@ returns-in-Dead-clause-record g c = λ kept.
     let mid = g.R.Recorder.list c.loop-o.rec in
     let end = g.R.Recorder.list c.repair.new.rec in
     led_closed cs c.args.t.now.state R (g.R.Recorder.list c.args.rec.now) mid end (c.loop-o.invariant.recorded kept) (subst (λ (a : Outcome). RecordsOutcome cs R a c.repair.new.t.state mid end) c.in-Dead.is (c.in_ok-outcome.ensures.record kept))
+
+pub loop-o-init : goal.loop-o-init
+loop-o-init g c =
+    let cs = c.args.cs.now in
+    let S = c.args.t.now.state in
+    let old = g.R.Recorder.list c.args.rec.now in
+    record {
+      going = going_start cs S c.requires.fits;
+      unless = refl;
+      fine = λ u h. absurd (omega arith);
+      levels = (refl, refl);
+      recorded = λ kept. led_same cs S S old old refl refl;
+      grows = growth_none g.R.Recorder.keeps old (g.R.Recorder.refusals c.args.rec.now);
+    }
 
 pub loop-o-preserved : goal.loop-o-preserved
 loop-o-preserved g c =

@@ -1,4 +1,4 @@
-use Rattle.std.proofs.Common.{◌≡◌, Bool, ◌∙◌, subst, Option}
+use Rattle.std.proofs.Common.{◌≡◌, Bool, refl, ◌∙◌, subst, Option}
 use Rattle.std.specs.Prelude.{MatchBool, MatchOption}
 use Rattle.geo_conditions.specs.Reach.{State}
 use Rattle.geo_conditions.specs.Supported.{NoneInside}
@@ -6,10 +6,23 @@ use Rattle.plain_propagate.specs.declared.defects.Defect.{Defect}
 use Rattle.plain_propagate.specs.Defects.{ObjectFine, IsDefect}
 use Rattle.plain_propagate.specs.Passes.{IsNarrower}
 use Rattle.derivation.specs.Chains.{IsLed, IsClosed}
-use Rattle.plain_propagate.proofs.Narrowed.{Mended, Unless, going_on, unless_on}
-use Rattle.derivation.proofs.Chains.{led_on, led_closed}
-use Rattle.derivation.proofs.Continuing.{growth_on, growth_failed}
+use Rattle.plain_propagate.proofs.Narrowed.{Mended, Unless, going_start, going_on, unless_on}
+use Rattle.derivation.proofs.Chains.{led_same, led_on, led_closed}
+use Rattle.derivation.proofs.Continuing.{growth_none, growth_on, growth_failed}
 use Rattle.plain_propagate.proofs.mending.repair.Goals as goal
+
+pub loop-defect-init : goal.loop-defect-init
+loop-defect-init g c =
+    let cs = c.args.cs.now in
+    let S = c.args.t.now.state in
+    let old = g.R.Recorder.list c.args.rec.now in
+    record {
+      going = going_start cs S c.requires.fits;
+      unless = refl;
+      levels = (refl, refl);
+      recorded = λ kept. led_same cs S S old old refl refl;
+      grows = growth_none g.R.Recorder.keeps old (g.R.Recorder.refusals c.args.rec.now);
+    }
 
 pub loop-defect-preserved : goal.loop-defect-preserved
 loop-defect-preserved g c =

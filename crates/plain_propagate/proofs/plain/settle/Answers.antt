@@ -1,12 +1,12 @@
-use Rattle.std.proofs.Common.{◌∙◌, subst, inr}
+use Rattle.std.proofs.Common.{refl, ◌∙◌, subst, inl, inr}
 use Rattle.geo_conditions.proofs.Points.{inside_trans}
 use Rattle.plain_propagate.specs.declared.mending.Outcome.{Outcome}
 use Rattle.plain_propagate.specs.Passes.{Passes}
 use Rattle.plain_propagate.specs.Recorded.{RecordsOutcome, BlamesOutcome}
 use Rattle.plain_propagate.proofs.Blaming.{blames_begun, blames_none, open_begun}
-use Rattle.plain_propagate.proofs.Narrowed.{going_on, settles_failed}
-use Rattle.derivation.proofs.Chains.{led_on, led_closed}
-use Rattle.derivation.proofs.Continuing.{growth_on, growth_failed}
+use Rattle.plain_propagate.proofs.Narrowed.{going_start, going_on, settles_failed}
+use Rattle.derivation.proofs.Chains.{led_same, led_on, led_closed}
+use Rattle.derivation.proofs.Continuing.{growth_none, growth_on, growth_failed}
 use Rattle.plain_propagate.proofs.plain.settle.Goals as goal
 
 pub returns-in-Dead-clause-record : goal.returns-in-Dead-clause-record
@@ -24,6 +24,19 @@ returns-in-Fine-clause-record g c = λ kept.
     let mid = g.R.Recorder.list c.passes.rec in
     let end = g.R.Recorder.list c.pass.new.rec in
     led_on cs c.args.t.now.state R c.pass.new.t.state (g.R.Recorder.list c.args.rec.now) mid end (c.passes.invariant.recorded kept) (subst (λ (a : Outcome). RecordsOutcome cs R a c.pass.new.t.state mid end) c.in-Fine.is (c.in_ok-pass.ensures.record kept))
+
+pub passes-init : goal.passes-init
+passes-init g c =
+    let cs = c.args.cs.now in
+    let S = c.args.t.now.state in
+    let old = g.R.Recorder.list c.args.rec.now in
+    record {
+      going = going_start cs S c.requires.fits;
+      levels = (refl, refl);
+      recorded = λ kept. led_same cs S S old old refl refl;
+      begun = λ kept. inl (refl, refl);
+      grows = growth_none g.R.Recorder.keeps old (g.R.Recorder.refusals c.args.rec.now);
+    }
 
 pub passes-preserved : goal.passes-preserved
 passes-preserved g c =

@@ -1,8 +1,8 @@
-use Rattle.std.proofs.Common.{map, None, refl}
+use Rattle.std.proofs.Common.{Bool, cond, map, Some, None, ap, sym, refl}
 use Rattle.geo_conditions.specs.Regions.{region_of}
 use Rattle.geo_conditions.proofs.Few.{dims_are}
 use Rattle.derivation.proofs.Continuing.{growth_refused}
-use Rattle.sweep.proofs.Between.{HasSwept-refused, HasSwept-empty, HasSwept-failed_on}
+use Rattle.sweep.proofs.Between.{HasSwept-refused, HasSwept-empty, HasSwept-failed_on, HasSwept-as}
 use Rattle.sweep.proofs.first_point.sweep_region.Goals as goal
 
 pub returns-in-Err : goal.returns-in-Err
@@ -19,3 +19,13 @@ pub returns-in-Err-sweep_turns : goal.returns-in-Err-sweep_turns
 returns-in-Err-sweep_turns g c =
     HasSwept-failed_on g.row.K c.args.way.now.lead c.args.way.now.up g.R.Recorder.keeps (map g.I.Indexical.cond c.args.list.now) c.args.picks.now c.args.s.now c.args.o.0 c.args.place (region_of c.args.region.now) (g.R.Recorder.list c.args.rec.now) (g.R.Recorder.list c.sweep_turns.new.rec) (g.R.Recorder.refusals c.args.rec.now) (g.R.Recorder.refusals c.sweep_turns.new.rec) c.args.steps.now c.sweep_turns.new.steps
     _ _ _ _ c.in-Err-sweep_turns.ensures
+
+pub returns-in-Ok-true : goal.returns-in-Ok-true
+returns-in-Ok-true g c =
+    HasSwept-as g.row.K c.args.way.now.lead c.args.way.now.up g.R.Recorder.keeps (map g.I.Indexical.cond c.args.list.now) c.args.picks.now c.args.s.now c.args.o.0 c.args.place (region_of c.args.region.now) (g.R.Recorder.list c.args.rec.now) (g.R.Recorder.list c.sweep_turns.new.rec) (g.R.Recorder.refusals c.args.rec.now) (g.R.Recorder.refusals c.sweep_turns.new.rec) c.args.steps.now c.sweep_turns.new.steps
+    _ _ c.in-Ok-true.field-0 _ (sym (ap (λ (b : Bool). cond b (Some c.sweep_turns.new.c.coordinates) None) c.in-Ok-true.field-0-test)) c.in-Ok-true.ensures
+
+pub returns-in-Ok-false : goal.returns-in-Ok-false
+returns-in-Ok-false g c =
+    HasSwept-as g.row.K c.args.way.now.lead c.args.way.now.up g.R.Recorder.keeps (map g.I.Indexical.cond c.args.list.now) c.args.picks.now c.args.s.now c.args.o.0 c.args.place (region_of c.args.region.now) (g.R.Recorder.list c.args.rec.now) (g.R.Recorder.list c.sweep_turns.new.rec) (g.R.Recorder.refusals c.args.rec.now) (g.R.Recorder.refusals c.sweep_turns.new.rec) c.args.steps.now c.sweep_turns.new.steps
+    _ _ c.in-Ok-false.field-0 _ (sym (ap (λ (b : Bool). cond b (Some c.sweep_turns.new.c.coordinates) None) c.in-Ok-false.field-0-test)) c.in-Ok-false.ensures

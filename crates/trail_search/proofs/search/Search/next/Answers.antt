@@ -3,10 +3,10 @@ use Rattle.geo_conditions.specs.declared.cond.Cond.{Cond}
 use Rattle.trail_search.specs.declared.step.Step.{Step}
 use Rattle.trail_search.specs.declared.step.Step.TheVariants.{Found, Ended, Budget, Memory}
 use Rattle.trail_search.specs.Next.{SearchView, layout_when}
-use Rattle.trail_search.specs.Record.{Derives, RecordsStep, open_levels}
+use Rattle.trail_search.specs.Record.{open_levels}
 use Rattle.trail_search.specs.Walker.{GoesOnAs, tree_of, is_answer}
 use Rattle.trail_search.proofs.Standing.{tree_same}
-use Rattle.trail_search.proofs.Nexts.{found_answer, ended_answer, budget_answer, as_before, stands_at, no_objects, none_found, sound_found, sound_over}
+use Rattle.trail_search.proofs.Nexts.{found_answer, ended_answer, budget_answer, as_before, stands_at, no_objects, step_recorded, sound_found, sound_over}
 use Rattle.std.proofs.lemmas.Bool.{false≢true}
 use Rattle.trail_search.proofs.search.Search.next.Goals as goal
 
@@ -87,19 +87,35 @@ returns-in-Memory-clause-no_record g c = λ k e. false≢true (sym (ap is_answer
 
 pub returns-in-Found-clause-recorded : goal.returns-in-Found-clause-recorded
 returns-in-Found-clause-recorded g c = λ k f b t.
-    let i = c.self.invariant in
-    let p = c.self.inside.walker in
-    let q = c.go_on.new.walker in
+    let i = c.self.inside in
+    let n = c.go_on.new in
     let v = c.self.view_is in
-    let cs = g.P.Propagate.conditions c.self.inside.prop in
-    let old = g.R.Recorder.list c.self.inside.rec in
-    let new = g.R.Recorder.list c.go_on.new.rec in
-    let none : c.self.inside.some_found ≡ false = ap (λ (z : SearchView). z.some_found) v ∙ f in
-    let token : p.token ≡ None = ap (λ (z : SearchView). z.walk.after) v ∙ t in
-    let began : c.self.inside.began_empty ≡ true = ap (λ (z : SearchView). z.began_empty) v ∙ b in
-    let d = subst (λ (o : Option Step). Derives cs p o old) c.in_default.is (i.derives k began none token) in
-    let r = c.go_on.ensures.recorded k (none_found c.self.inside.found c.self.inside.some_found i.some none) token d.0 d.1 in
-    subst (λ (ds : List Cond). RecordsStep ds q Found new) (sym c.go_on.ensures.conditions) (subst (λ (s : Step). RecordsStep cs q s new) c.in-Found.is r)
+    step_recorded g.row.K g.R.Recorder.keeps (g.P.Propagate.conditions i.prop) (g.P.Propagate.conditions n.prop) (g.P.Propagate.objects i.prop) i.budget i.walker n.walker i.found i.over i.some_found i.began_empty
+    (g.R.Recorder.list i.rec) (g.R.Recorder.list n.rec) c.go_on.result Found c.self.invariant c.in_default.is c.go_on.ensures.conditions c.in-Found.is c.go_on.ensures.recorded k (ap (λ (z : SearchView). z.began_empty) v ∙ b) (ap (λ (z : SearchView). z.some_found) v ∙ f) (ap (λ (z : SearchView). z.walk.after) v ∙ t)
+
+pub returns-in-Ended-clause-recorded : goal.returns-in-Ended-clause-recorded
+returns-in-Ended-clause-recorded g c = λ k f b t.
+    let i = c.self.inside in
+    let n = c.go_on.new in
+    let v = c.self.view_is in
+    step_recorded g.row.K g.R.Recorder.keeps (g.P.Propagate.conditions i.prop) (g.P.Propagate.conditions n.prop) (g.P.Propagate.objects i.prop) i.budget i.walker n.walker i.found i.over i.some_found i.began_empty
+    (g.R.Recorder.list i.rec) (g.R.Recorder.list n.rec) c.go_on.result Ended c.self.invariant c.in_default.is c.go_on.ensures.conditions c.in-Ended.is c.go_on.ensures.recorded k (ap (λ (z : SearchView). z.began_empty) v ∙ b) (ap (λ (z : SearchView). z.some_found) v ∙ f) (ap (λ (z : SearchView). z.walk.after) v ∙ t)
+
+pub returns-in-Budget-clause-recorded : goal.returns-in-Budget-clause-recorded
+returns-in-Budget-clause-recorded g c = λ k f b t.
+    let i = c.self.inside in
+    let n = c.go_on.new in
+    let v = c.self.view_is in
+    step_recorded g.row.K g.R.Recorder.keeps (g.P.Propagate.conditions i.prop) (g.P.Propagate.conditions n.prop) (g.P.Propagate.objects i.prop) i.budget i.walker n.walker i.found i.over i.some_found i.began_empty
+    (g.R.Recorder.list i.rec) (g.R.Recorder.list n.rec) c.go_on.result Budget c.self.invariant c.in_default.is c.go_on.ensures.conditions c.in-Budget.is c.go_on.ensures.recorded k (ap (λ (z : SearchView). z.began_empty) v ∙ b) (ap (λ (z : SearchView). z.some_found) v ∙ f) (ap (λ (z : SearchView). z.walk.after) v ∙ t)
+
+pub returns-in-Memory-clause-recorded : goal.returns-in-Memory-clause-recorded
+returns-in-Memory-clause-recorded g c = λ k f b t.
+    let i = c.self.inside in
+    let n = c.go_on.new in
+    let v = c.self.view_is in
+    step_recorded g.row.K g.R.Recorder.keeps (g.P.Propagate.conditions i.prop) (g.P.Propagate.conditions n.prop) (g.P.Propagate.objects i.prop) i.budget i.walker n.walker i.found i.over i.some_found i.began_empty
+    (g.R.Recorder.list i.rec) (g.R.Recorder.list n.rec) c.go_on.result Memory c.self.invariant c.in_default.is c.go_on.ensures.conditions c.in-Memory.is c.go_on.ensures.recorded k (ap (λ (z : SearchView). z.began_empty) v ∙ b) (ap (λ (z : SearchView). z.some_found) v ∙ f) (ap (λ (z : SearchView). z.walk.after) v ∙ t)
 
 pub invariant_of-self : goal.invariant_of-self
 invariant_of-self g c =
