@@ -1,5 +1,8 @@
 -- When a condition on one coordinate of an object is refuted.
-use Rattle.std.specs.Prelude.{IfSome, IfNone, ◌≢◌}
+use Rattle.std.specs.Prelude.{IfSome, IfNone, ◌≢◌, ◌==◌, ◌||◌}
+use Rattle.std.specs.List.{list_any}
+use Rattle.std.proofs.Math.Bool.{or-false}
+use Rattle.indexical.specs.Names.{IsFirstBefore, names}
 use Rattle.std.proofs.Common.{◌≡◌, not, ℕ, ◌<◌, Bool, true, false, List, [], ◌∷◌, length, get_or, refl, sym, ap, ◌∙◌, subst, inl, inr, arith, ℤ, pos, ◌+ℤ◌, ◌-ℤ◌, ◌<ℤ◌, ◌≤ℤ◌, Option, None, Some}
 use Rattle.std.proofs.lemmas.Int.{ints}
 use Rattle.std.specs.Option.{ForSome}
@@ -21,7 +24,7 @@ use Rattle.geo_conditions.proofs.Children.{many_possible}
 use Rattle.geo_conditions.proofs.Points.{reach_same}
 use Rattle.indexical.specs.declared.bound.BoundIndexical.{BoundIndexical}
 use Rattle.indexical.specs.Bound.{IsPast, MustPass, PassesAt, SaysBound, bound_sum}
-use Rattle.indexical.proofs.Children.{counted_false, counted_none, refuted_at_least, few_of_refuted}
+use Rattle.indexical.proofs.Children.{counted_false, counted_none, refuted_at_least, few_of_refuted, names_at_least}
 use Rattle.indexical.proofs.Overlapping.{above, not_above}
 use Rattle.indexical.proofs.Parts.{ForbidsPart}
 use Rattle.indexical.proofs.Values.{low_at, high_at}
@@ -48,6 +51,20 @@ refuted_past false o d n T r =
     let a = above (least_value (bound_sum false o d n) T) r in
     record { below = λ e. absurd (false≢true e); above = λ e. omega (arith, ints, v, a) }
 
+form_named : (least : Bool) (u : ObjId) (d : ℕ) (n : ℤ) (o : ℕ) → names o (Lin (bound_sum least u d n)) ≡ (u.0 == o)
+form_named true u d n o = or-false (u.0 == o)
+form_named false u d n o = or-false (u.0 == o)
+
+-- what is first by a test is first by one that is the same
+pub first_as : (f g : ℕ → Bool) (from end : ℕ) → ((o : ℕ) → g o ≡ f o) → (r : Option ObjId) → IsFirstBefore f from end r → IsFirstBefore g from end r
+first_as f g from end e None m = λ o l h. e o ∙ m o l h
+first_as f g from end e (Some u) k = (k.0, k.1, e u.0 ∙ k.2, λ o l h. e o ∙ k.3 o l h)
+
+-- a test beside the same test
+twice : (x y : Bool) → y ≡ x → (x || (y || false)) ≡ x
+twice true y e = refl
+twice false y e = or-false y ∙ e
+
 -- ---- what a bound says
 
 module _ {K : ℕ} (b : BoundIndexical K) where
@@ -61,6 +78,7 @@ module _ {K : ℕ} (b : BoundIndexical K) where
       place = λ p e. absurd (none-some p (sym none ∙ e));
       past = refuted_past b.least b.object b.dimension b.constant T r;
     };
+    named = form_named b.least b.object b.dimension b.constant;
   }
 
   -- behind a literal that the object has another place
@@ -83,6 +101,7 @@ module _ {K : ℕ} (b : BoundIndexical K) where
             place = λ v f. subst (λ (x : ℕ). is_only (reach T b.object.0).places x ≡ true) (same_Some _ _ (sym asked ∙ f)) (not-false (is_only (reach T b.object.0).places p) (counted_none (possible (NotShape b.object p) T) (omega (arith, ints, one, e, few))));
             past = refuted_past b.least b.object b.dimension b.constant T (counted_none (possible form T) (omega (arith, ints, one, e, few)));
           };
+      named = λ o. names_at_least n children o ∙ ap (list_any (names o)) two ∙ twice (b.object.0 == o) (names o form) (form_named b.least b.object b.dimension b.constant o);
     }
 
   -- ---- the object is put

@@ -1,5 +1,5 @@
 -- A condition that keeps one coordinate of an object, where it has a place, on one side of a number.
-use Rattle.std.specs.Prelude.{◌≡◌, ℕ, Bool, true, false, ◌∷◌, [], List, ℤ, pos, negsuc, ◌+ℤ◌, ◌<ℤ◌}
+use Rattle.std.specs.Prelude.{◌≡◌, ◌==◌, ℕ, Bool, true, false, ◌∷◌, [], List, ℤ, pos, negsuc, ◌+ℤ◌, ◌<ℤ◌}
 use Rattle.std.specs.Option.{ForSome}
 use Rattle.geo_base.specs.Boxes.{coordinate}
 use Rattle.geo_conditions.specs.declared.cond.Cond.{Cond}
@@ -8,6 +8,7 @@ use Rattle.geo_conditions.specs.Form.{Sum}
 use Rattle.geo_conditions.specs.Terms.{term_of}
 use Rattle.geo_conditions.specs.Reach.{State, reach, low, high, is_only, only}
 use Rattle.geo_conditions.specs.Conditions.{IsRefuted}
+use Rattle.indexical.specs.Names.{names}
 use Rattle.indexical.specs.declared.bound.BoundIndexical.{BoundIndexical}
 
 -- the form that is above 0 where the coordinate is on the wrong side: below the number, where it has to be at least that, or else above 0 with it
@@ -31,7 +32,8 @@ module _ {K : ℕ} where
     pub place : ForSome b.asked (λ p. is_only (only s) p ≡ true)
     pub past : IsPast b.least b.constant (coordinate lo b.dimension) (coordinate hi b.dimension)
 
-  -- c is refuted just there
+  -- c is refuted just there, and names no other object
   pub record SaysBound (b : BoundIndexical K) (c : Cond) : Type 0 where
     pub refuted : (S : State) → MustPass b S → IsRefuted c S
     pub passes : (S : State) → IsRefuted c S → MustPass b S
+    pub named : (o : ℕ) → names o c ≡ (b.object.0 == o)

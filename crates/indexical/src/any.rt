@@ -96,7 +96,7 @@ impl<const K: usize> AnyIndexical<K> {
                     None
                 }
             }
-            None => first_in_tree(&self.cond, from, end),
+            None => first_single(self, from, end),
         }
     }
 
@@ -165,6 +165,17 @@ fn bound_on<const K: usize>(x: &AnyIndexical<K>, o: ObjId) -> Option<&BoundIndex
     match &x.bound {
         Some(b) if b.is_of(o) => Some(b),
         _ => None,
+    }
+}
+
+/// The first object that a condition names which is not met by two boxes, of those from `from` on and before `end`.
+fn first_single<const K: usize>(x: &AnyIndexical<K>, from: usize, end: usize) -> Option<ObjId>
+    requires { end ≤ MAX_OBJECTS }
+    ensures { IsFirstBefore (λ o. names o x.now.cond) from end result }
+{
+    match &x.bound {
+        Some(bound) => bound.object_within(from, end),
+        None => first_in_tree(&x.cond, from, end),
     }
 }
 

@@ -75,9 +75,10 @@ fn has_asked(asked: Option<u8>, place: u8) -> bool
 }
 
 impl<const K: usize> BoundIndexical<K> {
-    ghost use Rattle.std.specs.Prelude.{◌≡◌, ◌↔◌, List, ℤ, IfNone, IfSome, IsTrue};
+    ghost use Rattle.std.specs.Prelude.{◌≡◌, ◌==◌, ◌↔◌, List, ℤ, IfNone, IfSome, IsTrue};
     ghost use Rattle.geo_base.specs.Boxes.{Has};
     ghost use Rattle.indexical.specs.Bound.{PassesAt};
+    ghost use Rattle.indexical.specs.Names.{IsFirstBefore};
 
     /// The bound on that coordinate of an object, where it has the place that is asked for, if one is. The constant lies within
     /// -10^14 to 10^14.
@@ -102,6 +103,18 @@ impl<const K: usize> BoundIndexical<K> {
             dimension,
             least,
             constant,
+        }
+    }
+
+    /// The object that the condition is on, where it is one of those from `from` on and before `end`.
+    pub fn object_within(&self, from: usize, end: usize) -> Option<ObjId>
+        ensures { IsFirstBefore (λ o. self.now.object.0 == o) from end result }
+    {
+        let o = usize::from(self.object.0);
+        if from <= o && o < end {
+            Some(self.object)
+        } else {
+            None
         }
     }
 
