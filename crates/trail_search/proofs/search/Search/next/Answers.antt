@@ -1,4 +1,4 @@
-use Rattle.std.proofs.Common.{◌≡◌, ◌||◌, Bool, true, false, ap, sym, ◌∙◌, subst, refl, arith, Option, Some, None, List, ◌+◌, ◌-◌, ◌^◌, ◌≤◌, min, ℕ}
+use Rattle.std.proofs.Common.{◌≡◌, ◌||◌, Bool, true, false, ap, sym, ◌∙◌, subst, refl, arith, Some, None, List, ◌+◌, ◌-◌, ◌^◌, ◌≤◌, min, ℕ}
 use Rattle.geo_conditions.specs.declared.cond.Cond.{Cond}
 use Rattle.trail_search.specs.declared.step.Step.{Step}
 use Rattle.trail_search.specs.declared.step.Step.TheVariants.{Found, Ended, Budget, Memory}
