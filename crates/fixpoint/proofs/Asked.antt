@@ -157,6 +157,17 @@ module _ {K : ℕ} (cs : List Cond) (S : State) (o : ℕ) (marks : List Bool) wh
         | inr ne ↦ inl (w.0, omega (arith, w.1, ne), w.2)
       ])
 
+  -- so it is behind objects that are not marked
+  pub those_skip : (lists : List (Vec RowGroup Global)) (n m : ℕ) (old new : List (Option (Placed K))) → ((u k : ℕ) (b : RowGroup) → slice_get (row lists u) k ≡ Some b → NamesNoThird cs (length marks) o u b.group) → get_or marks o false ≡ false
+      → ((u : ℕ) → n ≤ u → u < m → get_or marks u false ≡ false) → RetriesThose cs S o marks (BesideBelow lists n) old new → RetriesThose cs S o marks (BesideBelow lists m) old new
+  those_skip lists n m old new a own none r = record {
+    stay = r.stay;
+    tried = λ i q e k x w at. elim (cases_lt w.0 n) [
+      | inl l ↦ r.tried i q e k x (w.0, l, w.2) at
+      | inr l ↦ inl (pair_unmarked x o w.0 marks (a w.0 w.2.0 w.2.1 w.2.2 k x w.2.3 at) own (none w.0 l w.1))
+    ];
+  }
+
   pub those_lists : (lists : List (Vec RowGroup Global)) (n : ℕ) (old new : List (Option (Placed K))) → length lists ≤ n → RetriesThose cs S o marks (BesideBelow lists n) old new → RetriesThose cs S o marks (HaveBeside lists) old new
   those_lists lists n old new h = those_as (BesideBelow lists n) (HaveBeside lists) old new (λ i w. elim (cases_lt w.0 (length lists)) [
     | inl l ↦ (w.0, omega (arith, l, h), w.1)

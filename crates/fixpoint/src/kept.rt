@@ -1,6 +1,6 @@
 //! Points that are kept of the objects, and asked again where something changed.
 
-ghost use Rattle.std.specs.Prelude.{◌≡◌, ◌≢◌, ℕ, ◌-◌, ◌<◌, ◌≤◌, Bool, true, false, List, None, Some, length, map, slice_get, slice_index_or, IfOk, IsTrue, MatchOption};
+ghost use Rattle.std.specs.Prelude.{◌≡◌, ◌≢◌, ℕ, ◌+◌, ◌-◌, ◌<◌, ◌≤◌, Bool, true, false, List, None, Some, length, map, slice_get, slice_index_or, IfOk, IsTrue, MatchOption};
 ghost use Rattle.std.specs.List.{All, list_any};
 ghost use Rattle.geo_conditions.specs.Conditions.{AllFit, FitsIn};
 ghost use Rattle.geo_conditions.specs.Reach.{reach, is_only};
@@ -11,6 +11,7 @@ ghost use Rattle.fixpoint.specs.declared.pairs.RowGroup.{RowGroup};
 ghost use Rattle.fixpoint.specs.Pairs.{AreSomePairs, HaveBeside, HaveIn, IsGroupOf};
 ghost use Rattle.fixpoint.specs.Kept.{AllStand, AsksSlot, IsBlank, IsKnown, RetriesMarked, RetriesThose, Stand, StandBut, StandsAlone};
 ghost use Rattle.fixpoint.specs.Marks.{IsCleared, IsSquare};
+ghost use Rattle.fixpoint.specs.declared.kept.TheConstants.{BLOCK};
 
 use super::links::Links;
 use super::pairs::{Pairs, RowGroup};
@@ -339,7 +340,50 @@ fn ask_all<const K: usize>(
     }
 }
 
-// The same for the groups of each marked object, where the object itself is not marked.
+// How many marks are looked at together.
+const BLOCK: usize = 16;
+
+// Whether one of the marks of a block is set.
+#[inline(always)]
+fn is_any_set(marks: &[bool], first: usize) -> bool
+    requires { first + BLOCK ≤ length marks.now }
+    ensures { result ≡ false → (u : ℕ) → first ≤ u → u < first + BLOCK
+        → slice_index_or marks.now u false ≡ false }
+{
+    let mut any = false;
+    for k in 0..BLOCK {
+        any |= marks[first + k];
+    }
+    any
+}
+
+// The first mark from `from` on of a block in which one is set, or of what is left behind the last block.
+fn skip_blocks(marks: &[bool], from: usize) -> usize
+    requires { from ≤ length marks.now }
+    ensures within { (from ≤ result) × (result ≤ length marks.now) }
+    ensures none { (u : ℕ) → from ≤ u → u < result → slice_index_or marks.now u false ≡ false }
+{
+    let mut at = from;
+    while marks.len() - at >= BLOCK && !is_any_set(marks, at) {
+        at += BLOCK;
+    }
+    at
+}
+
+// The first mark from `from` on that is set, or the number of marks where none is.
+fn next_marked(marks: &[bool], from: usize) -> usize
+    requires { from ≤ length marks.now }
+    ensures within { (from ≤ result) × (result ≤ length marks.now) }
+    ensures none { (u : ℕ) → from ≤ u → u < result → slice_index_or marks.now u false ≡ false }
+{
+    let mut at = skip_blocks(marks, from);
+    while at < marks.len() && !marks[at] {
+        at += 1;
+    }
+    at
+}
+
+// Asks at the groups of each marked object, where the object itself is not marked.
 fn ask_marked<const K: usize>(
     list: &[AnyIndexical<K>],
     pairs: &Pairs,
@@ -356,10 +400,10 @@ fn ask_marked<const K: usize>(
     ensures { RetriesThose (map (λ x. x.cond) list.now) s.now o.0 marks.now
         (HaveBeside pairs.now.beside.items) kept.old kept.new }
 {
-    for u in 0..pairs.beside.len() {
-        if marks[u] {
-            ask_groups(list, &pairs.beside[u], o, u, s, kept);
-        }
+    let mut u = next_marked(marks, 0);
+    while u < pairs.beside.len() {
+        ask_groups(list, &pairs.beside[u], o, u, s, kept);
+        u = next_marked(marks, u + 1);
     }
 }
 
