@@ -1,6 +1,7 @@
 //! What is left out of a derivation, and how its covers become simpler.
 
 ghost use Rattle.std.specs.Prelude.{◌<◌};
+ghost use Rattle.geo_conditions.specs.Conditions.{AllFit};
 
 use derivation::{Event, Log, Recorder};
 use derivation_trim::{is_derivation, shortened};
@@ -36,8 +37,9 @@ fn less(alloc: Global, a: ObjId, b: ObjId) -> Result<Cond, AllocError>
 /// At least so many of these are true: A is less than B, and B is less than C.
 fn some_less(alloc: Global, least: i64) -> Result<Cond, AllocError> {
     let mut parts = Conds::new(alloc);
-    parts.push(less(alloc, A, B)?)?;
-    parts.push(less(alloc, B, C)?)?;
+    for (lesser, greater) in [(A, B), (B, C)] {
+        parts.push(less(alloc, lesser, greater)?)?;
+    }
     Ok(Cond::AtLeast(least, parts))
 }
 
@@ -48,14 +50,23 @@ fn half(alloc: Global) -> Result<Cond, AllocError> {
 
 /// A is less than B, B is less than C, what never holds, one of the first two, both of them, and B
 /// is small.
+fn condition(alloc: Global, number: u32) -> Result<Cond, AllocError> {
+    match number {
+        1 => less(alloc, A, B),
+        2 => less(alloc, B, C),
+        3 => Ok(Cond::AtLeast(1, Conds::new(alloc))),
+        4 => some_less(alloc, 1),
+        5 => some_less(alloc, 2),
+        _ => half(alloc),
+    }
+}
+
+/// The six conditions.
 fn conditions(alloc: Global) -> Result<Vec<Cond>, AllocError> {
     let mut list = Vec::new(alloc);
-    list.push(less(alloc, A, B)?)?;
-    list.push(less(alloc, B, C)?)?;
-    list.push(Cond::AtLeast(1, Conds::new(alloc)))?;
-    list.push(some_less(alloc, 1)?)?;
-    list.push(some_less(alloc, 2)?)?;
-    list.push(half(alloc)?)?;
+    for number in 1..=6 {
+        list.push(condition(alloc, number)?)?;
+    }
     Ok(list)
 }
 
@@ -96,15 +107,36 @@ fn are_same(events: &[Event], wanted: &[Event]) -> bool {
     same
 }
 
-/// What the events on objects in those ranges are shortened to, and whether both are derivations.
-fn trimmed(alloc: Global, ranges: &[(i64, i64)], log: &Log) -> Result<(Log, bool), AllocError> {
+/// Whether the events are shortened to those that are wanted, and are a derivation before and behind that, or neither time.
+fn are_shortened(
+    alloc: Global,
+    list: &[Cond],
+    s: &State<1>,
+    log: &Log,
+    wanted: &[Event],
+    are_derivations: bool,
+) -> Result<bool, AllocError>
+    requires { AllFit list.now s.now }
+{
+    let shorter = shortened(alloc, list, s, log)?;
+    Ok(
+        are_same(shorter.events(), wanted)
+            && is_derivation(alloc, list, s, log)? == are_derivations
+            && is_derivation(alloc, list, s, &shorter)? == are_derivations,
+    )
+}
+
+/// Whether the events on objects in those ranges are shortened so.
+fn is_right(
+    alloc: Global,
+    ranges: &[(i64, i64)],
+    log: &Log,
+    wanted: &[Event],
+    are_derivations: bool,
+) -> Result<bool, AllocError> {
     let s = line(alloc, ranges)?;
     let list = conditions(alloc)?;
-    let shorter = shortened(alloc, &list, &s, log)?;
-    let are_derivations = all_fit(&list, &s)
-        && is_derivation(alloc, &list, &s, log)?
-        && is_derivation(alloc, &list, &s, &shorter)?;
-    Ok((shorter, are_derivations))
+    Ok(all_fit(&list, &s) && are_shortened(alloc, &list, &s, log, wanted, are_derivations)?)
 }
 
 /// A derivation on objects in those ranges, and what it is shortened to.
@@ -371,9 +403,11 @@ const ROWS: &[Row] = &[
 fn what_no_step_leans_on_is_left_out(rt: HostRuntime) -> Result<(), Fail> {
     for (i, row) in ROWS.iter().enumerate() {
         let log = record(rt.alloc(), row.events)?;
-        let (shorter, are_derivations) = trimmed(rt.alloc(), row.ranges, &log)?;
-        assert!(rt; are_same(shorter.events(), row.wanted), "row {i}");
-        assert!(rt; are_derivations == (i + 1 < ROWS.len()), "row {i}");
+        let are_derivations = i + 1 < ROWS.len();
+        assert!(rt;
+            is_right(rt.alloc(), row.ranges, &log, row.wanted, are_derivations)?,
+            "row {i}"
+        );
     }
     Ok(())
 }
@@ -395,7 +429,6 @@ fn many_splits(alloc: Global) -> Result<Log, AllocError> {
 #[test]
 fn a_derivation_may_be_as_deep_as_it_is_long(rt: HostRuntime) -> Result<(), Fail> {
     let log = many_splits(rt.alloc())?;
-    let (shorter, are_derivations) = trimmed(rt.alloc(), &[(0, 1); 3], &log)?;
-    assert!(rt; are_derivations && are_same(shorter.events(), &[Event::Dead(3)]));
+    assert!(rt; is_right(rt.alloc(), &[(0, 1); 3], &log, &[Event::Dead(3)], true)?);
     Ok(())
 }
