@@ -1,3 +1,4 @@
+pub mod Pushed
 pub mod Steps
 pub mod NextPlaces
 pub mod Undo

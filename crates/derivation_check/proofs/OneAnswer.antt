@@ -1,5 +1,5 @@
 -- The events of a derivation have one answer, whichever tree of nodes stands for them.
-use Rattle.std.proofs.Common.{◌≡◌, ℕ, zero, suc, ◌<◌, Bool, true, false, List, refl, sym, ap, ◌∙◌, arith, inl, inr}
+use Rattle.std.proofs.Common.{◌≡◌, ℕ, zero, suc, true, false, List, refl, sym, ap, ◌∙◌, arith, inl, inr}
 use Rattle.std.proofs.lemmas.Bool.{cases_lt, false≢true}
 use Rattle.geo_conditions.specs.declared.cond.Cond.{Cond}
 use Rattle.geo_conditions.specs.Reach.{State}
@@ -9,7 +9,7 @@ use Rattle.derivation.specs.Valid.{rows, Fails, Valid, FailsFirst}
 use Rattle.derivation.proofs.Leaves.{all_at}
 use Rattle.derivation_check.specs.declared.progress.Checked.{Checked}
 use Rattle.derivation_check.specs.declared.progress.Checked.TheVariants.{Yes, No}
-use Rattle.derivation_check.specs.Machine.{Machine, run, start}
+use Rattle.derivation_check.specs.Machine.{run, start}
 use Rattle.derivation_check.specs.Judges.{Judges, answer}
 use Rattle.derivation_check.proofs.Verdict.{answers}
 

@@ -1,7 +1,5 @@
 -- What a check holds exists: objects below a number of them, dimensions below K, the places 1 to 16, and numbers within the limit of a derivation.
 use Rattle.std.specs.Prelude.{◌<◌, ◌≤◌, ℕ, ℤ, pos, negsuc, ◌≤ℤ◌}
-use Rattle.derivation.specs.declared.side.Side.{Side}
-use Rattle.derivation.specs.declared.side.Side.TheVariants.{Upto, From}
 use Rattle.derivation.specs.declared.half.Half.{Half}
 use Rattle.derivation.specs.declared.half.Half.TheVariants.{OfPlace, OfSide}
 use Rattle.derivation.specs.Covers.{IsCut}

@@ -1,10 +1,12 @@
-use Rattle.std.proofs.Common.{refl, ◌∙◌, subst, inl, inr}
+use Rattle.std.proofs.Common.{refl, sym, ◌∙◌, subst, inl, inr}
 use Rattle.geo_conditions.proofs.Points.{inside_trans}
+use Rattle.geo_conditions.specs.Reach.{State}
+use Rattle.geo_conditions.specs.Supported.{IsGreatest}
 use Rattle.plain_propagate.specs.declared.mending.Outcome.{Outcome}
 use Rattle.plain_propagate.specs.Passes.{Passes}
 use Rattle.plain_propagate.specs.Recorded.{RecordsOutcome, BlamesOutcome}
 use Rattle.plain_propagate.proofs.Blaming.{blames_begun, blames_none, open_begun}
-use Rattle.plain_propagate.proofs.Narrowed.{going_start, going_on, settles_failed}
+use Rattle.plain_propagate.proofs.Narrowed.{going_start, going_on, gone_dead, gone_kept, settles_failed}
 use Rattle.derivation.proofs.Chains.{led_same, led_on, led_closed}
 use Rattle.derivation.proofs.Continuing.{growth_none, growth_on, growth_failed}
 use Rattle.plain_propagate.proofs.plain.settle.Goals as goal
@@ -85,3 +87,21 @@ returns-in-Fine-clause-grows g c = growth_on c.passes.invariant.grows c.in_ok-pa
 
 pub returns-in_err-pass-clause-settles : goal.returns-in_err-pass-clause-settles
 returns-in_err-pass-clause-settles g c = settles_failed c.args.cs.now c.args.t.now.state c.pass.new.t.state _ c.from_residual.ensures.0 (inside_trans c.pass.new.t.state c.passes.t.state c.args.t.now.state c.pass.ensures.inside c.passes.invariant.going.keeps.inside)
+
+pub returns-in-Dead-clause-settles : goal.returns-in-Dead-clause-settles
+returns-in-Dead-clause-settles g c =
+    let cs = c.args.cs.now in
+    let S = c.args.t.now.state in
+    let R = c.passes.t.state in
+    let Q = c.pass.new.t.state in
+    let m = subst (λ (x : Outcome). Passes cs R x Q) c.in-Dead.is c.in_ok-pass.ensures.passes in
+    gone_dead cs S R Q c.passes.invariant.going m.0 m.1
+
+pub returns-in-Fine-clause-settles : goal.returns-in-Fine-clause-settles
+returns-in-Fine-clause-settles g c =
+    let cs = c.args.cs.now in
+    let S = c.args.t.now.state in
+    let R = c.passes.t.state in
+    let Q = c.pass.new.t.state in
+    let m = subst (λ (x : Outcome). Passes cs R x Q) c.in-Fine.is c.in_ok-pass.ensures.passes in
+    subst (λ (X : State). IsGreatest cs S X) (sym m.0) (gone_kept cs S R c.passes.invariant.going m.1)

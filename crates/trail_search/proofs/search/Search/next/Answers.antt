@@ -1,4 +1,4 @@
-use Rattle.std.proofs.Common.{◌≡◌, ◌||◌, Bool, true, false, ap, sym, ◌∙◌, subst, refl, arith, Some, None, List, ◌+◌, ◌-◌, ◌^◌, ◌≤◌, min, ℕ}
+use Rattle.std.proofs.Common.{◌≡◌, ◌||◌, Bool, true, false, ap, sym, ◌∙◌, subst, refl, arith, Option, Some, None, List, [], ◌+◌, ◌-◌, ◌^◌, ◌≤◌, min, ℕ}
 use Rattle.geo_conditions.specs.declared.cond.Cond.{Cond}
 use Rattle.trail_search.specs.declared.step.Step.{Step}
 use Rattle.trail_search.specs.declared.step.Step.TheVariants.{Found, Ended, Budget, Memory}
@@ -8,7 +8,22 @@ use Rattle.trail_search.specs.Walker.{GoesOnAs, tree_of, is_answer}
 use Rattle.trail_search.proofs.Standing.{tree_same}
 use Rattle.trail_search.proofs.Nexts.{found_answer, ended_answer, budget_answer, as_before, stands_at, no_objects, step_recorded, sound_found, sound_over}
 use Rattle.std.proofs.lemmas.Bool.{false≢true}
+use Rattle.std.proofs.lemmas.List.{append-nil}
+use Rattle.trail_search.specs.Next.{AsBefore, HasRecorded, is_found}
+use Rattle.trail_search.specs.Record.{Derives}
+use Rattle.derivation.specs.declared.event.Event.{Event}
+use Rattle.derivation.specs.Events.{Continues}
 use Rattle.trail_search.proofs.search.Search.next.Goals as goal
+
+or_false : (b : Bool) → b ≡ b || false
+or_false true = refl
+or_false false = refl
+
+or_other : (s : Step) (b : Bool) → (s ≡ Found → ⊥) → b ≡ b || is_found s
+or_other Found b other = absurd (other refl)
+or_other Ended b other = or_false b
+or_other Budget b other = or_false b
+or_other Memory b other = or_false b
 
 pub go_on-requires : goal.go_on-requires
 go_on-requires g c =
@@ -151,3 +166,87 @@ returns-in-Found-clause-some_found g c = or_true c.args.self.now.some_found
     or_true : (b : Bool) → true ≡ b || true
     or_true true = refl
     or_true false = refl
+
+pub returns-in-Found-clause-events : goal.returns-in-Found-clause-events
+returns-in-Found-clause-events g c = λ k. subst (λ (es : List Event). Continues es (g.R.Recorder.list c.go_on.new.rec)) (ap (λ (z : SearchView). z.events) c.self.view_is) (c.go_on.ensures.grows.events k)
+
+pub returns-in-Found-clause-refusals : goal.returns-in-Found-clause-refusals
+returns-in-Found-clause-refusals g c = subst (λ (n : ℕ). n ≤ g.R.Recorder.refusals c.go_on.new.rec) (ap (λ (z : SearchView). z.refusals) c.self.view_is) c.go_on.ensures.grows.refusals
+
+pub returns-in-Ended-clause-some_found : goal.returns-in-Ended-clause-some_found
+returns-in-Ended-clause-some_found g c = ap (λ (z : SearchView). z.some_found) c.self.view_is ∙ or_false c.args.self.now.some_found
+
+pub returns-in-Ended-clause-events : goal.returns-in-Ended-clause-events
+returns-in-Ended-clause-events g c = λ k. subst (λ (es : List Event). Continues es (g.R.Recorder.list c.go_on.new.rec)) (ap (λ (z : SearchView). z.events) c.self.view_is) (c.go_on.ensures.grows.events k)
+
+pub returns-in-Ended-clause-refusals : goal.returns-in-Ended-clause-refusals
+returns-in-Ended-clause-refusals g c = subst (λ (n : ℕ). n ≤ g.R.Recorder.refusals c.go_on.new.rec) (ap (λ (z : SearchView). z.refusals) c.self.view_is) c.go_on.ensures.grows.refusals
+
+pub returns-in-Budget-clause-some_found : goal.returns-in-Budget-clause-some_found
+returns-in-Budget-clause-some_found g c = ap (λ (z : SearchView). z.some_found) c.self.view_is ∙ or_false c.args.self.now.some_found
+
+pub returns-in-Budget-clause-events : goal.returns-in-Budget-clause-events
+returns-in-Budget-clause-events g c = λ k. subst (λ (es : List Event). Continues es (g.R.Recorder.list c.go_on.new.rec)) (ap (λ (z : SearchView). z.events) c.self.view_is) (c.go_on.ensures.grows.events k)
+
+pub returns-in-Budget-clause-refusals : goal.returns-in-Budget-clause-refusals
+returns-in-Budget-clause-refusals g c = subst (λ (n : ℕ). n ≤ g.R.Recorder.refusals c.go_on.new.rec) (ap (λ (z : SearchView). z.refusals) c.self.view_is) c.go_on.ensures.grows.refusals
+
+pub returns-in-Memory-clause-some_found : goal.returns-in-Memory-clause-some_found
+returns-in-Memory-clause-some_found g c = ap (λ (z : SearchView). z.some_found) c.self.view_is ∙ or_false c.args.self.now.some_found
+
+pub returns-in-Memory-clause-events : goal.returns-in-Memory-clause-events
+returns-in-Memory-clause-events g c = λ k. subst (λ (es : List Event). Continues es (g.R.Recorder.list c.go_on.new.rec)) (ap (λ (z : SearchView). z.events) c.self.view_is) (c.go_on.ensures.grows.events k)
+
+pub returns-in-Memory-clause-refusals : goal.returns-in-Memory-clause-refusals
+returns-in-Memory-clause-refusals g c = subst (λ (n : ℕ). n ≤ g.R.Recorder.refusals c.go_on.new.rec) (ap (λ (z : SearchView). z.refusals) c.self.view_is) c.go_on.ensures.grows.refusals
+
+pub returns-in-Some : goal.returns-in-Some
+returns-in-Some g c =
+    let i = c.self.inside in
+    let a = c.args.self.now in
+    let e = c.in-Some.step in
+    let v = c.self.view_is in
+    let cs = g.P.Propagate.conditions i.prop in
+    let other : e ≡ Found → ⊥ = λ f. c.self.invariant.last (c.in-Some.is ∙ ap Some f) in
+    record {
+      steps = (refl, refl, subst (λ (o : Option Step). AsBefore o a e a) (sym (sym (ap (λ (z : SearchView). z.over) v) ∙ c.in-Some.is)) (refl, refl));
+      found = λ f. absurd (other f);
+      some_found = or_other e a.some_found other;
+      began_empty = refl;
+      events = λ k. ([], sym (append-nil a.events));
+      refusals = omega arith;
+      no_record = λ k m. false≢true (sym k ∙ c.self.invariant.memory (c.in-Some.is ∙ ap Some m));
+      recorded = λ k f b t. subst (λ (z : SearchView). HasRecorded e z) v
+          (subst (λ (o : Option Step). Derives cs i.walker o (g.R.Recorder.list i.rec)) c.in-Some.is
+          (c.self.invariant.derives k (ap (λ (z : SearchView). z.began_empty) v ∙ b) (ap (λ (z : SearchView). z.some_found) v ∙ f) (ap (λ (z : SearchView). z.walk.after) v ∙ t)));
+    }
+
+pub returns-in-Found-clause-began_empty : goal.returns-in-Found-clause-began_empty
+returns-in-Found-clause-began_empty g c = ap (λ (z : SearchView). z.began_empty) c.self.view_is
+
+pub returns-in-Found-clause-no_record : goal.returns-in-Found-clause-no_record
+returns-in-Found-clause-no_record g c = λ k m. absurd (cc)
+
+pub returns-in-Ended-clause-began_empty : goal.returns-in-Ended-clause-began_empty
+returns-in-Ended-clause-began_empty g c = ap (λ (z : SearchView). z.began_empty) c.self.view_is
+
+pub returns-in-Ended-clause-found : goal.returns-in-Ended-clause-found
+returns-in-Ended-clause-found g c = λ e. absurd (cc)
+
+pub returns-in-Ended-clause-no_record : goal.returns-in-Ended-clause-no_record
+returns-in-Ended-clause-no_record g c = λ k m. absurd (cc)
+
+pub returns-in-Budget-clause-began_empty : goal.returns-in-Budget-clause-began_empty
+returns-in-Budget-clause-began_empty g c = ap (λ (z : SearchView). z.began_empty) c.self.view_is
+
+pub returns-in-Budget-clause-found : goal.returns-in-Budget-clause-found
+returns-in-Budget-clause-found g c = λ e. absurd (cc)
+
+pub returns-in-Budget-clause-no_record : goal.returns-in-Budget-clause-no_record
+returns-in-Budget-clause-no_record g c = λ k m. absurd (cc)
+
+pub returns-in-Memory-clause-began_empty : goal.returns-in-Memory-clause-began_empty
+returns-in-Memory-clause-began_empty g c = ap (λ (z : SearchView). z.began_empty) c.self.view_is
+
+pub returns-in-Memory-clause-found : goal.returns-in-Memory-clause-found
+returns-in-Memory-clause-found g c = λ e. absurd (cc)
