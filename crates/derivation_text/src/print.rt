@@ -69,19 +69,22 @@ fn counted(d: usize) -> i128
 
 // Writes a line with a coordinate of an object and a number.
 fn write_coordinate<W: Sink>(
-    name: &[u8],
+    names: &Names,
+    o: ObjId,
     d: usize,
     v: i64,
     marks: Marks,
     sink: &mut W,
 ) -> Result<(), PutFault>
+    requires object { o.0 < length names.now.objects }
     requires dimension { d < 1000000000 }
     ensures { Prints W.written W.faults W.quiet sink.old sink.new result
-        (coordinate_line marks.word.now name.now d marks.between.now v marks.end.now) }
+        (coordinate_line marks.word.now (object_name_of names.now o.0) d marks.between.now v
+        marks.end.now) }
 {
     let pieces = [
         Piece::Bytes(marks.word),
-        Piece::Bytes(name),
+        Piece::Bytes(object_name(names, o)),
         Piece::Bytes(b" "),
         Piece::Number(counted(d)),
         Piece::Bytes(marks.between),
@@ -91,21 +94,25 @@ fn write_coordinate<W: Sink>(
     write_pieces(sink, &pieces)
 }
 
+// Writes a line with an object and one of its shapes.
 fn write_shape<'a, W: Sink>(
+    names: &'a Names,
     word: &'a [u8],
-    name: &'a [u8],
+    o: ObjId,
     between: &'a [u8],
-    shape: &'a [u8],
+    place: u8,
     sink: &mut W,
 ) -> Result<(), PutFault>
+    requires shape { HasShape names.now o.0 place }
     ensures { Prints W.written W.faults W.quiet sink.old sink.new result
-        (shape_line word.now name.now between.now shape.now) }
+        (shape_line word.now (object_name_of names.now o.0) between.now
+        (shape_name_of names.now o.0 place)) }
 {
     let pieces = [
         Piece::Bytes(word),
-        Piece::Bytes(name),
+        Piece::Bytes(object_name(names, o)),
         Piece::Bytes(between),
-        Piece::Bytes(shape),
+        Piece::Bytes(shape_name(names, o, place)),
         Piece::Bytes(b"\n"),
     ];
     write_pieces(sink, &pieces)
@@ -138,23 +145,28 @@ fn write_number_line<W: Sink>(word: &[u8], n: u32, sink: &mut W) -> Result<(), P
     write_pieces(sink, &pieces)
 }
 
-fn write_head<W: Sink>(name: &[u8], sink: &mut W) -> Result<(), PutFault>
+fn write_head<W: Sink>(names: &Names, o: ObjId, sink: &mut W) -> Result<(), PutFault>
+    requires object { o.0 < length names.now.objects }
     ensures { Prints W.written W.faults W.quiet sink.old sink.new result
-        (gone_line name.now) }
+        (gone_line (object_name_of names.now o.0)) }
 {
     let pieces = [
         Piece::Bytes(b"gone "),
-        Piece::Bytes(name),
+        Piece::Bytes(object_name(names, o)),
         Piece::Bytes(b" [\n"),
     ];
     write_pieces(sink, &pieces)
 }
 
-fn write_name<W: Sink>(name: &[u8], sink: &mut W) -> Result<(), PutFault>
+fn write_name<W: Sink>(names: &Names, o: ObjId, place: u8, sink: &mut W) -> Result<(), PutFault>
+    requires shape { HasShape names.now o.0 place }
     ensures { Prints W.written W.faults W.quiet sink.old sink.new result
-        (cover_line name.now) }
+        (cover_line (shape_name_of names.now o.0 place)) }
 {
-    let pieces = [Piece::Bytes(name), Piece::Bytes(b"\n")];
+    let pieces = [
+        Piece::Bytes(shape_name(names, o, place)),
+        Piece::Bytes(b"\n"),
+    ];
     write_pieces(sink, &pieces)
 }
 
@@ -166,20 +178,14 @@ fn write_line<W: Sink>(names: &Names, o: ObjId, e: Event, sink: &mut W) -> Resul
 {
     let _dims = names.dims();
     match e {
-        Event::SplitShape(u, s) => {
-            let shape = shape_name(names, u, s);
-            write_shape(b"split ", object_name(names, u), b" shape ", shape, sink)
-        }
-        Event::Drop(u, s) => {
-            let shape = shape_name(names, u, s);
-            write_shape(b"drop ", object_name(names, u), b" ", shape, sink)
-        }
-        Event::SplitUpto(u, d, v) => write_coordinate(object_name(names, u), d, v, UPTO, sink),
-        Event::SplitFrom(u, d, v) => write_coordinate(object_name(names, u), d, v, FROM, sink),
-        Event::Raise(u, d, v) => write_coordinate(object_name(names, u), d, v, RAISE, sink),
-        Event::Lower(u, d, v) => write_coordinate(object_name(names, u), d, v, LOWER, sink),
-        Event::Gone(u) => write_head(object_name(names, u), sink),
-        Event::Cover(s) => write_name(shape_name(names, o, s), sink),
+        Event::SplitShape(u, s) => write_shape(names, b"split ", u, b" shape ", s, sink),
+        Event::Drop(u, s) => write_shape(names, b"drop ", u, b" ", s, sink),
+        Event::SplitUpto(u, d, v) => write_coordinate(names, u, d, v, UPTO, sink),
+        Event::SplitFrom(u, d, v) => write_coordinate(names, u, d, v, FROM, sink),
+        Event::Raise(u, d, v) => write_coordinate(names, u, d, v, RAISE, sink),
+        Event::Lower(u, d, v) => write_coordinate(names, u, d, v, LOWER, sink),
+        Event::Gone(u) => write_head(names, u, sink),
+        Event::Cover(s) => write_name(names, o, s, sink),
         Event::EndCovers => write_all_bytes(sink, b"]\n"),
         Event::Dead(i) => write_number_line(b"dead ", i, sink),
         Event::By(i) => write_number_line(b"by ", i, sink),

@@ -1,12 +1,24 @@
 -- Lemmas about ways, over plain numbers and functions.
-use Rattle.std.proofs.Common.{◌≡◌, ◌≢◌, ℕ, ◌-◌, ◌<◌, ◌≤◌, ℤ, Bool, true, false, arith}
+use Rattle.std.proofs.Common.{◌≡◌, ◌≢◌, ℕ, ◌-◌, ◌<◌, ◌≤◌, ℤ, ◌<ℤ◌, ◌↔◌, Bool, true, false, IsTrue, List, arith}
 use Rattle.std.proofs.lemmas.Int.{ints}
 use Rattle.std.proofs.lemmas.Bool.{cases_lt}
-use Rattle.geo_base.specs.Ways.{toward, Advances}
+use Rattle.geo_base.specs.Ways.{toward, key, Before, Advances}
 
 pub toward_injective : (up : Bool) (a b : ℤ) → toward up a ≡ toward up b → a ≡ b
 toward_injective true a b e = e
 toward_injective false a b e = omega (arith, ints)
+
+less_here : (k l : ℕ → ℤ) (i j : ℕ) → ((d : ℕ) → d < j → k d ≡ l d) → k j ≢ l j → k i <ℤ l i → ((d : ℕ) → d < i → k d ≡ l d) → k j <ℤ l j
+less_here k l i j same ne less same_i = grind (arith, ints, cases_lt i j, cases_lt j i)
+
+-- at the first place where p and q differ it is known which comes before the other
+pub before_here : (K lead : ℕ) (up : Bool) (p q : List ℤ) (j : ℕ) → j < K → ((i : ℕ) → i < j → key K lead up p i ≡ key K lead up q i)
+    → (s : Bool) → IsTrue s ↔ (key K lead up p j ≡ key K lead up q j) → s ≡ false
+    → (b : Bool) → IsTrue b ↔ (key K lead up p j <ℤ key K lead up q j) → IsTrue b ↔ Before K lead up p q
+before_here K lead up p q j in_k same s alike differ b tells = (
+  λ yes. (j, in_k, tells.0 yes, same),
+  λ before. tells.1 (less_here (key K lead up p) (key K lead up q) before.0 j same (λ e. grind arith) before.2 before.3),
+)
 
 module _ (K j : ℕ) (first past c0 n0 c n c' n' : ℕ → ℤ) (some_left : 0 < j) (j_in : j ≤ K)
     (stays : (i : ℕ) → i < j → (c i ≡ c0 i) × (n i ≡ n0 i))

@@ -1,4 +1,4 @@
-ghost use Rattle.std.specs.Prelude.{◌≡◌, ◌≢◌, ℕ, ◌+◌, ◌<◌, ◌≤◌, pos, negsuc, ◌+ℤ◌, ◌≤ℤ◌, ◌↔◌, IsTrue, MatchBool};
+ghost use Rattle.std.specs.Prelude.{◌≡◌, ◌≢◌, ℕ, ◌+◌, ◌<◌, ◌≤◌, pos, negsuc, ◌+ℤ◌, ◌≤ℤ◌, ◌<ℤ◌, ◌↔◌, IsTrue, MatchBool};
 ghost use Rattle.std.specs.Int.{int_min};
 ghost use Rattle.geo_base.specs.Boxes.{coordinate};
 ghost use Rattle.geo_base.specs.Ways.{dimension, toward, key, Before, start, end, one_past, Advances, RunsOut, IsSmallPoint};
@@ -73,6 +73,19 @@ impl<const K: usize> Way<K> {
     {
         let d = self.dimension(j);
         p.get(d) == q.get(d)
+    }
+
+    /// Whether p comes strictly before q at the place `j` of significance.
+    #[inline(always)]
+    fn is_sooner_at(&self, p: &Point<K>, q: &Point<K>, j: usize) -> bool
+        requires { j < K }
+        ensures { let k = key K self.now.lead self.now.up in
+            IsTrue result ↔ (k p.now.coordinates j <ℤ k q.now.coordinates j) }
+    {
+        let d = self.dimension(j);
+        let a = p.get(d);
+        let b = q.get(d);
+        if self.up { a < b } else { b < a }
     }
 
     /// The corner of the box that comes first.
@@ -159,11 +172,8 @@ pub fn before<const K: usize>(way: &Way<K>, p: &Point<K>, q: &Point<K>) -> bool
         ↔ Before K way.now.lead way.now.up p.now.coordinates q.now.coordinates }
 {
     for j in 0..K {
-        let d = way.dimension(j);
-        let a = p.get(d);
-        let b = q.get(d);
-        if a != b {
-            return if way.up { a < b } else { b < a };
+        if !way.same_at(p, q, j) {
+            return way.is_sooner_at(p, q, j);
         }
     }
     false

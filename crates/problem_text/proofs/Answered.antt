@@ -1,5 +1,6 @@
 -- A text has one answer: a problem that it spells, or its first fault.
 use Rattle.std.proofs.Common.{◌≡◌, ℕ, ◌<◌, ◌≤◌, List, length, Result, Ok, Err, refl, sym, ap, ◌∙◌, subst, arith}
+use Rattle.std.specs.Result.{IsErrAnd}
 use Rattle.geo_tokens.specs.declared.token.Token.{Token}
 use Rattle.geo_tokens.specs.declared.fault.FaultWord.{FaultWord}
 use Rattle.geo_tokens.specs.declared.fault.FaultWord.TheVariants as words
@@ -20,12 +21,17 @@ use Rattle.problem_data.specs.Least.{fault, IsFirst}
 use Rattle.problem_data.specs.Faults.{IsFault}
 use Rattle.problem_data.specs.Meaning.{problem_of}
 use Rattle.problem_data.specs.Accepted.{most_bytes, Says}
-use Rattle.problem_text.specs.FirstFault.{HasFirstFault, long, no_token, no_statements, in_statements, AnswersProblem, IsOnlyProblem}
+use Rattle.problem_text.specs.FirstFault.{HasFirstFault, long, no_token, no_statements, in_statements, AnswersProblem, AnswersParts, IsOnlyProblem}
 use Rattle.problem_data.proofs.Firsts.{one_first}
 
 pub record Answer (r : Result Problem TextFault) (text : List ℕ) : Type 0 where
   pub answer : AnswersProblem r text
   pub only : IsOnlyProblem r text
+
+-- what `?` passed on
+pub passed : (text : List ℕ) (r : Result Problem TextFault) (e : TextFault) → IsErrAnd r (λ f. f ≡ e) → Answer (Err e) text → Answer r text
+passed text (Ok p) e h a = absurd h
+passed text (Err f) e h a = subst (λ (x : TextFault). Answer (Err x) text) (sym h) a
 
 module _ (text : List ℕ) where
   -- a text that is too long
@@ -108,3 +114,9 @@ module _ (text : List ℕ) where
             none q w (no_token le g) = no_fault q w g
             none q w (no_statements le us ts g) = no_refusal q w (refused_by us q w ts g)
             none q w (in_statements t says g) = right (fault q w) (first_of t q w says g).there
+
+        -- what is answered to the statements
+        pub answered : (r : Result Problem TextFault) → AnswersParts r (parts_of tree) → Answer r text
+        answered (Ok p) h = accepted p h.0 h.1
+        answered (Err (faults.At place word)) h = at_fault (fault place word) h
+        answered (Err faults.Memory) h = record { answer = tt; only = tt }

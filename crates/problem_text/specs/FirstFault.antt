@@ -11,7 +11,9 @@ use Rattle.problem_data.specs.Tree.{ProblemTree}
 use Rattle.problem_data.specs.Grammar.{ProblemWords}
 use Rattle.problem_syntax.specs.WholeText.{FirstFault}
 use Rattle.problem_data.specs.Problem.{ProblemData}
-use Rattle.problem_data.specs.Parts.{parts_of}
+use Rattle.problem_data.specs.declared.fault.Fault.{Fault}
+use Rattle.problem_data.specs.Meaning.{problem_of}
+use Rattle.problem_data.specs.Parts.{Parts, parts_of}
 use Rattle.problem_data.specs.Accepted.{most_bytes, Says, Accepts}
 use Rattle.problem_data.specs.Least.{fault, IsFirst}
 use Rattle.problem_data.specs.Faults.{IsFault}
@@ -28,6 +30,12 @@ abbrev pub AnswersProblem : Result Problem TextFault → List ℕ → Type 0
 AnswersProblem (Ok p) text = Accepts text p
 AnswersProblem (Err (faults.At place word)) text = HasFirstFault text place word
 AnswersProblem (Err faults.Memory) text = Unit {0}
+
+-- a call's answer to statements: the problem that they spell, or their first fault, unless memory ran out
+abbrev pub AnswersParts : Result Problem TextFault → Parts → Type 0
+AnswersParts (Ok p) parts = ((f : Fault) → IsFault parts f → ⊥) × (p ≡ problem_of parts)
+AnswersParts (Err (faults.At place word)) parts = IsFirst (IsFault parts) (fault place word)
+AnswersParts (Err faults.Memory) parts = Unit {0}
 
 -- nothing else is true of the text
 abbrev pub IsOnlyProblem : Result Problem TextFault → List ℕ → Type 0

@@ -82,14 +82,31 @@ fn build_object(
     requires { length met.now ≤ 256 }
     ensures { IfOk result (λ o. o ≡ object_of met.now (object_view object)) }
 {
+    let shapes = build_positions(alloc, met, object.shapes.as_slice())?;
+    let ranges = build_ranges(alloc, object.ranges.as_slice())?;
+    end_object(alloc, shapes, ranges, object)
+}
+
+/// The object, where its shapes and its ranges are built.
+fn end_object(
+    alloc: Global,
+    shapes: Vec<u16>,
+    ranges: Vec<RangeDef>,
+    object: ObjectText,
+) -> Result<ObjectDef, AllocError>
+    ensures { IfOk result (λ o. o ≡ record {
+      name = object.name.name;
+      shapes = shapes.items;
+      ranges = map range_data ranges.items;
+      attributes = map attribute_of object.attributes.items;
+    }) }
+{
     let ObjectText {
         name,
-        shapes,
-        ranges,
+        shapes: _,
+        ranges: _,
         attributes,
     } = object;
-    let shapes = build_positions(alloc, met, shapes.as_slice())?;
-    let ranges = build_ranges(alloc, ranges.as_slice())?;
     let attributes = build_attributes(alloc, attributes)?;
     let PlacedName { place: _, name } = name;
     Ok(ObjectDef::new(name, shapes, ranges, attributes))

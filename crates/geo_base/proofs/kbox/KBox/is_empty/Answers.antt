@@ -8,3 +8,6 @@ returns-clause-points g c = (
   λ no. absurd (cc),
   λ none. absurd (none c.args.self.now.lo.coordinates (λ d in_k. let ends = c.loop-d.invariant d (omega arith) in (omega (arith, ints), ends))),
 )
+
+pub returns-then-get-clause-ends : goal.returns-then-get-clause-ends
+returns-then-get-clause-ends g c = (c.loop-d.d, omega arith, omega (arith, ints))
