@@ -1,3 +1,4 @@
+pub mod Numbers
 pub mod Values
 pub mod WholePart
 pub mod Widened

@@ -77,7 +77,7 @@ fn has_asked(asked: Option<u8>, place: u8) -> bool
 impl<const K: usize> BoundIndexical<K> {
     ghost use Rattle.std.specs.Prelude.{◌≡◌, ◌==◌, ◌↔◌, List, ℤ, IfNone, IfSome, IsTrue};
     ghost use Rattle.geo_base.specs.Boxes.{Has};
-    ghost use Rattle.indexical.specs.Bound.{PassesAt};
+    ghost use Rattle.indexical.specs.Bound.{IsPast, PassesAt};
     ghost use Rattle.indexical.specs.Names.{IsFirstBefore};
 
     /// The bound on that coordinate of an object, where it has the place that is asked for, if one is. The constant lies within
@@ -126,6 +126,18 @@ impl<const K: usize> BoundIndexical<K> {
         self.object.0 == o.0
     }
 
+    // Whether a coordinate is on the wrong side.
+    #[inline(always)]
+    fn is_past(&self, v: i64) -> bool
+        ensures { IsTrue result ↔ IsPast self.now.least self.now.constant v v }
+    {
+        if self.least {
+            v < self.constant
+        } else {
+            -self.constant < v
+        }
+    }
+
     /// Whether the condition is refuted with its object at that place and point.
     #[inline(always)]
     pub fn is_broken_at(&self, place: u8, c: &Point<K>) -> bool
@@ -134,12 +146,7 @@ impl<const K: usize> BoundIndexical<K> {
         if !has_asked(self.asked, place) {
             return false;
         }
-        let v = c.get(self.dimension);
-        if self.least {
-            v < self.constant
-        } else {
-            -self.constant < v
-        }
+        self.is_past(c.get(self.dimension))
     }
 
     /// The part of the region in which the condition is refuted with its object at that place, if there is one.

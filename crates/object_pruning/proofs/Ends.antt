@@ -5,6 +5,7 @@ use Rattle.std.proofs.lemmas.Bool.{cases_eq, false≢true, lt-ltb}
 use Rattle.geo_base.specs.Boxes.{coordinate}
 use Rattle.geo_base.specs.Ways.{toward, dimension}
 use Rattle.geo_conditions.specs.declared.cond.Cond.{Cond}
+use Rattle.geo_conditions.specs.Conditions.{AllFit}
 use Rattle.geo_conditions.specs.Reach.{State, Reach, Region, IsState, reach, has, low, high, dims, place_in, with_low, with_high, without, Inside}
 use Rattle.geo_conditions.specs.Supported.{CanBeAt, HasNoPoint, IsFirstPoint}
 use Rattle.geo_conditions.specs.Keeps.{size}
@@ -14,12 +15,13 @@ use Rattle.geo_conditions.proofs.Greatest.{narrowed}
 use Rattle.geo_conditions.proofs.Decide.{cases_ℤ}
 use Rattle.std.proofs.lemmas.List.{get_or-set_same, get_or-set_other}
 use Rattle.geo_state.specs.Trail.{HasSmallIntervals, IsSmallEnd}
+use Rattle.geo_state.proofs.Fits.{all_fit}
 use Rattle.geo_state.proofs.Narrower.{low_within, high_within, without_within}
 use Rattle.geo_state.proofs.Shapes.{lo_long, hi_long}
 use Rattle.object_pruning.specs.Pruning.{CanBe, HasSamePoints, IsTight, PrunesTo}
 use Rattle.object_pruning.specs.declared.prune.Pruned.TheVariants.{Empty, Changed, Same}
 use Rattle.object_pruning.specs.declared.kept.Placed.{Placed}
-use Rattle.object_pruning.specs.Ends.{IsSooner, IsFirstAt, IsOutermostPoint, IsOutermost, HasSome, Shrinks, DropsPlaces, end, IsTightEnd, MovesEnd, MovesEnds}
+use Rattle.object_pruning.specs.Ends.{CanMove, IsSooner, IsFirstAt, IsOutermostPoint, IsOutermost, HasSome, Shrinks, DropsPlaces, end, IsTightEnd, MovesEnd, MovesEnds}
 use Rattle.object_pruning.specs.Record.{with_end}
 use Rattle.object_pruning.proofs.Narrowing.{same_self, same_trans, raised_points, lowered_points, raised_smaller, lowered_smaller, dropped_points, dropped_smaller, place_gone, reach_set}
 
@@ -233,6 +235,14 @@ outermost_in cs S o d up v b =
 pub outermost_small : (cs : List Cond) (S : State) (o d : ℕ) (up : Bool) (v : ℤ) → HasSmallIntervals S → IsOutermost cs S o d up v → IsSmallEnd v
 outermost_small cs S o d up v m b = let i = outermost_in cs S o d up v b in (omega (arith, ints, i.0, (m o d).0.0), omega (arith, ints, i.1, (m o d).1.1))
 
+-- said of a point that was sought on a state of the same value
+module _ {K : ℕ} (cs : List Cond) (R S : State) (o d : ℕ) (up : Bool) (q : Placed K) (v : ℤ) (same : R ≡ S) where
+  pub sought_within : IsOutermostPoint cs R o d up q → v ≡ coordinate q.point.coordinates d → (low S o d ≤ℤ v) × (v ≤ℤ high S o d)
+  sought_within out at = subst (λ (T : State). (low T o d ≤ℤ v) × (v ≤ℤ high T o d)) same (subst (λ (z : ℤ). (low R o d ≤ℤ z) × (z ≤ℤ high R o d)) (sym at) (outermost_in cs R o d up (coordinate q.point.coordinates d) out.1))
+
+  pub sought_small : HasSmallIntervals S → IsOutermostPoint cs R o d up q → v ≡ coordinate q.point.coordinates d → IsSmallEnd v
+  sought_small small out at = subst IsSmallEnd (sym at) (outermost_small cs S o d up (coordinate q.point.coordinates d) small (subst (λ (T : State). IsOutermostPoint cs T o d up q) same out).1)
+
 -- the low end moves
 pub moves_low : (K : ℕ) (cs : List Cond) (S T : State) (o d : ℕ) (v : ℤ) → IsState K S → o < length S → d < K → IsOutermost cs S o d true v → v ≢ low S o d → T ≡ set S o (with_low (reach S o) d v) → MovesEnd cs o d true S true T
 moves_low K cs S T o d v i h l b ne q = subst (MovesEnd cs o d true S true) (sym q) (
@@ -339,6 +349,14 @@ moves_end K cs o n S moved T i h l k = record {
 -- a point that is there stays
 pub some_kept : (cs : List Cond) (o : ℕ) (S T : State) → HasSamePoints cs o S T → HasSome cs S o → HasSome cs T o
 some_kept cs o S T k y = (y.0, y.1, (k.points y.0 y.1).0 y.2)
+
+-- an end that moved leaves what a further move asks for
+pub can_move_on : (all cs : List Cond) (o d : ℕ) (up : Bool) (S T : State) (moved : Bool) → MovesEnd cs o d up S moved T → CanMove all cs S o → CanMove all cs T o
+can_move_on all cs o d up S T moved m k = record {
+  fits = all_fit all S T m.inside k.fits;
+  object = omega (arith, m.inside.objects, k.object);
+  some = some_kept cs o S T m.points k.some;
+}
 
 -- without a point no place is left
 pub none_left : (cs : List Cond) (o : ℕ) (S T : State) (some dropped : Bool) → DropsPlaces cs o S some dropped T → some ≡ false → (s : ℕ) → has T o s ≡ true → ⊥

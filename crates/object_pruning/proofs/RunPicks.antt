@@ -1,8 +1,8 @@
 -- What is gathered of the groups of runs.
-use Rattle.std.proofs.Common.{◌≡◌, ℕ, zero, suc, ◌+◌, ◌<◌, ◌≤◌, List, [], ◌∷◌, length, get_or, sym, ap, ◌∙◌, subst, inl, inr, arith, Option, Some, None, true, false}
+use Rattle.std.proofs.Common.{◌≡◌, ℕ, zero, suc, ◌+◌, ◌<◌, ◌≤◌, List, [], ◌∷◌, length, sym, ap, ◌∙◌, subst, inl, inr, arith, Option, Some, None, true, false}
 use Rattle.std.specs.Prelude.{◌≢◌, slice_get, MatchOption, IfSome}
 use Rattle.std.proofs.lemmas.Bool.{cases_eq, cases_lt, false_from_ne_true}
-use Rattle.std.proofs.lemmas.Option.{same_Some, slice_get-get_or, slice_get_cases}
+use Rattle.std.proofs.lemmas.Option.{same_Some, slice_get_cases}
 use Rattle.geo_conditions.specs.declared.cond.Cond.{Cond}
 use Rattle.geo_conditions.specs.declared.object.ObjId.{ObjId}
 use Rattle.geo_conditions.specs.Conditions.{AllFit}
@@ -54,12 +54,11 @@ start_next from (suc j) (p ∷ runs) run h = start_next p.end j runs run h
 
 module _ (K : ℕ) (cs : List Cond) (S : State) (o s : ℕ) (b : Region) (gs : List Group) where
   -- of the groups between, one after another
-  pub goes_between : (first k : ℕ) (d : Group) (n m l : ℕ) (live mid new : List ℕ) → first ≤ k → k < length gs → GoesOn K cs S o s b (HaveBetween gs first k) n live m mid → GoesOn K cs S o s b (IsInGroup (get_or gs k d)) m mid l new → GoesOn K cs S o s b (HaveBetween gs first (k + 1)) n live l new
-  goes_between first k d n m l live mid new low h a c =
-      let at : slice_get gs k ≡ Some (get_or gs k d) = slice_get-get_or gs k d h in
-      goes_both K cs S o s b (HaveBetween gs first k) (IsInGroup (get_or gs k d)) (HaveBetween gs first (k + 1)) n m l live mid new
+  pub goes_between : (first k : ℕ) (d : Group) (n m l : ℕ) (live mid new : List ℕ) → first ≤ k → slice_get gs k ≡ Some d → GoesOn K cs S o s b (HaveBetween gs first k) n live m mid → GoesOn K cs S o s b (IsInGroup d) m mid l new → GoesOn K cs S o s b (HaveBetween gs first (k + 1)) n live l new
+  goes_between first k d n m l live mid new low at a c =
+      goes_both K cs S o s b (HaveBetween gs first k) (IsInGroup d) (HaveBetween gs first (k + 1)) n m l live mid new
       (λ i p. (p.0, p.1, p.2, omega (arith, p.3), p.4, p.5))
-      (λ i q. (k, get_or gs k d, low, omega arith, at, q))
+      (λ i q. (k, d, low, omega arith, at, q))
       (λ i r. elim (cases_eq r.0 k) [
         | inl e ↦ inr (subst (λ (x : Group). IsInGroup x i) (same_Some _ _ (sym r.4 ∙ ap (slice_get gs) e ∙ at)) r.5)
         | inr ne ↦ inl (r.0, r.1, r.2, omega (arith, r.3), r.4, r.5)

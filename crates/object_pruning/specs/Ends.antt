@@ -1,8 +1,9 @@
 -- The ends of the intervals of one object, and what its places and points say of them.
-use Rattle.std.specs.Prelude.{◌≡◌, ◌≢◌, ◌⊎◌, ◌<◌, ◌≤ℤ◌, ℕ, ℤ, Bool, true, false, List, Option, None, Some}
+use Rattle.std.specs.Prelude.{◌≡◌, ◌≢◌, ◌⊎◌, ◌<◌, ◌≤ℤ◌, ℕ, ℤ, Bool, true, false, List, length, Option, None, Some}
 use Rattle.geo_base.specs.Boxes.{coordinate}
 use Rattle.geo_base.specs.Ways.{toward}
 use Rattle.geo_conditions.specs.declared.cond.Cond.{Cond}
+use Rattle.geo_conditions.specs.Conditions.{AllFit}
 use Rattle.geo_conditions.specs.Reach.{State, reach, has, low, high, dims, Inside}
 use Rattle.geo_conditions.specs.Keeps.{size}
 use Rattle.object_pruning.specs.declared.kept.Placed.{Placed}
@@ -46,6 +47,12 @@ IsEndPoint cs S o d up q = CanBe cs S o q.place q.point.coordinates × (coordina
 -- some point is there
 abbrev pub HasSome : List Cond → State → ℕ → Type 0
 HasSome cs S o = (s : ℕ) × (p : List ℤ) × CanBe cs S o s p
+
+-- the conditions fit S, which has the object, and some point of it is there
+pub record CanMove (all cs : List Cond) (S : State) (o : ℕ) : Type 0 where
+  pub fits : AllFit all S
+  pub object : o < length S
+  pub some : HasSome cs S o
 
 -- each place has a point
 abbrev pub HavePoints : List Cond → State → ℕ → Type 0

@@ -7,7 +7,7 @@ ghost use Rattle.sweep.specs.Picks.{ArePicks};
 ghost use Rattle.geo_conditions.specs.Regions.{region_of};
 ghost use Rattle.object_pruning.specs.Gathered.{AreGathered, GoesOn, HoldParts, IsSolePlace};
 ghost use Rattle.object_pruning.specs.InRows.{AreRows, AreSomeGroups, HaveNumber, IsSomeGroup};
-ghost use Rattle.object_pruning.specs.Runs.{AreRuns, HaveBetween, IsInGroup, IsRun};
+ghost use Rattle.object_pruning.specs.Runs.{AreRuns, HaveBetween, IsInGroup, IsRun, row};
 
 use super::rows::{Group, Rows, Run};
 use geo_base::{KBox, MAX_DIMS};
@@ -152,6 +152,75 @@ pub fn can_be_in_the_way(group: &Group, sole: Option<u8>) -> bool
     }
 }
 
+/// A group of a run. It is told which place its other object has alone, as that of the run.
+#[inline(always)]
+pub fn group_at<'a, const K: usize, I: Indexical<K>>(
+    s: &State<K>,
+    o: ObjId,
+    list: &[I],
+    groups: &'a [Group],
+    run: &Run,
+    sole: Option<u8>,
+    k: usize,
+) -> &'a Group
+    requires fits { AllFit (map I.cond list.now) s.now }
+    requires object { o.0 < length s.now }
+    requires groups { AreSomeGroups (map I.cond list.now) o.0 groups.now }
+    requires run { IsRun groups.now run.now.first run.now }
+    requires sole { IsSolePlace s.now run.now.other sole }
+    requires k { (run.now.first ≤ k) × (k < run.now.end) }
+    ensures at { slice_get groups.now k ≡ Some result.now }
+    ensures group { IsSomeGroup (map I.cond list.now) o.0 result.now }
+    ensures numbers { (i : ℕ) → IsInGroup result.now i
+        → (0 < i) × (i - 1 < length list.now) }
+    ensures sole { IsSolePlace s.now result.now.other sole }
+{
+    &groups[k]
+}
+
+/// A run of a row. Its other object is there, if it has one.
+#[inline(always)]
+pub fn run_at<'a, const K: usize, I: Indexical<K>>(
+    s: &State<K>,
+    o: ObjId,
+    list: &[I],
+    groups: &[Group],
+    runs: &'a [Run],
+    j: usize,
+) -> &'a Run
+    requires fits { AllFit (map I.cond list.now) s.now }
+    requires object { o.0 < length s.now }
+    requires groups { AreSomeGroups (map I.cond list.now) o.0 groups.now }
+    requires runs { AreRuns groups.now runs.now }
+    requires j { j < length runs.now }
+    ensures at { slice_get runs.now j ≡ Some result.now }
+    ensures run { IsRun groups.now result.now.first result.now }
+    ensures other { IfSome result.now.other (λ u. u.0 < length s.now) }
+{
+    &runs[j]
+}
+
+/// The groups of a row and their runs: each is a group of some row.
+#[inline(always)]
+pub fn row_at<'a, const K: usize, I: Indexical<K>>(
+    s: &State<K>,
+    o: ObjId,
+    list: &[I],
+    picks: &[u32],
+    rows: &'a Rows,
+    r: usize,
+) -> (&'a [Group], &'a [Run])
+    requires fits { AllFit (map I.cond list.now) s.now }
+    requires object { o.0 < length s.now }
+    requires picks { ArePicks (length list.now) picks.now }
+    requires rows { AreRows (map I.cond list.now) o.0 picks.now rows.now }
+    ensures row { result.0.now ≡ row rows.now.rows.items r }
+    ensures groups { AreSomeGroups (map I.cond list.now) o.0 result.0.now }
+    ensures runs { AreRuns result.0.now result.1.now }
+{
+    (rows.row(r), rows.runs(r))
+}
+
 // The same for a group, of which nothing is gathered where its conditions cannot be in the way.
 fn gather_group<const K: usize, I: Indexical<K>>(
     s: &State<K>,
@@ -169,6 +238,7 @@ fn gather_group<const K: usize, I: Indexical<K>>(
     requires fits { AllFit (map I.cond list.now) s.now }
     requires object { o.0 < length s.now }
     requires group { IsSomeGroup (map I.cond list.now) o.0 group.now }
+    requires numbers { (i : ℕ) → IsInGroup group.now i → (0 < i) × (i - 1 < length list.now) }
     requires sole { IsSolePlace s.now group.now.other sole }
     requires room { count ≤ length live.old }
     requires parts { HoldParts K (map I.cond list.now) s.now o.0 place (region_of region.now)
@@ -215,8 +285,9 @@ fn gather_groups<const K: usize, I: Indexical<K>>(
 {
     let mut gathered = count;
     for k in run.first..run.end {
+        let group = group_at(s, o, list, groups, run, sole, k);
         gathered = gather_group(
-            s, o, place, region, list, &groups[k], sole, live, parts, gathered,
+            s, o, place, region, list, group, sole, live, parts, gathered,
         )?;
     }
     Some(gathered)
@@ -250,6 +321,7 @@ fn gather_run<const K: usize, I: Indexical<K>>(
     requires object { o.0 < length s.now }
     requires groups { AreSomeGroups (map I.cond list.now) o.0 groups.now }
     requires run { IsRun groups.now run.now.first run.now }
+    requires other { IfSome run.now.other (λ u. u.0 < length s.now) }
     requires room { count ≤ length live.old }
     requires parts { HoldParts K (map I.cond list.now) s.now o.0 place (region_of region.now)
         live.old parts.old }
@@ -296,8 +368,9 @@ fn gather_row<const K: usize, I: Indexical<K>>(
 {
     let mut gathered = count;
     for j in 0..runs.len() {
+        let run = run_at(s, o, list, groups, runs, j);
         gathered = gather_run(
-            s, o, place, region, list, groups, &runs[j], live, parts, gathered,
+            s, o, place, region, list, groups, run, live, parts, gathered,
         )?;
     }
     Some(gathered)
@@ -329,31 +402,11 @@ fn gather_by_rows<const K: usize, I: Indexical<K>>(
     ensures parts { HoldParts K (map I.cond list.now) s.now o.0 place (region_of region.now)
         live.new parts.new }
 {
-    let count = gather_row(
-        s,
-        o,
-        place,
-        region,
-        list,
-        rows.row(0),
-        rows.runs(0),
-        live,
-        parts,
-        0,
-    )?;
+    let any = row_at(s, o, list, picks, rows, 0);
+    let count = gather_row(s, o, place, region, list, any.0, any.1, live, parts, 0)?;
     let r = usize::from(place);
-    gather_row(
-        s,
-        o,
-        place,
-        region,
-        list,
-        rows.row(r),
-        rows.runs(r),
-        live,
-        parts,
-        count,
-    )
+    let own = row_at(s, o, list, picks, rows, r);
+    gather_row(s, o, place, region, list, own.0, own.1, live, parts, count)
 }
 
 // Gathers by going over all picks.

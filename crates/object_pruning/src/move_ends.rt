@@ -6,7 +6,7 @@ ghost use Rattle.geo_conditions.specs.Reach.{Inside, low, high};
 ghost use Rattle.geo_state.specs.Trail.{IsSmallEnd};
 ghost use Rattle.derivation.specs.Events.{Grows};
 ghost use Rattle.sweep.specs.Picks.{ArePicks, picked};
-ghost use Rattle.object_pruning.specs.Ends.{HasSome, MovesEnd, MovesEnds};
+ghost use Rattle.object_pruning.specs.Ends.{CanMove, HasSome, MovesEnd, MovesEnds};
 ghost use Rattle.object_pruning.specs.Kept.{AllSupport};
 ghost use Rattle.derivation.specs.Chains.{IsLed};
 ghost use Rattle.object_pruning.specs.Record.{with_end};
@@ -57,18 +57,19 @@ fn move_end<const K: usize, I: Indexical<K>, R: Recorder>(
     rec: &mut R,
 ) -> Result<bool, AllocError>
     requires k { K ≤ MAX_DIMS }
-    requires fits { AllFit (map I.cond list.now) t.old.state }
-    requires object { o.0 < length t.old.state }
+    requires can { CanMove (map I.cond list.now) (picked (map I.cond list.now) picks.now) t.old.state
+        o.0 }
     requires dimension { d < K }
     requires picks { ArePicks (length list.now) picks.now }
     requires rows { IfSome rows (λ r. AreRows (map I.cond list.now) o.0 picks.now r.now) }
-    requires some { HasSome (picked (map I.cond list.now) picks.now) t.old.state o.0 }
     requires kept { AllSupport (picked (map I.cond list.now) picks.now) t.old.state o.0 kept.old }
     ensures moves { IfOk result (λ m. MovesEnd (picked (map I.cond list.now) picks.now) o.0 d up
         t.old.state m t.new.state) }
     ensures led { IfOk result (λ m. R.keeps ≡ true
         → IsLed (map I.cond list.now) t.old.state t.new.state (R.list rec.old) (R.list rec.new)) }
     ensures unmoved { OnErr result (t.new.state ≡ t.old.state) }
+    ensures can { CanMove (map I.cond list.now) (picked (map I.cond list.now) picks.now) t.new.state
+        o.0 }
     ensures kept { AllSupport (picked (map I.cond list.now) picks.now) t.new.state o.0 kept.new }
     ensures levels { (t.new.levels ≡ t.old.levels) × (t.new.restores ≡ t.old.restores) }
     ensures grows { Grows R.keeps R.list R.refusals rec.old rec.new result }

@@ -1,6 +1,6 @@
 //! Making the rows of an object.
 
-ghost use Rattle.std.specs.Prelude.{◌≡◌, ◌≢◌, ℕ, ◌+◌, ◌-◌, ◌<◌, ◌≤◌, [], length, map, IfOk, IsTrue, OnOk};
+ghost use Rattle.std.specs.Prelude.{◌≡◌, ◌≢◌, ℕ, ◌+◌, ◌-◌, ◌<◌, ◌≤◌, [], length, map, slice_index, IfOk, IsTrue, OnOk};
 ghost use Rattle.sweep.specs.Picks.{ArePicks};
 ghost use Rattle.object_pruning.specs.InRows.{AreRows, AreRowsBelow, PutsNumber};
 ghost use Rattle.object_pruning.specs.Runs.{row};
@@ -69,6 +69,18 @@ fn empty_rows(alloc: Global) -> Result<Vec<Vec<Group>>, AllocError>
     Ok(rows)
 }
 
+// The number of the k-th pick: that of a condition of the list.
+fn number_at<const K: usize>(list: &[AnyIndexical<K>], picks: &[u32], k: usize) -> u32
+    requires picks { ArePicks (length list.now) picks.now }
+    requires pick { k < length picks.now }
+    ensures is { result ≡ slice_index picks.now k }
+    ensures some { 0 < result }
+    ensures named { result - 1 < length list.now }
+{
+    let _conditions = list.len();
+    picks[k]
+}
+
 // Puts the k-th pick into its row.
 fn put_pick<const K: usize>(
     list: &[AnyIndexical<K>],
@@ -83,7 +95,7 @@ fn put_pick<const K: usize>(
     ensures { OnOk result
         (AreRowsBelow (map (λ x. x.cond) list.now) o.0 picks.now (k + 1) rows.new) }
 {
-    let number = picks[k];
+    let number = number_at(list, picks, k);
     let facing = list[number as usize - 1].facing(o);
     let groups = &mut rows[row_of(&facing)];
     put_number(groups, number, &facing)

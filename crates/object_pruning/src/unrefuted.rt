@@ -10,7 +10,9 @@ ghost use Rattle.object_pruning.specs.InRows.{AreRows, AreSomeGroups, HaveNumber
 ghost use Rattle.object_pruning.specs.Runs.{AreRuns, HaveBetween, IsInGroup, IsRun};
 ghost use Rattle.object_pruning.specs.Kept.{placed};
 
-use super::gathering::{can_be_in_the_way, is_passed_over, sole_place_of};
+use super::gathering::{
+    can_be_in_the_way, group_at, is_passed_over, row_at, run_at, sole_place_of,
+};
 use super::kept::Placed;
 use super::rows::{Group, Rows, Run};
 use geo_base::MAX_DIMS;
@@ -73,6 +75,7 @@ fn is_group_possible<const K: usize, I: Indexical<K>>(
     requires fits { AllFit (map I.cond list.now) s.now }
     requires object { o.0 < length s.now }
     requires group { IsSomeGroup (map I.cond list.now) o.0 group.now }
+    requires numbers { (i : ℕ) → IsInGroup group.now i → (0 < i) × (i - 1 < length list.now) }
     requires sole { IsSolePlace s.now group.now.other sole }
     ensures { IsTrue result ↔ AllPossible (map I.cond list.now) (placed s.now o.0 q.now)
         (IsInGroup group.now) }
@@ -103,7 +106,8 @@ fn are_groups_possible<const K: usize, I: Indexical<K>>(
         (HaveBetween groups.now run.now.first run.now.end) }
 {
     for k in run.first..run.end {
-        if !is_group_possible(s, o, q, list, &groups[k], sole) {
+        let group = group_at(s, o, list, groups, run, sole, k);
+        if !is_group_possible(s, o, q, list, group, sole) {
             return false;
         }
     }
@@ -124,6 +128,7 @@ fn is_run_possible<const K: usize, I: Indexical<K>>(
     requires object { o.0 < length s.now }
     requires groups { AreSomeGroups (map I.cond list.now) o.0 groups.now }
     requires run { IsRun groups.now run.now.first run.now }
+    requires other { IfSome run.now.other (λ u. u.0 < length s.now) }
     ensures { IsTrue result ↔ AllPossible (map I.cond list.now) (placed s.now o.0 q.now)
         (HaveBetween groups.now run.now.first run.now.end) }
 {
@@ -152,7 +157,8 @@ fn is_row_possible<const K: usize, I: Indexical<K>>(
         (HaveNumber groups.now) }
 {
     for j in 0..runs.len() {
-        if !is_run_possible(s, o, q, list, groups, &runs[j]) {
+        let run = run_at(s, o, list, groups, runs, j);
+        if !is_run_possible(s, o, q, list, groups, run) {
             return false;
         }
     }
@@ -176,11 +182,13 @@ fn is_unrefuted_by_rows<const K: usize, I: Indexical<K>>(
     ensures { IsTrue result
         ↔ NoneRefuted (picked (map I.cond list.now) picks.now) (placed s.now o.0 q.now) }
 {
-    if !is_row_possible(s, o, q, list, rows.row(0), rows.runs(0)) {
+    let any = row_at(s, o, list, picks, rows, 0);
+    if !is_row_possible(s, o, q, list, any.0, any.1) {
         return false;
     }
     let r = usize::from(q.place);
-    is_row_possible(s, o, q, list, rows.row(r), rows.runs(r))
+    let own = row_at(s, o, list, picks, rows, r);
+    is_row_possible(s, o, q, list, own.0, own.1)
 }
 
 // Asks all picks.

@@ -1,4 +1,4 @@
-use Rattle.std.proofs.Common.{map, get_or, arith, rules}
+use Rattle.std.proofs.Common.{map, get_or, arith, rules, None}
 use Rattle.std.proofs.lemmas.Option.{slice_get-get_or}
 use Rattle.indexical.specs.declared.any.AnyIndexical.{AnyIndexical}
 use Rattle.fixpoint.specs.declared.pairs.RowGroup.{RowGroup}
@@ -13,7 +13,8 @@ pub ask_group-requires : goal.ask_group-requires
 ask_group-requires g c =
     let bs = c.args.groups.now in
     let k = c.loop-k.k in
-    let some : (d : RowGroup) → IsGroupOf (map (λ (x : AnyIndexical g.row.K). x.cond) c.args.list.now) c.args.o.0 (get_or bs k d).row (get_or bs k d).group = λ d. c.requires.groups k (get_or bs k d) (slice_get-get_or bs k d c.loop-k-test.true) in
+    let d : RowGroup = record { row = 0; group = record { other = None; other_place = 0; first = 0; last = 0 } } in
+    let some : IsGroupOf (map (λ (x : AnyIndexical g.row.K). x.cond) c.args.list.now) c.args.o.0 (get_or bs k d).row (get_or bs k d).group = c.requires.groups k (get_or bs k d) (slice_get-get_or bs k d c.loop-k-test.true) in
     search rules
 
 pub loop-k-preserved : goal.loop-k-preserved

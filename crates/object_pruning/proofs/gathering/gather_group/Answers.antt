@@ -1,15 +1,9 @@
-use Rattle.std.proofs.Common.{ℕ, ◌-◌, ◌<◌, length, map, subst, rules}
-use Rattle.std.proofs.lemmas.List.{length-map}
+use Rattle.std.proofs.Common.{map}
 use Rattle.object_pruning.specs.Runs.{IsInGroup}
-use Rattle.object_pruning.proofs.LivePicks.{group_number, group_spared, goes_past}
+use Rattle.object_pruning.proofs.LivePicks.{group_spared, goes_past}
 use Rattle.object_pruning.proofs.RunPicks.{sole_free}
 use Rattle.geo_conditions.specs.Regions.{region_of}
 use Rattle.object_pruning.proofs.gathering.gather_group.Goals as goal
-
-pub gather_numbers-requires : goal.gather_numbers-requires
-gather_numbers-requires g c =
-    let numbers : (i : ℕ) → IsInGroup c.args.group.now i → (0 < i) × (i - 1 < length c.args.list.now) = λ i b. subst (λ (n : ℕ). (0 < i) × (i - 1 < n)) (length-map c.args.list.now g.I.Indexical.cond) (group_number (map g.I.Indexical.cond c.args.list.now) c.args.s.now c.args.o.0 c.requires.fits c.requires.object c.args.group.now c.requires.group i b) in
-    search rules
 
 pub returns-then-not-can_be_in_the_way-clause-goes : goal.returns-then-not-can_be_in_the_way-clause-goes
 returns-then-not-can_be_in_the_way-clause-goes g c =

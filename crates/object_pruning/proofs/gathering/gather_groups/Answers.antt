@@ -1,26 +1,9 @@
-use Rattle.std.proofs.Common.{◌≡◌, ◌<◌, length, map, get_or, arith, subst, sym, rules, Some, Option}
-use Rattle.std.specs.Prelude.{slice_get}
-use Rattle.std.proofs.lemmas.Option.{slice_get-get_or}
-use Rattle.geo_conditions.specs.declared.object.ObjId.{ObjId}
-use Rattle.object_pruning.specs.declared.rows.Group.{Group}
-use Rattle.object_pruning.specs.InRows.{IsSomeGroup}
-use Rattle.object_pruning.specs.Gathered.{IsSolePlace}
+use Rattle.std.proofs.Common.{◌≡◌, map, arith}
 use Rattle.object_pruning.specs.Runs.{HaveBetween}
 use Rattle.object_pruning.proofs.LivePicks.{goes_as, goes_nowhere}
 use Rattle.object_pruning.proofs.RunPicks.{goes_between}
 use Rattle.geo_conditions.specs.Regions.{region_of}
 use Rattle.object_pruning.proofs.gathering.gather_groups.Goals as goal
-
-pub gather_group-requires : goal.gather_group-requires
-gather_group-requires g c =
-    let gs = c.args.groups.now in
-    let k = c.loop-k.k in
-    let run = c.args.run.now in
-    let here : k < length gs = omega (arith, c.loop-k-test.true, c.requires.run.within) in
-    let is : (d : Group) → slice_get gs k ≡ Some (get_or gs k d) = λ d. slice_get-get_or gs k d here in
-    let some : (d : Group) → IsSomeGroup (map g.I.Indexical.cond c.args.list.now) c.args.o.0 (get_or gs k d) = λ d. c.requires.groups k (get_or gs k d) (is d) in
-    let sole : (d : Group) → IsSolePlace c.args.s.now (get_or gs k d).other c.args.sole = λ d. subst (λ (u : Option ObjId). IsSolePlace c.args.s.now u c.args.sole) (sym (c.requires.run.other k (get_or gs k d) c.loop-k.auto.k c.loop-k-test.true (is d))) c.requires.sole in
-    search rules
 
 pub loop-k-init : goal.loop-k-init
 loop-k-init g c = record {
@@ -32,7 +15,7 @@ pub loop-k-preserved : goal.loop-k-preserved
 loop-k-preserved g c = record {
   parts = c.in_ok-gathered.ensures.parts;
   goes =
-      goes_between g.row.K (map g.I.Indexical.cond c.args.list.now) c.args.s.now c.args.o.0 c.args.place (region_of c.args.region.now) c.args.groups.now c.args.run.now.first c.loop-k.k _ c.args.count c.loop-k.gathered c.in_ok-gathered.gathered c.args.live.now c.loop-k.live c.gather_group.new.live c.loop-k.auto.k (omega (arith, c.loop-k-test.true, c.requires.run.within)) c.loop-k.invariant.goes c.in_ok-gathered.ensures.goes;
+      goes_between g.row.K (map g.I.Indexical.cond c.args.list.now) c.args.s.now c.args.o.0 c.args.place (region_of c.args.region.now) c.args.groups.now c.args.run.now.first c.loop-k.k c.group_at-group.result.now c.args.count c.loop-k.gathered c.in_ok-gathered.gathered c.args.live.now c.loop-k.live c.gather_group.new.live c.loop-k.auto.k c.group_at-group.ensures.at c.loop-k.invariant.goes c.in_ok-gathered.ensures.goes;
 }
 
 pub returns-clause-goes : goal.returns-clause-goes

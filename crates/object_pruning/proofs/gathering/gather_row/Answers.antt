@@ -1,30 +1,20 @@
-use Rattle.std.proofs.Common.{◌≡◌, ◌+◌, suc, length, map, get_or, arith, ap, sym, ◌∙◌, subst, rules, Some}
+use Rattle.std.proofs.Common.{◌≡◌, ◌+◌, suc, length, map, arith, ap, ◌∙◌, Some}
 use Rattle.std.specs.Prelude.{slice_get}
-use Rattle.std.proofs.lemmas.Option.{slice_get-get_or, slice_get_within}
-use Rattle.object_pruning.specs.declared.rows.Run.{Run}
+use Rattle.std.proofs.lemmas.Option.{slice_get_within}
 use Rattle.object_pruning.specs.InRows.{HaveNumber}
-use Rattle.object_pruning.specs.Runs.{HaveBetween, IsRun, start_at}
+use Rattle.object_pruning.specs.Runs.{HaveBetween, start_at}
 use Rattle.object_pruning.proofs.LivePicks.{goes_as}
 use Rattle.object_pruning.proofs.RunPicks.{goes_run, start_next}
 use Rattle.geo_conditions.specs.Regions.{region_of}
 use Rattle.object_pruning.proofs.gathering.gather_row.Goals as goal
-
-pub gather_run-requires : goal.gather_run-requires
-gather_run-requires g c =
-    let runs = c.args.runs.now in
-    let j = c.loop-j.j in
-    let run : (d : Run) → IsRun c.args.groups.now (get_or runs j d).first (get_or runs j d) = λ d.
-    let is = c.requires.runs.each j (get_or runs j d) (slice_get-get_or runs j d c.loop-j-test.true) in
-    subst (λ n. IsRun c.args.groups.now n (get_or runs j d)) (sym is.first) is in
-    search rules
 
 pub loop-j-preserved : goal.loop-j-preserved
 loop-j-preserved g c =
     let runs = c.args.runs.now in
     let j = c.loop-j.j in
     let after : j + 1 ≡ suc j = omega arith in
-    let run = get_or runs j _ in
-    let at : slice_get runs j ≡ Some run = slice_get-get_or runs j _ c.loop-j-test.true in
+    let run = c.run_at-run.result.now in
+    let at : slice_get runs j ≡ Some run = c.run_at-run.ensures.at in
     let next : start_at 0 runs (j + 1) ≡ run.end = ap (start_at 0 runs) after ∙ start_next 0 j runs run at in
     record {
       parts = c.in_ok-gathered.ensures.parts;

@@ -1,4 +1,4 @@
-use Rattle.std.proofs.Common.{◌≡◌, ◌≢◌, ◌≤ℤ◌, ℤ, map, refl, sym, ap, ◌∙◌, subst, rules}
+use Rattle.std.proofs.Common.{◌≡◌, ◌≢◌, ◌≤ℤ◌, ℤ, true, map, refl, sym, ap, ◌∙◌, subst, rules}
 use Rattle.std.specs.Int.{w64}
 use mir.Val.{to_z, of_z}
 use Rattle.geo_base.specs.Boxes.{coordinate}
@@ -7,11 +7,11 @@ use Rattle.geo_state.specs.Trail.{IsSmallEnd}
 use Rattle.geo_state.proofs.Numbers.{kept64}
 use Rattle.derivation.specs.Chains.{moved}
 use Rattle.sweep.specs.Picks.{picked}
-use Rattle.object_pruning.specs.Ends.{IsOutermostPoint, IsTightEnd, end}
+use Rattle.object_pruning.specs.Ends.{IsOutermostPoint, IsTightEnd, MovesEnd, end}
 use Rattle.object_pruning.specs.Kept.{AllSupport}
 use Rattle.derivation.specs.Chains.{IsLed}
 use Rattle.object_pruning.specs.Record.{end_side, with_end}
-use Rattle.object_pruning.proofs.Ends.{moves_none, moves_not, moves_set, outermost_in, outermost_small}
+use Rattle.object_pruning.proofs.Ends.{can_move_on, moves_none, moves_not, moves_set, sought_small, sought_within}
 use Rattle.derivation.proofs.Chains.{led_same}
 use Rattle.object_pruning.proofs.Supports.{supports_found, supports_set}
 use Rattle.derivation.proofs.Continuing.{growth_none, growth_failed}
@@ -62,14 +62,11 @@ set_end-requires g c =
     let S = c.args.t.now.state in
     let o = c.args.o.0 in
     let d = c.args.d in
-    let up = c.args.up in
     let q = c.in_ok-q.q in
-    let v = coordinate q.point.coordinates d in
-    let out : IsOutermostPoint cs S o d up q = subst (λ (T : State). IsOutermostPoint cs T o d up q) c.state-state.ensures.value c.in_ok-q.ensures.point in
-    let at : to_z w64 (of_z w64 c.get-v.result) ≡ v = kept64 c.get-v.result c.get-v.type_inv ∙ c.get-v.ensures in
-    let small : IsSmallEnd (to_z w64 (of_z w64 c.get-v.result)) = subst IsSmallEnd (sym at) (outermost_small cs S o d up v c.state-state.ensures.small out.1) in
-    let within : (low S o d ≤ℤ to_z w64 (of_z w64 c.get-v.result)) × (to_z w64 (of_z w64 c.get-v.result) ≤ℤ high S o d) =
-    subst (λ (z : ℤ). (low S o d ≤ℤ z) × (z ≤ℤ high S o d)) (sym at) (outermost_in cs S o d up v out.1) in
+    let v = to_z w64 (of_z w64 c.get-v.result) in
+    let at : v ≡ coordinate q.point.coordinates d = kept64 c.get-v.result c.get-v.type_inv ∙ c.get-v.ensures in
+    let small : IsSmallEnd v = sought_small cs c.state-state.result.now S o d c.args.up q v c.state-state.ensures.value c.state-state.ensures.small c.in_ok-q.ensures.point at in
+    let within : (low S o d ≤ℤ v) × (v ≤ℤ high S o d) = sought_within cs c.state-state.result.now S o d c.args.up q v c.state-state.ensures.value c.in_ok-q.ensures.point at in
     search rules
 
 -- the end was not there
@@ -82,8 +79,9 @@ moved_there g c =
     let at : to_z w64 (of_z w64 c.get-v.result) ≡ coordinate c.in_ok-q.q.point.coordinates c.args.d = kept64 c.get-v.result c.get-v.type_inv ∙ c.get-v.ensures in
     c.set_end.ensures.state ∙ ap (λ (z : ℤ). with_end c.args.t.now.state c.args.o.0 c.args.d c.args.up z) at
 
-pub returns-clause-moves : goal.returns-clause-moves
-returns-clause-moves g c =
+-- it alone moved
+moved_end : (g : _) (c : After-set_end g) → MovesEnd (picked (map g.I.Indexical.cond c.args.list.now) c.args.picks.now) c.args.o.0 c.args.d c.args.up c.args.t.now.state true c.set_end.new.t.state
+moved_end g c =
     let cs = picked (map g.I.Indexical.cond c.args.list.now) c.args.picks.now in
     let S = c.args.t.now.state in
     let o = c.args.o.0 in
@@ -94,7 +92,13 @@ returns-clause-moves g c =
     let e : c.state-state.result.now ≡ S = c.state-state.ensures.value in
     let shape : IsState g.row.K S = subst (IsState g.row.K) e c.objects-objects.ensures.shape in
     let out : IsOutermostPoint cs S o d up q = subst (λ (T : State). IsOutermostPoint cs T o d up q) e c.in_ok-q.ensures.point in
-    moves_set g.row.K cs S c.set_end.new.t.state o d up v shape c.requires.object c.requires.dimension out.1 (λ x. loose g c (x ∙ sym (ap (λ (T : State). end up T o d) e))) (moved_there g c)
+    moves_set g.row.K cs S c.set_end.new.t.state o d up v shape c.requires.can.object c.requires.dimension out.1 (λ x. loose g c (x ∙ sym (ap (λ (T : State). end up T o d) e))) (moved_there g c)
+
+pub returns-clause-moves : goal.returns-clause-moves
+returns-clause-moves g c = moved_end g c
+
+pub returns-clause-can : goal.returns-clause-can
+returns-clause-can g c = can_move_on (map g.I.Indexical.cond c.args.list.now) (picked (map g.I.Indexical.cond c.args.list.now) c.args.picks.now) c.args.o.0 c.args.d c.args.up c.args.t.now.state c.set_end.new.t.state true (moved_end g c) c.requires.can
 
 pub returns-clause-led : goal.returns-clause-led
 returns-clause-led g c = λ kept.
@@ -117,7 +121,7 @@ returns-clause-kept g c =
     let v = coordinate c.in_ok-q.q.point.coordinates c.args.d in
     let kept : AllSupport cs S o c.keep_found.new.kept =
     supports_found cs c.state-state.result.now S o c.knows_end.new.kept c.keep_found.new.kept c.end_slot.result c.lasting_point-lasting.result c.state-state.ensures.value c.lasting_point-lasting.ensures c.knows_end.ensures.kept c.keep_found.ensures in
-    supports_set cs S c.set_end.new.t.state o (moved (end_side c.args.up c.args.d v) (reach S o)) c.keep_found.new.kept c.requires.object (moved_there g c) kept
+    supports_set cs S c.set_end.new.t.state o (moved (end_side c.args.up c.args.d v) (reach S o)) c.keep_found.new.kept c.requires.can.object (moved_there g c) kept
 
 pub returns-then-knows_end-clause-grows : goal.returns-then-knows_end-clause-grows
 returns-then-knows_end-clause-grows g c = growth_none _ _ _

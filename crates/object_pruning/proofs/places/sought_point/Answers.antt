@@ -1,10 +1,24 @@
-use Rattle.std.proofs.Common.{map}
+use Rattle.std.proofs.Common.{map, ◌∙◌}
 use Rattle.geo_state.proofs.Shapes.{lo_long}
 use Rattle.sweep.proofs.PickedConditions.{mapped_picks}
-use Rattle.object_pruning.proofs.Cases.{from_none}
-use Rattle.object_pruning.proofs.Record.{drop_recorded, growth_cut}
+use Rattle.object_pruning.proofs.Cases.{from_none, from_some}
+use Rattle.object_pruning.proofs.Record.{cut_to_mark, drop_recorded, growth_cut, mark_in}
 use Rattle.derivation.proofs.Continuing.{growth_added, growth_refused, growth_on, growth_failed}
 use Rattle.object_pruning.proofs.places.sought_point.Goals as goal
+
+pub cut_back-requires : goal.cut_back-requires
+cut_back-requires g c = λ kept. let list = g.R.Recorder.list in
+    mark_in (list c.args.rec.now) (list c.first_point.new.rec) c.mark-mark.result (c.mark-mark.ensures.kept kept)
+    ((growth_on (growth_added _ c.in_ok-add.ensures.ok c.add.ensures.refusals) c.in_ok-point.ensures.grows).events kept)
+
+pub returns-in-Some-clause-point : goal.returns-in-Some-clause-point
+returns-in-Some-clause-point g c = record { place = c.requires.there; point = (from_some _ _ c.in_ok-point.field-0 c.in-Some.point c.in-Some.is c.in_ok-point.ensures.point).point }
+
+pub returns-in-Some-clause-led : goal.returns-in-Some-clause-led
+returns-in-Some-clause-led g c = λ kept. let list = g.R.Recorder.list in
+    c.cut_back.ensures.list kept
+    ∙ cut_to_mark (list c.args.rec.now) (list c.first_point.new.rec) c.mark-mark.result (c.mark-mark.ensures.kept kept)
+    ((growth_on (growth_added _ c.in_ok-add.ensures.ok c.add.ensures.refusals) c.in_ok-point.ensures.grows).events kept)
 
 pub returns-in-None-clause-led : goal.returns-in-None-clause-led
 returns-in-None-clause-led g c = λ kept.

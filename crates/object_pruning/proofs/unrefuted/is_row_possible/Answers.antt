@@ -1,29 +1,18 @@
-use Rattle.std.proofs.Common.{◌≡◌, ◌+◌, suc, length, get_or, refl, sym, ap, ◌∙◌, subst, inl, inr, arith, rules, Some, None, false}
+use Rattle.std.proofs.Common.{◌≡◌, ◌+◌, suc, length, refl, sym, ap, ◌∙◌, inl, inr, arith, Some}
 use Rattle.std.specs.Prelude.{slice_get}
 use Rattle.std.proofs.lemmas.Bool.{false≢true, cases_lt}
-use Rattle.std.proofs.lemmas.Option.{slice_get-get_or, slice_get_within}
-use Rattle.object_pruning.specs.declared.rows.Run.{Run}
-use Rattle.object_pruning.specs.Runs.{IsRun, start_at}
+use Rattle.std.proofs.lemmas.Option.{slice_get_within}
+use Rattle.object_pruning.specs.Runs.{start_at}
 use Rattle.object_pruning.proofs.RunPicks.{start_next}
 use Rattle.object_pruning.proofs.unrefuted.is_row_possible.Goals as goal
-
-pub is_run_possible-requires : goal.is_run_possible-requires
-is_run_possible-requires g c =
-    let runs = c.args.runs.now in
-    let j = c.loop-j.j in
-    let run : (d : Run) → IsRun c.args.groups.now (get_or runs j d).first (get_or runs j d) = λ d.
-    let is = c.requires.runs.each j (get_or runs j d) (slice_get-get_or runs j d c.loop-j-test.true) in
-    subst (λ n. IsRun c.args.groups.now n (get_or runs j d)) (sym is.first) is in
-    search rules
 
 pub loop-j-preserved : goal.loop-j-preserved
 loop-j-preserved g c = λ i w.
     let runs = c.args.runs.now in
     let j = c.loop-j.j in
     let after : j + 1 ≡ suc j = omega arith in
-    let default : Run = record { other = None; asks = false; first = 0; end = 0 } in
-    let run = get_or runs j default in
-    let at : slice_get runs j ≡ Some run = slice_get-get_or runs j default c.loop-j-test.true in
+    let run = c.run_at-run.result.now in
+    let at : slice_get runs j ≡ Some run = c.run_at-run.ensures.at in
     let next : start_at 0 runs (j + 1) ≡ run.end = ap (start_at 0 runs) after ∙ start_next 0 j runs run at in
     elim (cases_lt w.0 (start_at 0 runs j)) [
       | inl h ↦ c.loop-j.invariant i (w.0, w.1, w.2, h, w.4, w.5)

@@ -1,12 +1,6 @@
-use Rattle.std.proofs.Common.{◌<◌, length, map, refl, rules}
-use Rattle.std.specs.Prelude.{IfSome}
-use Rattle.object_pruning.proofs.RunPicks.{run_fits, run_free}
+use Rattle.std.proofs.Common.{map, refl}
+use Rattle.object_pruning.proofs.RunPicks.{run_free}
 use Rattle.object_pruning.proofs.unrefuted.is_run_possible.Goals as goal
-
-pub sole_place_of-sole-requires : goal.sole_place_of-sole-requires
-sole_place_of-sole-requires g c =
-    let there : IfSome c.args.run.now.other (λ u. u.0 < length c.args.s.now) = run_fits (map g.I.Indexical.cond c.args.list.now) c.args.s.now c.args.o.0 c.requires.fits c.requires.object c.args.groups.now c.requires.groups c.args.run.now c.requires.run in
-    search rules
 
 pub returns-then-is_passed_over : goal.returns-then-is_passed_over
 returns-then-is_passed_over g c = (
