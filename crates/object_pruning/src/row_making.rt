@@ -77,7 +77,6 @@ fn number_at<const K: usize>(list: &[AnyIndexical<K>], picks: &[u32], k: usize) 
     ensures some { 0 < result }
     ensures named { result - 1 < length list.now }
 {
-    let _conditions = list.len();
     picks[k]
 }
 
