@@ -2,7 +2,7 @@ use Rattle.std.proofs.Common.{◌≡◌, ◌∙◌, ℕ, Option, map, refl, sym,
 use Rattle.std.specs.Prelude.{Result, IfOk}
 use Rattle.rule_syntax.specs.Tree.{FormulaTree, formulas}
 use Rattle.rule_syntax.specs.View.{coll_view, formula_view}
-use Rattle.rule_syntax.proofs.Views.{truth-seen, falsehood-seen, negation-seen, all_of-seen, any_of-seen, implication-seen, equivalence-seen, comparison-seen, quantified-seen, formula_call-seen}
+use Rattle.rule_syntax.proofs.Views.{truth-seen, falsehood-seen, negation-seen, comparison-seen, quantified-seen, formula_call-seen}
 use Rattle.problem_data.specs.Problem.{ProblemData}
 use Rattle.rule_names.specs.declared.mistake.Mistake.{Mistake}
 use Rattle.rule_names.specs.Mistakes.{first_of}
