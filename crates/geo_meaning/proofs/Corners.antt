@@ -18,6 +18,10 @@ pub on_false : (b : Bool) (P : Type 0) → (b ≡ false → P) → OnFalse b P
 on_false true P f = tt
 on_false false P f = f refl
 
+pub on_true : (b : Bool) (P : Type 0) → (b ≡ true → P) → OnTrue b P
+on_true true P f = f refl
+on_true false P f = tt
+
 pub on_true_map : (b : Bool) (P Q : Type 0) → OnTrue b P → (P → Q) → OnTrue b Q
 on_true_map true P Q h f = f h
 on_true_map false P Q h f = tt

@@ -43,8 +43,7 @@ fn expr_needs(s: Subject, e: &PlainExpr) -> bool
         PlainExpr::Neg(e) => expr_needs(s, e),
         PlainExpr::Sum(e, steps) => expr_needs(s, e) || sums_need(s, steps),
         PlainExpr::Prod(e, steps) => expr_needs(s, e) || products_need(s, steps),
-        PlainExpr::Min(a, b) => expr_needs(s, a) || expr_needs(s, b),
-        PlainExpr::Max(a, b) => expr_needs(s, a) || expr_needs(s, b),
+        PlainExpr::Min(a, b) | PlainExpr::Max(a, b) => expr_needs(s, a) || expr_needs(s, b),
     }
 }
 
@@ -121,10 +120,8 @@ pub fn needs(s: Subject, f: &PlainFormula) -> bool
         PlainFormula::True => false,
         PlainFormula::False => false,
         PlainFormula::Not(f) => needs(s, f),
-        PlainFormula::And(fs) => some_needs(s, fs),
-        PlainFormula::Or(fs) => some_needs(s, fs),
-        PlainFormula::Implies(f, g) => needs(s, f) || needs(s, g),
-        PlainFormula::Iff(f, g) => needs(s, f) || needs(s, g),
+        PlainFormula::And(fs) | PlainFormula::Or(fs) => some_needs(s, fs),
+        PlainFormula::Implies(f, g) | PlainFormula::Iff(f, g) => needs(s, f) || needs(s, g),
         PlainFormula::Compare(a, _rel, b) => compare_needs(s, a, b),
         PlainFormula::Quant(_kind, _v, coll, f) => coll_needs(s, coll) || needs(s, f),
     }

@@ -14,7 +14,7 @@ use Rattle.problem_data.specs.Problem.{MacroData, ProblemData}
 use Rattle.problem_data.specs.ProblemView.{param_data}
 use Rattle.problem_data.specs.Value.{macro_position}
 use Rattle.problem_data.specs.Truth.{macro_of}
-use Rattle.rule_names.specs.Sight.{kind_of, kind_of_object, macro_called}
+use Rattle.rule_names.specs.Sight.{kind_of, kind_of_object, macro_before, macro_called}
 
 -- ---- a loop over parameters
 
@@ -48,20 +48,18 @@ macro-at p ms k m h e f =
     let d : MacroData = record { place = 0; name = []; params = []; body = means (falsehood 0) } in
     f ∙ get_or_default ms k m d h ∙ ap (λ l. get_or l k d) e
 
-called-at : (p : ProblemData) (statement k : ℕ) (name : List ℕ) (m : MacroData) → macro_position p name ≡ Some k → m ≡ macro_of p k → macro_called p statement name ≡ cond (nat_lt m.place statement) (Some m) None
-called-at p statement k name m e f =
-    ap (λ o. option_map_or (λ i. cond (nat_lt (macro_of p i).place statement) (Some (macro_of p i)) None) o None) e
-    ∙ ap (λ (x : MacroData). cond (nat_lt x.place statement) (Some x) None) (sym f)
+pub called-before : (p : ProblemData) (ms : List MacroData) (statement k : ℕ) (m : MacroData) → k < length ms → ms ≡ p.macros → m ≡ get_or ms k m → m.place < statement → Some m ≡ macro_before p statement k
+called-before p ms statement k m h e f l =
+    let b : nat_lt m.place statement ≡ true = grind (arith, nat_tests) in
+    sym (ap (λ (x : MacroData). cond (nat_lt x.place statement) (Some x) None) (sym (macro-at p ms k m h e f)) ∙ ap (λ b. cond b (Some m) None) b)
 
-pub called-before : (p : ProblemData) (statement k : ℕ) (name : List ℕ) (m : MacroData) → macro_position p name ≡ Some k → m ≡ macro_of p k → m.place < statement → Some m ≡ macro_called p statement name
-called-before p statement k name m e f h =
-    let g : nat_lt m.place statement ≡ true = grind (arith, nat_tests) in
-    sym (called-at p statement k name m e f ∙ ap (λ b. cond b (Some m) None) g)
+pub called-later : (p : ProblemData) (ms : List MacroData) (statement k : ℕ) (m : MacroData) → k < length ms → ms ≡ p.macros → m ≡ get_or ms k m → statement ≤ m.place → None ≡ macro_before p statement k
+called-later p ms statement k m h e f l =
+    let b : nat_lt m.place statement ≡ false = grind (arith, nat_tests) in
+    sym (ap (λ (x : MacroData). cond (nat_lt x.place statement) (Some x) None) (sym (macro-at p ms k m h e f)) ∙ ap (λ b. cond b (Some m) None) b)
 
-pub called-later : (p : ProblemData) (statement k : ℕ) (name : List ℕ) (m : MacroData) → macro_position p name ≡ Some k → m ≡ macro_of p k → statement ≤ m.place → None ≡ macro_called p statement name
-called-later p statement k name m e f h =
-    let g : nat_lt m.place statement ≡ false = grind (arith, nat_tests) in
-    sym (called-at p statement k name m e f ∙ ap (λ b. cond b (Some m) None) g)
+pub called-some : (p : ProblemData) (statement k : ℕ) (name : List ℕ) → macro_position p name ≡ Some k → macro_before p statement k ≡ macro_called p statement name
+called-some p statement k name e = sym (ap (λ o. option_map_or (macro_before p statement) o None) e)
 
 pub called-none : (p : ProblemData) (statement : ℕ) (name : List ℕ) → macro_position p name ≡ None → None ≡ macro_called p statement name
-called-none p statement name e = sym (ap (λ o. option_map_or (λ i. cond (nat_lt (macro_of p i).place statement) (Some (macro_of p i)) None) o None) e)
+called-none p statement name e = sym (ap (λ o. option_map_or (macro_before p statement) o None) e)

@@ -35,9 +35,13 @@ same_kind kinds.Box kinds.Int = false
 same_kind kinds.Box kinds.Object = false
 same_kind kinds.Box kinds.Box = true
 
+-- the macro at this position, where its name stands before the name of the statement that calls it
+abbrev pub macro_before : ProblemData → ℕ → ℕ → Option MacroData
+macro_before p statement k = if nat_lt (macro_of p k).place statement then Some (macro_of p k) else None
+
 -- the macro of this name, where its own name stands before the name of the statement that calls it
 abbrev pub macro_called : ProblemData → ℕ → List ℕ → Option MacroData
-macro_called p statement name = option_map_or (λ k. if nat_lt (macro_of p k).place statement then Some (macro_of p k) else None) (macro_position p name) None
+macro_called p statement name = option_map_or (macro_before p statement) (macro_position p name) None
 
 -- ---- fields
 

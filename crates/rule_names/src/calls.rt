@@ -1,13 +1,14 @@
 //! Calls of macros: whether the macro is made before, and what it is given.
 
-ghost use Rattle.std.specs.Prelude.{◌≡◌, map};
+ghost use Rattle.std.specs.Prelude.{◌≡◌, ◌<◌, length, map};
 ghost use Rattle.std.specs.Option.{option_map};
 ghost use Rattle.rule_syntax.specs.Tree.{arguments};
 ghost use Rattle.rule_syntax.specs.View.{expr_view, argument_view};
 ghost use Rattle.problem_data.specs.ProblemView.{param_data};
+ghost use Rattle.problem_data.specs.Value.{macro_position};
 ghost use Rattle.problem_data.specs.View.{body_view};
 ghost use Rattle.rule_names.specs.Mistakes.{first_of};
-ghost use Rattle.rule_names.specs.Sight.{macro_called};
+ghost use Rattle.rule_names.specs.Sight.{macro_before, macro_called};
 ghost use Rattle.rule_names.specs.ScopeView.{scope_view};
 ghost use Rattle.rule_names.specs.Names.{kind_given, passed_mistakes, all_passed, is_formula, differs, call_of_macro, call_mistakes};
 ghost use Rattle.rule_names.specs.Table.{AreTables};
@@ -100,6 +101,28 @@ fn differs(a: bool, b: bool) -> bool
     if a { !b } else { b }
 }
 
+/// The position of the macro of this name.
+fn macro_index(_problem: &Problem, tables: &Tables, name: &Name) -> Option<usize>
+    requires { AreTables _problem.now tables.now }
+    ensures { result ≡ macro_position _problem.now name.now }
+{
+    position_of(&tables.macros, name.as_bytes())
+}
+
+/// The macro at this position, where it is made before a statement whose name stands at this place.
+fn macro_before<'a>(problem: &'a Problem, position: usize, statement: u64) -> Option<&'a MacroDef>
+    requires { position < length problem.now.macros }
+    ensures { option_map (λ d. d.now) result ≡ macro_before problem.now statement position }
+{
+    let macros = problem.macros();
+    let called = &macros[position];
+    if called.place() < statement {
+        Some(called)
+    } else {
+        None
+    }
+}
+
 /// The macro of this name, where it is made before a statement whose name stands at this place.
 fn macro_called<'a>(
     problem: &'a Problem,
@@ -110,16 +133,8 @@ fn macro_called<'a>(
     requires { AreTables problem.now tables.now }
     ensures { option_map (λ d. d.now) result ≡ macro_called problem.now statement name.now }
 {
-    match position_of(&tables.macros, name.as_bytes()) {
-        Some(position) => {
-            let macros = problem.macros();
-            let called = &macros[position];
-            if called.place() < statement {
-                Some(called)
-            } else {
-                None
-            }
-        }
+    match macro_index(problem, tables, name) {
+        Some(position) => macro_before(problem, position, statement),
         None => None,
     }
 }

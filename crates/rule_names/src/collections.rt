@@ -46,7 +46,7 @@ fn listed_mistake(
     requires { AreTables problem.now tables.now }
     ensures { IfOk result (λ o. o ≡ first_of (listed_mistakes problem.now [] names.now)) }
 {
-    let mut seen = SeenNames::new(alloc);
+    let mut seen = Box::new(alloc, SeenNames::new(alloc))?;
     let mut found = None;
     'names: for name in names {
         let is_new = seen.meet(name.name.as_bytes())?;

@@ -47,12 +47,7 @@ pub fn expr_mistake(
             let others = products_mistake(problem, tables, statement, scope, steps.as_slice());
             earlier(one, others)
         }
-        Expr::Min(_, first, second) => {
-            let one = expr_mistake(problem, tables, statement, scope, false, first);
-            let other = expr_mistake(problem, tables, statement, scope, false, second);
-            earlier(one, other)
-        }
-        Expr::Max(_, first, second) => {
+        Expr::Min(_, first, second) | Expr::Max(_, first, second) => {
             let one = expr_mistake(problem, tables, statement, scope, false, first);
             let other = expr_mistake(problem, tables, statement, scope, false, second);
             earlier(one, other)

@@ -59,18 +59,10 @@ pub fn formula_mistake(
         Formula::Not(_, inner) => {
             formula_mistake(alloc, problem, tables, statement, &*scope, inner)
         }
-        Formula::And(_, parts) => {
+        Formula::And(_, parts) | Formula::Or(_, parts) => {
             formulas_mistake(alloc, problem, tables, statement, &*scope, parts.as_slice())
         }
-        Formula::Or(_, parts) => {
-            formulas_mistake(alloc, problem, tables, statement, &*scope, parts.as_slice())
-        }
-        Formula::Implies(_, first, second) => {
-            let one = formula_mistake(alloc, problem, tables, statement, &*scope, first)?;
-            let other = formula_mistake(alloc, problem, tables, statement, &*scope, second)?;
-            Ok(earlier(one, other))
-        }
-        Formula::Iff(_, first, second) => {
+        Formula::Implies(_, first, second) | Formula::Iff(_, first, second) => {
             let one = formula_mistake(alloc, problem, tables, statement, &*scope, first)?;
             let other = formula_mistake(alloc, problem, tables, statement, &*scope, second)?;
             Ok(earlier(one, other))

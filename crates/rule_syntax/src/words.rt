@@ -8,7 +8,7 @@ ghost use Rattle.geo_tokens.specs.Gives.{Gives};
 ghost use Rattle.geo_tokens.specs.declared.token.Keyword.TheVariants as keywords;
 ghost use Rattle.geo_tokens.specs.declared.token.Sym.TheVariants as syms;
 ghost use Rattle.rule_syntax.specs.Marks.{words, symbols, product_marks, factor_firsts};
-ghost use Rattle.rule_syntax.specs.Grammar.{extreme_in};
+ghost use Rattle.rule_syntax.specs.Grammar.{division_in, extreme_in};
 ghost use Rattle.rule_syntax.specs.Reading.{named_at, number_at, field_at, variable_at, shape_number_at, value_call_at, extreme_at, division_at, factor_over_at};
 ghost use Rattle.rule_syntax.specs.View.{expr_view, product_view, argument_views};
 
@@ -176,6 +176,16 @@ pub fn flat_factor<'a>(
     }
 }
 
+/// A division by a number, or what is left behind it.
+fn division_of(mark: Kind, place: u64, by: u32) -> ProdStep
+    ensures { product_view result ≡ division_in mark place by }
+{
+    match mark {
+        Kind::Word(Keyword::Div) => ProdStep::Div(place, by),
+        _ => ProdStep::Mod(place, by),
+    }
+}
+
 /// The word `div` or `mod` and a number.
 pub fn division(tokens: &[Token]) -> Result<(ProdStep, &[Token]), Stop<'_>>
     ensures { Gives product_view result (division_at tokens.now) }
@@ -185,12 +195,8 @@ pub fn division(tokens: &[Token]) -> Result<(ProdStep, &[Token]), Stop<'_>>
         &[Kind::Word(Keyword::Div), Kind::Word(Keyword::Mod)],
     )?;
     let (number, rest) = token(rest, Kind::Number(0))?;
-    let value = number_in(number.kind);
-    let step = match word.kind {
-        Kind::Word(Keyword::Div) => ProdStep::Div(number.start, value),
-        _ => ProdStep::Mod(number.start, value),
-    };
-    Ok((step, rest))
+    let by = number_in(number.kind);
+    Ok((division_of(word.kind, number.start, by), rest))
 }
 
 /// A product goes on here.

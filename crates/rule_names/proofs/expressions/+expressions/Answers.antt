@@ -1,7 +1,7 @@
 use Rattle.std.proofs.Common.{◌≡◌, ◌∙◌, ℕ, Bool, false, Option, map, refl, sym, ap}
 use Rattle.rule_syntax.specs.Tree.{ExprTree, sums, products, arguments}
 use Rattle.rule_syntax.specs.View.{expr_view, sum_view, product_view, argument_view}
-use Rattle.rule_syntax.proofs.Views.{num-seen, field-seen, param-seen, shape-seen, negative-seen, sum-seen, product-seen, least-seen, greatest-seen, call-seen}
+use Rattle.rule_syntax.proofs.Views.{num-seen, field-seen, param-seen, shape-seen, negative-seen, sum-seen, product-seen, call-seen}
 use Rattle.problem_data.specs.Problem.{ProblemData}
 use Rattle.rule_names.specs.declared.mistake.Mistake.{Mistake}
 use Rattle.rule_names.specs.Mistakes.{first_of}
@@ -106,22 +106,6 @@ expr_mistake-returns-in-Prod t c =
     let s = scope_view c.args.scope.now in
     given-as p n s c.args.any_kind c.earlier-in-Prod.result (product-seen c.in-Prod.field-0 c.in-Prod.first c.in-Prod.steps c.in-Prod.is c.deref-in-Prod.ensures c.as_slice-in-Prod.ensures.value)
     (c.earlier-in-Prod.ensures.lists (expr_mistakes p n s false (expr_view c.deref-in-Prod.result.now)) (products_mistakes p n s (products (map product_view c.as_slice-in-Prod.result.now))) c.expr_mistake-one-in-Prod.ensures c.products_mistake-others.ensures)
-
-pub expr_mistake-returns-in-Min : goal.expr_mistake-returns-in-Min
-expr_mistake-returns-in-Min t c =
-    let p = c.args.problem.now in
-    let n = c.args.statement in
-    let s = scope_view c.args.scope.now in
-    given-as p n s c.args.any_kind c.earlier-in-Min.result (least-seen c.in-Min.field-0 c.in-Min.first c.in-Min.second c.in-Min.is c.deref-in-Min.ensures c.deref-in-Min-2.ensures)
-    (c.earlier-in-Min.ensures.lists (expr_mistakes p n s false (expr_view c.deref-in-Min.result.now)) (expr_mistakes p n s false (expr_view c.deref-in-Min-2.result.now)) c.expr_mistake-one-in-Min.ensures c.expr_mistake-other.ensures)
-
-pub expr_mistake-returns-in-Max : goal.expr_mistake-returns-in-Max
-expr_mistake-returns-in-Max t c =
-    let p = c.args.problem.now in
-    let n = c.args.statement in
-    let s = scope_view c.args.scope.now in
-    given-as p n s c.args.any_kind c.earlier-in-Max.result (greatest-seen c.in-Max.field-0 c.in-Max.first c.in-Max.second c.in-Max.is c.deref-in-Max.ensures c.deref-in-Max-2.ensures)
-    (c.earlier-in-Max.ensures.lists (expr_mistakes p n s false (expr_view c.deref-in-Max.result.now)) (expr_mistakes p n s false (expr_view c.deref-in-Max-2.result.now)) c.expr_mistake-one-in-Max.ensures c.expr_mistake-other-in-Max.ensures)
 
 pub expr_mistake-returns-in-CallValue : goal.expr_mistake-returns-in-CallValue
 expr_mistake-returns-in-CallValue t c =

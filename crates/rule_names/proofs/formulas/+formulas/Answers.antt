@@ -2,7 +2,7 @@ use Rattle.std.proofs.Common.{◌≡◌, ◌∙◌, ℕ, Option, map, refl, sym,
 use Rattle.std.specs.Prelude.{Result, IfOk}
 use Rattle.rule_syntax.specs.Tree.{FormulaTree, formulas}
 use Rattle.rule_syntax.specs.View.{coll_view, formula_view}
-use Rattle.rule_syntax.proofs.Views.{truth-seen, falsehood-seen, negation-seen, all_of-seen, any_of-seen, implication-seen, equivalence-seen, comparison-seen, quantified-seen, formula_call-seen}
+use Rattle.rule_syntax.proofs.Views.{truth-seen, falsehood-seen, negation-seen, comparison-seen, quantified-seen, formula_call-seen}
 use Rattle.problem_data.specs.Problem.{ProblemData}
 use Rattle.rule_names.specs.declared.mistake.Mistake.{Mistake}
 use Rattle.rule_names.specs.Mistakes.{first_of}
@@ -41,12 +41,6 @@ formula_mistake-returns-in-False t c = given-as c.args.problem.now c.args.statem
 pub formula_mistake-returns-in-Not : goal.formula_mistake-returns-in-Not
 formula_mistake-returns-in-Not t c = answered-as c.args.problem.now c.args.statement (scope_view c.args.scope.now) c.formula_mistake.result (negation-seen c.in-Not.field-0 c.in-Not.inner c.in-Not.is c.deref.ensures) c.formula_mistake.ensures
 
-pub formula_mistake-returns-in-And : goal.formula_mistake-returns-in-And
-formula_mistake-returns-in-And t c = answered-as c.args.problem.now c.args.statement (scope_view c.args.scope.now) c.formulas_mistake.result (all_of-seen c.in-And.field-0 c.in-And.parts c.in-And.is c.as_slice.ensures.value) c.formulas_mistake.ensures
-
-pub formula_mistake-returns-in-Or : goal.formula_mistake-returns-in-Or
-formula_mistake-returns-in-Or t c = answered-as c.args.problem.now c.args.statement (scope_view c.args.scope.now) c.formulas_mistake-in-Or.result (any_of-seen c.in-Or.field-0 c.in-Or.parts c.in-Or.is c.as_slice-in-Or.ensures.value) c.formulas_mistake-in-Or.ensures
-
 pub formula_mistake-returns-in-Compare : goal.formula_mistake-returns-in-Compare
 formula_mistake-returns-in-Compare t c = given-as c.args.problem.now c.args.statement (scope_view c.args.scope.now) c.comparison_mistake.result (comparison-seen c.in-Compare.field-0 c.in-Compare.left c.in-Compare.field-2 c.in-Compare.right c.in-Compare.is) c.comparison_mistake.ensures
 
@@ -54,20 +48,4 @@ pub formula_mistake-returns-in-Quant : goal.formula_mistake-returns-in-Quant
 formula_mistake-returns-in-Quant t c = answered-as c.args.problem.now c.args.statement (scope_view c.args.scope.now) c.quantified_mistake.result (quantified-seen c.in-Quant.field-0 c.in-Quant.field-1 c.in-Quant.v c.in-Quant.coll c.in-Quant.body c.in-Quant.is c.deref-in-Quant.ensures) c.quantified_mistake.ensures
 
 pub formula_mistake-returns-in-Call : goal.formula_mistake-returns-in-Call
-formula_mistake-returns-in-Call t c = given-as c.args.problem.now c.args.statement (scope_view c.args.scope.now) c.whole_call_mistake.result (formula_call-seen c.in-Call.place c.in-Call.name c.in-Call.given c.in-Call.is c.as_slice-in-Call.ensures.value) c.whole_call_mistake.ensures
-
-pub formula_mistake-returns-in_ok-other-in-Implies : goal.formula_mistake-returns-in_ok-other-in-Implies
-formula_mistake-returns-in_ok-other-in-Implies t c =
-    let p = c.args.problem.now in
-    let n = c.args.statement in
-    let s = scope_view c.args.scope.now in
-    given-as p n s c.earlier.result (implication-seen c.in-Implies.field-0 c.in-Implies.first c.in-Implies.second c.in-Implies.is c.deref-in-Implies.ensures c.deref-in-Implies-2.ensures)
-    (c.earlier.ensures.lists (formula_mistakes p n s (formula_view c.deref-in-Implies.result.now)) (formula_mistakes p n s (formula_view c.deref-in-Implies-2.result.now)) c.in_ok-one-in-Implies.ensures c.in_ok-other-in-Implies.ensures)
-
-pub formula_mistake-returns-in_ok-other-in-Iff : goal.formula_mistake-returns-in_ok-other-in-Iff
-formula_mistake-returns-in_ok-other-in-Iff t c =
-    let p = c.args.problem.now in
-    let n = c.args.statement in
-    let s = scope_view c.args.scope.now in
-    given-as p n s c.earlier-in-Iff.result (equivalence-seen c.in-Iff.field-0 c.in-Iff.first c.in-Iff.second c.in-Iff.is c.deref-in-Iff.ensures c.deref-in-Iff-2.ensures)
-    (c.earlier-in-Iff.ensures.lists (formula_mistakes p n s (formula_view c.deref-in-Iff.result.now)) (formula_mistakes p n s (formula_view c.deref-in-Iff-2.result.now)) c.in_ok-one-in-Iff.ensures c.in_ok-other-in-Iff.ensures)
+formula_mistake-returns-in-Call t c = given-as c.args.problem.now c.args.statement (scope_view c.args.scope.now) c.whole_call_mistake.result (formula_call-seen c.in-Call.place c.in-Call.name c.in-Call.given c.in-Call.is c.as_slice.ensures.value) c.whole_call_mistake.ensures
