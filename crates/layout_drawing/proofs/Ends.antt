@@ -24,6 +24,10 @@ low_at ss i s is lt = get_or-map (λ (x : Span). x.low) ss i s (pos 0) lt ∙ ap
 pub high_at : (ss : List Span) (i : ℕ) (s : Span) → s ≡ get_or ss i s → i < length ss → coordinate (highs ss) i ≡ s.high
 high_at ss i s is lt = get_or-map (λ (x : Span). x.high) ss i s (pos 0) lt ∙ ap (λ (x : Span). x.high) (sym is)
 
+-- the ends of a block where that span stands
+pub ends_at : (b : Block) (i : ℕ) (s : Span) → s ≡ get_or b.spans.items i s → i < length b.spans.items → (low_of b i ≡ s.low) × (high_of b i ≡ s.high)
+ends_at b i s is lt = (low_at b.spans.items i s is lt, high_at b.spans.items i s is lt)
+
 -- the span that stands at a place
 pub span_there : (ss : List Span) (i : ℕ) → i < length ss → (s : Span) × (s ≡ get_or ss i s)
 span_there [] i lt = absurd (omega arith)

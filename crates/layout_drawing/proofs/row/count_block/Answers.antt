@@ -3,7 +3,7 @@ use Rattle.std.proofs.lemmas.Int.{ints}
 use Rattle.layout_drawing.specs.declared.blocks.Block.{Block}
 use Rattle.layout_drawing.specs.declared.span.Span.{Span}
 use Rattle.layout_drawing.specs.Blocks.{high_of, low_of}
-use Rattle.layout_drawing.proofs.Ends.{high_at, low_at}
+use Rattle.layout_drawing.proofs.Ends.{ends_at, high_at, low_at}
 use Rattle.layout_drawing.proofs.Painted.{counted, passed_by}
 use Rattle.layout_drawing.proofs.row.count_block.Goals as goal
 
@@ -25,59 +25,27 @@ returns c =
 -- the ends of the block's span lie in the row's
 pub place_of-first-requires-clause-from : goal.place_of-first-requires-clause-from
 place_of-first-requires-clause-from c =
-    let b : Block = c.args.block.now in
     let part : Span = c.index-part.result.now in
-    let some : 0 < length b.spans.items = (let e = c.requires.dims in omega arith) in
-    let from = part.from in
-    let to = part.to in
-    let filled = part.filled in
-    let low : low_of b 0 ≡ part.low = low_at b.spans.items 0 part c.index-part.ensures some in
-    let high : high_of b 0 ≡ part.high = high_at b.spans.items 0 part c.index-part.ensures some in
-    let begin = c.requires.from in
-    let end = c.requires.to in
-    omega (arith, ints)
+    let ends = ends_at c.args.block.now 0 part c.index-part.ensures (omega (arith, c.requires.dims)) in
+    omega (arith, ints, ends.0, ends.1, part.from, part.to, part.filled, c.requires.from, c.requires.to)
 
 pub place_of-first-requires-clause-to : goal.place_of-first-requires-clause-to
 place_of-first-requires-clause-to c =
-    let b : Block = c.args.block.now in
     let part : Span = c.index-part.result.now in
-    let some : 0 < length b.spans.items = (let e = c.requires.dims in omega arith) in
-    let from = part.from in
-    let to = part.to in
-    let filled = part.filled in
-    let low : low_of b 0 ≡ part.low = low_at b.spans.items 0 part c.index-part.ensures some in
-    let high : high_of b 0 ≡ part.high = high_at b.spans.items 0 part c.index-part.ensures some in
-    let begin = c.requires.from in
-    let end = c.requires.to in
-    omega (arith, ints)
+    let ends = ends_at c.args.block.now 0 part c.index-part.ensures (omega (arith, c.requires.dims)) in
+    omega (arith, ints, ends.0, ends.1, part.from, part.to, part.filled, c.requires.from, c.requires.to)
 
 pub place_of-last-requires-clause-from : goal.place_of-last-requires-clause-from
 place_of-last-requires-clause-from c =
-    let b : Block = c.args.block.now in
     let part : Span = c.index-part.result.now in
-    let some : 0 < length b.spans.items = (let e = c.requires.dims in omega arith) in
-    let from = part.from in
-    let to = part.to in
-    let filled = part.filled in
-    let low : low_of b 0 ≡ part.low = low_at b.spans.items 0 part c.index-part.ensures some in
-    let high : high_of b 0 ≡ part.high = high_at b.spans.items 0 part c.index-part.ensures some in
-    let begin = c.requires.from in
-    let end = c.requires.to in
-    omega (arith, ints)
+    let ends = ends_at c.args.block.now 0 part c.index-part.ensures (omega (arith, c.requires.dims)) in
+    omega (arith, ints, ends.0, ends.1, part.from, part.to, part.filled, c.requires.from, c.requires.to)
 
 pub place_of-last-requires-clause-to : goal.place_of-last-requires-clause-to
 place_of-last-requires-clause-to c =
-    let b : Block = c.args.block.now in
     let part : Span = c.index-part.result.now in
-    let some : 0 < length b.spans.items = (let e = c.requires.dims in omega arith) in
-    let from = part.from in
-    let to = part.to in
-    let filled = part.filled in
-    let low : low_of b 0 ≡ part.low = low_at b.spans.items 0 part c.index-part.ensures some in
-    let high : high_of b 0 ≡ part.high = high_at b.spans.items 0 part c.index-part.ensures some in
-    let begin = c.requires.from in
-    let end = c.requires.to in
-    omega (arith, ints)
+    let ends = ends_at c.args.block.now 0 part c.index-part.ensures (omega (arith, c.requires.dims)) in
+    omega (arith, ints, ends.0, ends.1, part.from, part.to, part.filled, c.requires.from, c.requires.to)
 
 pub returns-then-not-reaches : goal.returns-then-not-reaches
 returns-then-not-reaches c =
