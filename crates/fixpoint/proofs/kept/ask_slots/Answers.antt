@@ -26,3 +26,6 @@ loop-i-preserved g c =
 
 pub returns : goal.returns
 returns g c = λ marks. those_slots (map (λ (x : AnyIndexical g.row.K). x.cond) c.args.list.now) c.args.s.now c.args.o.0 marks (IsInGroup c.args.group.now) c.loop-i.i c.args.kept.now c.loop-i.kept (omega (arith, c.loop-i-test.false, c.loop-i.auto.kept)) c.loop-i.invariant.0
+
+pub ask_slot-requires : goal.ask_slot-requires
+ask_slot-requires g c = (omega arith, (omega arith, (omega arith, (c.requires.k, (c.requires.fits, (c.requires.object, (c.requires.group, c.loop-i.invariant.1)))))))

@@ -1,4 +1,4 @@
-use Rattle.std.proofs.Common.{◌≡◌, ◌<◌, Bool, List, Option, map, length, get_or, ap, sym, ◌∙◌, subst, arith, rules, Vec, Global, false}
+use Rattle.std.proofs.Common.{◌≡◌, ◌<◌, Bool, List, Option, map, length, get_or, ap, sym, ◌∙◌, subst, arith, Vec, Global, false}
 use Rattle.std.proofs.lemmas.List.{with_items_is}
 use Rattle.std.specs.Vec.{with_items}
 use Rattle.indexical.specs.declared.any.AnyIndexical.{AnyIndexical}
@@ -25,7 +25,7 @@ ask_again-requires g c =
     let stand : StandBut cs S o c.deref.result.now c.deref_mut.result.now =
     subst (λ (ms : List Bool). StandBut cs S o ms c.deref_mut.result.now) (sym noted) (subst (λ (v : List (Option (Placed g.row.K))). StandBut cs S o (row marks o) v) (sym slots) (c.requires.stand o object.0)) in
     let there : (o < length S) × (length c.deref.result.now ≡ length S) = (object.0, ap length noted ∙ c.requires.square.each o object.0) in
-    search rules
+    (omega arith, (omega arith, (omega arith, (c.requires.k, (c.requires.fits, (c.requires.links, (there, (c.requires.watched, stand))))))))
 
 pub returns-clause-kept : goal.returns-clause-kept
 returns-clause-kept g c =

@@ -1,4 +1,4 @@
-use Rattle.std.proofs.Common.{◌≡◌, ◌+◌, ◌<◌, map, inl, inr, arith, rules}
+use Rattle.std.proofs.Common.{◌≡◌, ◌+◌, ◌<◌, map, ◌∙◌, inl, inr, arith}
 use Rattle.std.proofs.lemmas.Bool.{cases_eq}
 use Rattle.indexical.specs.declared.any.AnyIndexical.{AnyIndexical}
 use Rattle.object_pruning.specs.InRows.{IsInGroup}
@@ -13,7 +13,7 @@ loop-i-init g c =
 pub retry_number-requires : goal.retry_number-requires
 retry_number-requires g c =
     let number = c.requires.numbers c.loop-i.i (omega arith, omega arith) in
-    search rules
+    (omega arith, (omega arith, (omega arith, (c.requires.k, (c.requires.fits, (c.requires.links, (c.requires.object, (number, c.loop-i.auto.watched ∙ c.requires.watched))))))))
 
 pub loop-i-preserved : goal.loop-i-preserved
 loop-i-preserved g c =

@@ -1,4 +1,4 @@
-use Rattle.std.proofs.Common.{◌≡◌, ◌<◌, ◌-◌, length, map, get_or, ap, sym, ◌∙◌, subst, arith, rules, Vec, Global}
+use Rattle.std.proofs.Common.{◌≡◌, ◌<◌, ◌-◌, length, map, get_or, ap, sym, ◌∙◌, subst, arith, Vec, Global}
 use Rattle.std.proofs.lemmas.List.{length-map, get_or-map}
 use Rattle.geo_conditions.specs.declared.cond.Cond.{Cond}
 use Rattle.geo_conditions.specs.declared.object.ObjId.{ObjId}
@@ -27,7 +27,7 @@ retry_marked-requires g c =
     let fits : FitsIn x.cond S = subst (λ (y : Cond). FitsIn y S) (at x.cond) (c.requires.fits i x.cond (omega (arith, m, n))) in
     let named : NamedBy x.cond (length S) c.deref.result.now = subst (λ (y : Cond). NamedBy y (length S) c.deref.result.now) (at x.cond) (subst (NamedBy (get_or cs i x.cond) (length S)) (sym q) (a.named i x.cond (omega (arith, m, n)))) in
     let marks : length c.args.marks.now ≡ length S = c.requires.object.1 in
-    search rules
+    (omega arith, (omega arith, (omega arith, (c.requires.k, (fits, (c.requires.object.0, (marks, named)))))))
 
 pub returns : goal.returns
 returns g c =

@@ -61,3 +61,12 @@ returns-then-refuted-clause-first g c = λ k x p l. elim (cases_lt k c.loop-pick
 
 pub returns-clause-found : goal.returns-clause-found
 returns-clause-found g c = picked_all (λ x. possible x c.args.s.now ≡ true) _ c.args.picks.now (λ k x p. c.loop-pick.invariant k x (omega (arith, p.0, c.loop-pick-test.false)) p)
+
+pub loop-pick-init : goal.loop-pick-init
+loop-pick-init g c = λ k x h p. absurd (omega arith)
+
+pub overflow_sub-pick : goal.overflow_sub-pick
+overflow_sub-pick g c = let b = (c.requires.picks c.loop-pick.pick-index 0 c.loop-pick-test.true).0 in omega (arith, b)
+
+pub bounds-list-pick : goal.bounds-list-pick
+bounds-list-pick g c = let b = (c.requires.picks c.loop-pick.pick-index 0 c.loop-pick-test.true).1 in omega (arith, b)

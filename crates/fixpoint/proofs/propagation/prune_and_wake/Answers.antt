@@ -27,7 +27,7 @@ refresh-requires g c =
     let object : (c.args.o < length X) × (length c.args.kept.now ≡ length X) = (omega (arith, r.0, same), r.1 ∙ same) in
     let square : IsSquare (length X) c.args.dirty.now = subst (λ (n : ℕ). IsSquare n c.args.dirty.now) same c.requires.square in
     let stand : AllStand cs X c.args.dirty.now c.args.kept.now = subst (λ (Y : State). AllStand cs Y c.args.dirty.now c.args.kept.now) value c.requires.stand in
-    search rules
+    (omega arith, (omega arith, (omega arith, (c.requires.k.1, (fits, (links, (object, (square, (c.requires.watched, stand)))))))))
 
 pub prune_linked-pruned-requires : goal.prune_linked-pruned-requires
 prune_linked-pruned-requires g c =
@@ -54,7 +54,7 @@ wake-requires g c =
     let links : AreLinks cs (length q) c.args.links.now = subst (λ (n : ℕ). AreLinks cs n c.args.links.now) (sym r.2) c.requires.links in
     let object : (c.args.o < length q) × (length q ≡ length X) = (omega (arith, r.0, r.2), r.2 ∙ alone.0.objects ∙ ap length (sym value)) in
     let square : IsSquare (length q) marks = subst (λ (n : ℕ). IsSquare n marks) (ap length c.state.ensures.value ∙ sym r.2) c.refresh.ensures.square in
-    search rules
+    (omega arith, (omega arith, (c.requires.k.1, (fits, (links, (object, square))))))
 
 pub returns-in-Ok-Same-clause-stand : goal.returns-in-Ok-Same-clause-stand
 returns-in-Ok-Same-clause-stand g c =

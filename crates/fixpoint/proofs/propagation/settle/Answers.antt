@@ -40,7 +40,7 @@ first_refuted-requires g c =
     let fits : AllFit cs X = subst (AllFit cs) (sym c.state.ensures.value) c.requires.fits in
     let picks : ArePicks (length c.args.list.now) without = subst (λ (n : ℕ). ArePicks n without) (length-map c.args.list.now f) those.within in
     let rising : AllPairs (λ i j. i < j) without = those.rising in
-    search rules
+    (omega arith, (omega arith, (c.requires.k.1, (fits, (picks, rising)))))
 
 -- as many objects are left as there were
 settled_objects : {E : Type 0} (cs : List Cond) (S T : State) (r : Result Settled E) → SettlesOr cs S r T → length T ≡ length S

@@ -1,5 +1,5 @@
-use Rattle.std.proofs.Common.{◌≡◌, ◌<◌, ◌+◌, ◌-◌, length, map, get_or, ap, sym, ◌∙◌, subst, inl, inr, arith, rules}
-use Rattle.std.proofs.lemmas.Bool.{cases_eq}
+use Rattle.std.proofs.Common.{◌≡◌, ◌<◌, ◌+◌, ◌-◌, length, map, get_or, ap, sym, ◌∙◌, subst, inl, inr, arith}
+use Rattle.std.proofs.lemmas.Bool.{cases_eq, false≢true}
 use Rattle.std.proofs.lemmas.List.{length-map, get_or-map}
 use Rattle.geo_conditions.specs.declared.cond.Cond.{Cond}
 use Rattle.geo_conditions.specs.Conditions.{FitsIn}
@@ -24,7 +24,7 @@ surely_leaves_free-requires g c =
     let x = c.index-list-i.result in
     let at : (d : Cond) → get_or cs i d ≡ x.cond = λ d. get_or-map f c.args.list.now i x d m ∙ ap f (sym c.index-list-i.is) in
     let fits : FitsIn x.cond S = subst (λ (y : Cond). FitsIn y S) (at x.cond) (c.requires.fits i x.cond (omega (arith, m, n))) in
-    search rules
+    (omega arith, (omega arith, fits))
 
 pub loop-i-preserved : goal.loop-i-preserved
 loop-i-preserved g c = λ o ne.
@@ -42,3 +42,12 @@ loop-i-preserved g c = λ o ne.
 
 pub returns : goal.returns
 returns g c = λ test o ne i x b e. c.loop-i.invariant o ne i x (b, omega (arith, b.1, c.loop-i-test.false)) e
+
+pub overflow_sub-i : goal.overflow_sub-i
+overflow_sub-i g c = let b = (c.requires.numbers c.loop-i.i (omega arith, omega arith)).0 in omega (arith, b)
+
+pub bounds-list-i : goal.bounds-list-i
+bounds-list-i g c = (c.requires.numbers c.loop-i.i (omega arith, omega arith)).1
+
+pub returns-then-not-surely_leaves_free : goal.returns-then-not-surely_leaves_free
+returns-then-not-surely_leaves_free g c = λ test. absurd (false≢true (sym test))

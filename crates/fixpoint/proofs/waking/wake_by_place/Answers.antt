@@ -1,4 +1,4 @@
-use Rattle.std.proofs.Common.{◌≡◌, ◌⊎◌, ◌<◌, ℕ, None, Option, Some, List, length, map, true, false, inl, inr, sym, ap, ◌∙◌, subst, arith, rules}
+use Rattle.std.proofs.Common.{◌≡◌, ◌⊎◌, ◌<◌, ℕ, None, Option, Some, List, length, map, true, false, inl, inr, sym, ap, ◌∙◌, subst, arith}
 use Rattle.std.specs.Prelude.{slice_get}
 use Rattle.std.proofs.lemmas.Bool.{cases_eq, false_from_ne_true}
 use Rattle.std.proofs.lemmas.Option.{same_Some}
@@ -22,7 +22,7 @@ wake_row-requires g c =
     let there : u < length S = omega (arith, c.requires.object.0, c.requires.object.1) in
     let a = c.requires.rows in
     let some : (k : ℕ) (h : Group) → slice_get c.row-groups.result.now k ≡ Some h → IsSomeGroup cs u h = rows_some cs S u c.requires.fits there a.0 c.args.rows.now a.2 a.1 c.from.result c.row-groups.result.now c.row-groups.ensures in
-    search rules
+    (omega arith, (omega arith, (c.requires.fits, (c.requires.links, (some, (c.requires.object, c.requires.square))))))
 
 none : (r : ℕ) → let n : Option ℕ = None in n ≡ Some r → ⊥
 none r e = cc
@@ -68,3 +68,9 @@ pub returns-in_default-clause-marked : goal.returns-in_default-clause-marked
 returns-in_default-clause-marked g c =
     let there : c.args.u.0 < length c.args.s.now = omega (arith, c.requires.object.0, c.requires.object.1) in
     marks_none _ c.args.u.0 c.args.dirty.now (λ o ne h. free_by_place _ c.args.s.now o c.args.u.0 c.args.rows.now c.requires.fits there ne c.requires.rows (by_none _ c.args.s.now c.args.u.0 c.args.rows.now o c.in_default.ensures))
+
+pub returns-in-Some-clause-square : goal.returns-in-Some-clause-square
+returns-in-Some-clause-square g c = c.wake_row.ensures.square
+
+pub returns-in_default-clause-square : goal.returns-in_default-clause-square
+returns-in_default-clause-square g c = c.requires.square

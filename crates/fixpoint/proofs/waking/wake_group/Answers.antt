@@ -1,4 +1,4 @@
-use Rattle.std.proofs.Common.{◌≡◌, ◌<◌, ◌-◌, ℕ, length, map, subst, arith, rules, Option, Some}
+use Rattle.std.proofs.Common.{◌≡◌, ◌<◌, ◌-◌, ℕ, length, map, subst, arith, Option, Some}
 use Rattle.std.specs.Prelude.{IfSome, slice_get}
 use Rattle.std.proofs.lemmas.List.{length-map}
 use Rattle.geo_conditions.specs.declared.cond.Cond.{Cond}
@@ -24,7 +24,7 @@ wake_one-requires g c =
     let there : v.0 < length c.args.queued.now = omega (arith, other, c.requires.object.1) in
     let numbers : (i : ℕ) → IsInGroup group i → (0 < i) × (i - 1 < length c.args.list.now) = λ i b. subst (λ (n : ℕ). (0 < i) × (i - 1 < n)) (length-map c.args.list.now f) (group_number cs S u c.requires.fits here group q i b) in
     let pair : (i : ℕ) (x : Cond) → IsInGroup group i → slice_get cs (i - 1) ≡ Some x → IsPair x u v.0 = λ i x b e. told x u (facing_of q.1 group) v c.in-Some.is (q.3.faces i x b e) in
-    search rules
+    (omega arith, (omega arith, (c.requires.fits, (numbers, (pair, ((c.requires.object.0, there), c.requires.square))))))
 
 pub wake_others-requires : goal.wake_others-requires
 wake_others-requires g c =
@@ -35,4 +35,10 @@ wake_others-requires g c =
     let group = c.args.group.now in
     let here : u < length S = omega (arith, c.requires.object.0, c.requires.object.1) in
     let numbers : (i : ℕ) → IsInGroup group i → (0 < i) × (i - 1 < length c.args.list.now) = λ i b. subst (λ (n : ℕ). (0 < i) × (i - 1 < n)) (length-map c.args.list.now f) (group_number cs S u c.requires.fits here group c.requires.group i b) in
-    search rules
+    (omega arith, (omega arith, (c.requires.fits, (c.requires.links, (numbers, (c.requires.object.0, c.requires.square))))))
+
+pub returns-in-Some-clause-square : goal.returns-in-Some-clause-square
+returns-in-Some-clause-square g c = c.wake_one.ensures.square
+
+pub returns-in-None-clause-square : goal.returns-in-None-clause-square
+returns-in-None-clause-square g c = c.wake_others.ensures.square

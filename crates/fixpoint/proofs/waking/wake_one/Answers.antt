@@ -1,4 +1,4 @@
-use Rattle.std.proofs.Common.{◌≡◌, ℕ, false, map, get_or, sym, ◌∙◌, subst}
+use Rattle.std.proofs.Common.{◌≡◌, ℕ, false, map, get_or, sym, ◌∙◌, subst, arith}
 use Rattle.std.proofs.lemmas.Bool.{false≢true}
 use Rattle.indexical.specs.declared.any.AnyIndexical.{AnyIndexical}
 use Rattle.object_pruning.specs.InRows.{IsInGroup}
@@ -43,3 +43,24 @@ returns-else-may_hinder-clause-queued g c = queues_stay _ c.args.u.0 c.args.queu
 
 pub returns-else-may_hinder-clause-marked : goal.returns-else-may_hinder-clause-marked
 returns-else-may_hinder-clause-marked g c = marks_stay _ c.args.u.0 c.args.dirty.now (λ o ne f. c.may_hinder.ensures c.if-may_hinder.false o ne)
+
+pub returns-then-v-changed-clause-square : goal.returns-then-v-changed-clause-square
+returns-then-v-changed-clause-square g c = c.requires.square
+
+pub returns-then-is_woken-clause-square : goal.returns-then-is_woken-clause-square
+returns-then-is_woken-clause-square g c = c.requires.square
+
+pub returns-then-may_hinder-clause-square : goal.returns-then-may_hinder-clause-square
+returns-then-may_hinder-clause-square g c = c.wake_at.ensures.square
+
+pub returns-else-may_hinder-clause-square : goal.returns-else-may_hinder-clause-square
+returns-else-may_hinder-clause-square g c = c.requires.square
+
+pub is_woken-requires : goal.is_woken-requires
+is_woken-requires g c = record { objects = c.requires.objects; square = c.requires.square }
+
+pub may_hinder-requires : goal.may_hinder-requires
+may_hinder-requires g c = (omega arith, (omega arith, (c.requires.fits, c.requires.numbers)))
+
+pub wake_at-requires : goal.wake_at-requires
+wake_at-requires g c = record { objects = (c.requires.objects.0, c.requires.objects.1, c.if-v-changed.false); square = c.requires.square }

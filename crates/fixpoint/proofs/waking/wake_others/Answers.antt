@@ -1,4 +1,4 @@
-use Rattle.std.proofs.Common.{◌≡◌, ℕ, ◌<◌, ◌+◌, ◌-◌, length, map, get_or, ap, sym, ◌∙◌, subst, inl, inr, arith, rules, Vec, Global}
+use Rattle.std.proofs.Common.{◌≡◌, ℕ, ◌<◌, ◌+◌, ◌-◌, length, map, get_or, ap, sym, ◌∙◌, subst, inl, inr, arith, Vec, Global}
 use Rattle.std.proofs.lemmas.Bool.{cases_eq}
 use Rattle.std.proofs.lemmas.List.{length-map, get_or-map}
 use Rattle.geo_conditions.specs.declared.cond.Cond.{Cond}
@@ -47,7 +47,7 @@ wake_named-requires g c =
     let named : NamedBy x.cond (length c.loop-i.queued) c.deref.result.now = subst (λ (z : ℕ). NamedBy x.cond z c.deref.result.now) (sym c.loop-i.auto.queued) here in
     let square : IsSquare (length c.loop-i.queued) c.loop-i.dirty = subst (λ (z : ℕ). IsSquare z c.loop-i.dirty) (sym c.loop-i.auto.queued) c.loop-i.invariant.square in
     let there : u < length c.loop-i.queued = omega (arith, c.requires.object, c.loop-i.auto.queued) in
-    search rules
+    (omega arith, (omega arith, (fits, (named, (there, square)))))
 
 pub loop-i-preserved : goal.loop-i-preserved
 loop-i-preserved g c =
@@ -74,3 +74,15 @@ returns-clause-queued g c = queues_weaker _ _ c.args.u.0 c.args.queued.now c.loo
 
 pub returns-clause-marked : goal.returns-clause-marked
 returns-clause-marked g c = marks_weaker _ _ c.args.u.0 c.args.dirty.now c.loop-i.dirty (λ o ne h f i x a e. f i x (a, omega (arith, a.1, c.loop-i-test.false)) e) c.loop-i.invariant.marked
+
+pub overflow_sub-i : goal.overflow_sub-i
+overflow_sub-i g c = let b = (c.requires.numbers c.loop-i.i (omega arith, omega arith)).0 in omega (arith, b)
+
+pub overflow_sub-i-in-loop-i : goal.overflow_sub-i-in-loop-i
+overflow_sub-i-in-loop-i g c = let b = (c.requires.numbers c.loop-i.i (omega arith, omega arith)).0 in omega (arith, b)
+
+pub bounds-list-i : goal.bounds-list-i
+bounds-list-i g c = (c.requires.numbers c.loop-i.i (omega arith, omega arith)).1
+
+pub returns-clause-square : goal.returns-clause-square
+returns-clause-square g c = c.loop-i.invariant.square
