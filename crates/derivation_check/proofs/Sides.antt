@@ -9,7 +9,7 @@ use Rattle.derivation.specs.declared.side.Side.TheVariants.{Upto, From}
 use Rattle.derivation.specs.declared.half.Half.TheVariants.{OfSide}
 use Rattle.derivation.specs.Covers.{IsCut}
 use Rattle.derivation.specs.Cuts.{far}
-use Rattle.derivation.specs.Valid.{second_part, change}
+use Rattle.derivation.specs.Valid.{first_part, second_part, change}
 
 -- the rest behind a cut up to v: the low end is beyond it
 pub beyond_upto : (S : State) (o d : ℕ) (v end : ℤ) (side : Side) → side ≡ Upto d v → end ≡ int_max (low S o d) (v +ℤ pos 1)
@@ -23,7 +23,13 @@ pub beyond_from : (S : State) (o d : ℕ) (v end : ℤ) (side : Side) → side �
 beyond_from S o d v end side is ends =
     ap (λ (z : ℤ). set S o (with_high (reach S o) d z)) ends ∙ ap (λ (t : Side). change (second_part (OfSide t)) S o) (sym is)
 
--- the same of a box
+-- the part up to v: the high end is not beyond it
+pub within_upto : (S : State) (o d : ℕ) (v end : ℤ) (side : Side) → side ≡ Upto d v → end ≡ int_min (high S o d) v
+    → set S o (with_high (reach S o) d end) ≡ change (first_part (OfSide side)) S o
+within_upto S o d v end side is ends =
+    ap (λ (z : ℤ). set S o (with_high (reach S o) d z)) ends ∙ ap (λ (t : Side). change (first_part (OfSide t)) S o) (sym is)
+
+-- the rest of a box
 pub far_upto : (b : Region) (d : ℕ) (v end : ℤ) (lo hi : List ℤ) (side : Side) → side ≡ Upto d v → end ≡ int_max (coordinate b.lo d) (v +ℤ pos 1)
     → lo ≡ set b.lo d end → hi ≡ b.hi → record { lo = lo; hi = hi } ≡ far side b
 far_upto b d v end lo hi side is ends lows highs =
@@ -37,7 +43,7 @@ far_from b d v end lo hi side is ends lows highs =
     ∙ ap (λ (t : Side). far t b) (sym is)
 
 -- a number within the limits, and the ones beside it, fit 64 bits
-number_kept : (K d : ℕ) (v : ℤ) → IsCut K (Upto d v) → to_z w64 (of_z w64 v) ≡ v
+pub number_kept : (K d : ℕ) (v : ℤ) → IsCut K (Upto d v) → to_z w64 (of_z w64 v) ≡ v
 number_kept K d v cut = to_z-of_z {w = w64} (search (rules, cut))
 
 pub next_kept : (K d : ℕ) (v : ℤ) → IsCut K (Upto d v) → to_z w64 (of_z w64 (to_z w64 (of_z w64 v) +ℤ pos 1)) ≡ v +ℤ pos 1
