@@ -2,6 +2,7 @@ pub mod Pushed
 pub mod Steps
 pub mod NextPlaces
 pub mod Undo
+pub mod Sides
 pub mod Runs
 pub mod Verdict
 pub mod SameDims

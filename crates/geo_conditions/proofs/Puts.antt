@@ -1,6 +1,7 @@
 -- What is open to an object where one is put at a place.
 use Rattle.std.proofs.Common.{◌≡◌, ℕ, ◌<◌, length, eqb, sym, ap, ◌∙◌, subst, Some, Option}
-use Rattle.geo_conditions.specs.Reach.{State, Reach, reach, has, place_in, is_only, only, Put, put_on}
+use Rattle.geo_base.specs.Boxes.{coordinate}
+use Rattle.geo_conditions.specs.Reach.{State, Reach, reach, low, has, place_in, is_only, only, Put, put_on}
 use Rattle.geo_conditions.proofs.Sets.{only_test, only_only}
 use Rattle.geo_conditions.proofs.Points.{at_only, reach_same, reach_other}
 
@@ -18,3 +19,8 @@ has_put S m q o s p h e k w b =
 pub is_only_put : (S : State) (m : Option Put) (q : Put) (o s p : ℕ) → o < length S → m ≡ Some q → q.object ≡ o → p ≡ q.place → 0 < p → eqb p s ≡ is_only (reach (put_on m S) o).places s
 is_only_put S m q o s p h e k w b =
     only_test p s b ∙ ap (λ (v : ℕ). place_in (only v) s) w ∙ sym (only_only q.place s) ∙ sym (ap (λ (r : Reach). is_only r.places s) (reach_put S q o h k)) ∙ sym (ap (λ (x : Option Put). is_only (reach (put_on x S) o).places s) e)
+
+-- the low end of an object that is not put
+pub low_rest : (S : State) (m : Option Put) (q : Put) (o d : ℕ) → m ≡ Some q → (q.object ≡ o → ⊥) → low S o d ≡ low (put_on m S) o d
+low_rest S m q o d e ne =
+    sym (ap (λ (r : Reach). coordinate r.region.lo d) (reach_rest S q o ne)) ∙ sym (ap (λ (x : Option Put). low (put_on x S) o d) e)

@@ -1,14 +1,15 @@
 use Rattle.geo_conditions.specs.Puts.{put_of}
 use Rattle.geo_conditions.proofs.refute.+possible.Goals as goal
 use Rattle.geo_conditions.proofs.refute.+possible.Goals.{are_enough-then-possible_in+else-least-sure, are_enough-else-possible_in+else-open-least}
-use Rattle.std.proofs.Common.{length, true, false, refl, ◌+◌, ◌-◌, ◌≡◌, ℕ, subst, sym, arith, pos, List, ap, ◌∙◌, rules}
+use Rattle.std.proofs.Common.{length, true, false, refl, ◌+◌, ◌-◌, ◌≡◌, ℕ, ℤ, subst, sym, arith, pos, List, ap, ◌∙◌, rules, w64}
 use Rattle.std.specs.List.{All}
-use Rattle.std.proofs.lemmas.Int.{ints}
+use Rattle.std.proofs.lemmas.Int.{ints, to_z-of_z}
 use Rattle.geo_conditions.specs.declared.cond.Cond.{Cond, AtLeast}
 use Rattle.geo_conditions.specs.Conditions.{FitsIn, possible}
 use Rattle.geo_conditions.specs.Reach.{put_on}
 use Rattle.geo_conditions.proofs.Products.{test_kept}
 use lib.Signed.{le_z}
+use mir.Val.{to_z, of_z}
 use Rattle.geo_conditions.proofs.Children.{many_possible, at_least_is, fit_out, many_end, enough_possible, too_few_possible, one_more, one_less, next_sure, next_not, many_behind, many_before, more_behind, less_behind}
 
 pub are_enough-loop-child-init : goal.are_enough-loop-child-init
@@ -129,3 +130,11 @@ are_enough_of_many-returns g t c =
     ∙ ap (λ (k : ℕ). le_z c.args.n (pos k)) e
     ∙ ap (λ (ys : List Cond). le_z c.args.n (pos (many_possible S ys))) c.as_slice-parts.ensures
     ∙ sym (at_least_is c.args.n c.args.children.now S)
+
+pub possible_in-returns-then-is_of_other_shape : goal.possible_in-returns-then-is_of_other_shape
+possible_in-returns-then-is_of_other_shape g t c =
+    let S = put_on (put_of c.args.put.now) c.args.s.now in
+    let n = c.in-AtLeast.n in
+    let children = c.in-AtLeast.children in
+    let enough : possible (AtLeast (to_z w64 (of_z w64 n)) children) S ≡ true = c.is_of_other_shape.ensures c.if-is_of_other_shape.true in
+    sym (ap (λ (y : Cond). possible y S) c.in-AtLeast.is ∙ ap (λ (m : ℤ). possible (AtLeast m children) S) (sym (to_z-of_z w64 n (search rules))) ∙ enough)
