@@ -14,7 +14,7 @@ use crate::print::statement::{
 use geo_tokens::token::Keyword;
 use problem_data::problem::{MacroDef, ObjectDef, Problem, RuleDef, ShapeDef};
 use problem_data::tree::Side;
-use rule_print::lexeme::{Lexeme, push, push_word};
+use rule_print::lexeme::{Lexeme, push_all, push_word};
 use std::alloc::{AllocError, Global};
 
 fn push_head(alloc: Global, problem: &Problem, text: &mut Vec<u8>) -> Result<(), AllocError>
@@ -22,10 +22,15 @@ fn push_head(alloc: Global, problem: &Problem, text: &mut Vec<u8>) -> Result<(),
         ++ line_text (head_spelling problem.now)) }
 {
     let mut lexemes = Vec::new(alloc);
-    push_word(Keyword::Geost, &mut lexemes)?;
-    push(Lexeme::Number(1), &mut lexemes)?;
-    push_word(Keyword::Dims, &mut lexemes)?;
-    push(Lexeme::Number(problem.dims() as u64), &mut lexemes)?;
+    push_all(
+        &[
+            Lexeme::Word(Keyword::Geost),
+            Lexeme::Number(1),
+            Lexeme::Word(Keyword::Dims),
+            Lexeme::Number(problem.dims() as u64),
+        ],
+        &mut lexemes,
+    )?;
     push_line(alloc, lexemes.as_slice(), text)
 }
 
