@@ -5,7 +5,7 @@ ghost use Rattle.geo_tokens.specs.declared.token.Sym.TheVariants as syms;
 ghost use Rattle.rule_print.specs.Canonical.{written, symbol};
 ghost use Rattle.problem_text.specs.Canonical.{listed, name_spelling, name_at, shape_spelling, object_spelling, macro_spelling, rule_spelling, order_spelling, sides_spelling, line_text};
 
-use crate::print::line::push_line;
+use crate::print::line::push_closed_line;
 use crate::print::part::{
     spell_attributes, spell_body, spell_boxes, spell_demand, spell_params, spell_ranges,
     spell_sides,
@@ -30,8 +30,7 @@ pub fn push_shape(alloc: Global, shape: &ShapeDef, text: &mut Vec<u8>) -> Result
         &mut lexemes,
     )?;
     spell_boxes(shape.boxes(), &mut lexemes)?;
-    push_symbol(Sym::Semicolon, &mut lexemes)?;
-    push_line(alloc, lexemes.as_slice(), text)
+    push_closed_line(alloc, lexemes, text)
 }
 
 /// The name of the shape at this position.
@@ -85,8 +84,7 @@ pub fn push_object(
     push_word(Keyword::At, &mut lexemes)?;
     spell_ranges(object.ranges(), &mut lexemes)?;
     spell_attributes(object.attributes(), &mut lexemes)?;
-    push_symbol(Sym::Semicolon, &mut lexemes)?;
-    push_line(alloc, lexemes.as_slice(), text)
+    push_closed_line(alloc, lexemes, text)
 }
 
 /// Appends the line of a macro.
@@ -106,8 +104,7 @@ pub fn push_macro(alloc: Global, own: &MacroDef, text: &mut Vec<u8>) -> Result<(
     spell_params(own.params(), &mut lexemes)?;
     push_symbol(Sym::ParenClose, &mut lexemes)?;
     spell_body(own.body(), &mut lexemes)?;
-    push_symbol(Sym::Semicolon, &mut lexemes)?;
-    push_line(alloc, lexemes.as_slice(), text)
+    push_closed_line(alloc, lexemes, text)
 }
 
 /// Appends the line of a rule.
@@ -125,8 +122,7 @@ pub fn push_rule(alloc: Global, rule: &RuleDef, text: &mut Vec<u8>) -> Result<()
         &mut lexemes,
     )?;
     spell_demand(rule.demand(), &mut lexemes)?;
-    push_symbol(Sym::Semicolon, &mut lexemes)?;
-    push_line(alloc, lexemes.as_slice(), text)
+    push_closed_line(alloc, lexemes, text)
 }
 
 /// The name of the object at this position.
@@ -170,8 +166,7 @@ pub fn push_order(
     let mut lexemes = Vec::new(alloc);
     push_word(Keyword::Order, &mut lexemes)?;
     spell_object_names(objects, order, &mut lexemes)?;
-    push_symbol(Sym::Semicolon, &mut lexemes)?;
-    push_line(alloc, lexemes.as_slice(), text)
+    push_closed_line(alloc, lexemes, text)
 }
 
 /// Appends the line of the sides.
@@ -182,6 +177,5 @@ pub fn push_sides(alloc: Global, sides: &[Side], text: &mut Vec<u8>) -> Result<(
     let mut lexemes = Vec::new(alloc);
     push_word(Keyword::Sides, &mut lexemes)?;
     spell_sides(sides, &mut lexemes)?;
-    push_symbol(Sym::Semicolon, &mut lexemes)?;
-    push_line(alloc, lexemes.as_slice(), text)
+    push_closed_line(alloc, lexemes, text)
 }
