@@ -1,3 +1,4 @@
+pub mod Ended
 pub mod Right
 pub mod Levels
 pub mod WholeText

@@ -28,7 +28,7 @@ abbrev pub listed_at : {A : Type 0} → Reader A → Reader (List A)
 listed_at r w = r w >>= λ a rest. many_at (symbol symbols.Comma) (next_at r) rest >>= λ others last. Got (Some (a ∷ others)) last
 
 -- a semicolon behind what a statement says
-abbrev pub ended_at : StatementTree → Reader StatementTree
+abbrev pub ended_at : {A : Type 0} → A → Reader A
 ended_at s w = token_at (symbol symbols.Semicolon) w >>= λ e rest. Got (Some s) rest
 
 -- ---- numbers, ranges and boxes

@@ -8,10 +8,17 @@ use geo_tokens::stop::{Stop, token};
 use geo_tokens::token::{Kind, Sym, Token};
 use problem_data::tree::Statement;
 
+/// A value, where a semicolon stands behind it.
+fn closed<T: Drop>(value: T, tokens: &[Token]) -> Result<(T, &[Token]), Stop<'_>>
+    ensures { Gives (λ t. t) result (ended_at value tokens.now) }
+{
+    let (_, rest) = token(tokens, Kind::Symbol(Sym::Semicolon))?;
+    Ok((value, rest))
+}
+
 /// A statement, where a semicolon ends it.
 pub fn ended(statement: Statement, tokens: &[Token]) -> Result<(Statement, &[Token]), Stop<'_>>
     ensures { Gives statement_view result (ended_at (statement_view statement) tokens.now) }
 {
-    let (_, rest) = token(tokens, Kind::Symbol(Sym::Semicolon))?;
-    Ok((statement, rest))
+    closed(statement, tokens)
 }

@@ -33,7 +33,7 @@ pub fn met_names<'a, T: Named>(
     ensures names { IfOk result (λ r. r.0.value ≡ met (map text_of (map T.name_of items.now))) }
     ensures fault { IfOk result (λ r. IsLeast (Repeated (map T.name_of items.now)) r.1) }
 {
-    let mut seen = SeenNames::new(alloc);
+    let mut seen = Box::new(alloc, SeenNames::new(alloc))?;
     let mut found = None;
     for item in items {
         let name = item.placed_name();
@@ -41,7 +41,7 @@ pub fn met_names<'a, T: Named>(
         let here = fault_if(!is_new, name.place, FaultWord::Twice);
         found = earlier(found, here);
     }
-    Ok((Box::new(alloc, seen)?, found))
+    Ok((seen, found))
 }
 
 /// The first name that is past the limit or repeated.

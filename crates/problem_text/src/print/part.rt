@@ -12,7 +12,7 @@ use problem_data::problem::{AttributeDef, BoxDef, Demand, ParamDef, RangeDef};
 use problem_data::tree::{MacroBody, ParamKind, Side};
 use rule_print::expression::spell_expression;
 use rule_print::formula::spell_formula;
-use rule_print::lexeme::{Lexeme, push, push_if, push_symbol, push_word};
+use rule_print::lexeme::{Lexeme, push, push_all, push_if, push_symbol, push_word};
 use rule_print::rank::{ExprRank, FormulaRank};
 use std::alloc::AllocError;
 
@@ -134,9 +134,14 @@ fn spell_param<'a>(param: &'a ParamDef, into: &mut Vec<Lexeme<'a>>) -> Result<()
     ensures { IfOk result (λ _. map written into.new.items ≡ map written into.old.items
         ++ param_spelling (param_data param.now)) }
 {
-    push_name(&param.name, into)?;
-    push_symbol(Sym::Colon, into)?;
-    push_word(kind_word(param.kind), into)
+    push_all(
+        &[
+            Lexeme::Name(param.name.as_bytes()),
+            Lexeme::Symbol(Sym::Colon),
+            Lexeme::Word(kind_word(param.kind)),
+        ],
+        into,
+    )
 }
 
 /// The parameters of a macro, with commas between them.

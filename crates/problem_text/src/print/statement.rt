@@ -5,7 +5,7 @@ ghost use Rattle.geo_tokens.specs.declared.token.Sym.TheVariants as syms;
 ghost use Rattle.rule_print.specs.Canonical.{written, symbol};
 ghost use Rattle.problem_text.specs.Canonical.{listed, name_spelling, name_at, shape_spelling, object_spelling, macro_spelling, rule_spelling, order_spelling, sides_spelling, line_text};
 
-use crate::print::line::{push_line, push_name};
+use crate::print::line::push_closed_line;
 use crate::print::part::{
     spell_attributes, spell_body, spell_boxes, spell_demand, spell_params, spell_ranges,
     spell_sides,
@@ -13,7 +13,7 @@ use crate::print::part::{
 use geo_tokens::token::{Keyword, Sym};
 use problem_data::problem::{MacroDef, ObjectDef, RuleDef, ShapeDef};
 use problem_data::tree::Side;
-use rule_print::lexeme::{Lexeme, push, push_if, push_symbol, push_word};
+use rule_print::lexeme::{Lexeme, push, push_all, push_if, push_symbol, push_word};
 use std::alloc::{AllocError, Global};
 
 /// Appends the line of a shape.
@@ -22,11 +22,15 @@ pub fn push_shape(alloc: Global, shape: &ShapeDef, text: &mut Vec<u8>) -> Result
         ++ line_text (shape_spelling shape.now)) }
 {
     let mut lexemes = Vec::new(alloc);
-    push_word(Keyword::Shape, &mut lexemes)?;
-    push_name(shape.name(), &mut lexemes)?;
+    push_all(
+        &[
+            Lexeme::Word(Keyword::Shape),
+            Lexeme::Name(shape.name().as_bytes()),
+        ],
+        &mut lexemes,
+    )?;
     spell_boxes(shape.boxes(), &mut lexemes)?;
-    push_symbol(Sym::Semicolon, &mut lexemes)?;
-    push_line(alloc, lexemes.as_slice(), text)
+    push_closed_line(alloc, lexemes, text)
 }
 
 /// The name of the shape at this position.
@@ -68,15 +72,19 @@ pub fn push_object(
         ++ line_text (object_spelling (map (λ s. s.name) shapes.now) object.now)) }
 {
     let mut lexemes = Vec::new(alloc);
-    push_word(Keyword::Object, &mut lexemes)?;
-    push_name(object.name(), &mut lexemes)?;
-    push_word(Keyword::As, &mut lexemes)?;
+    push_all(
+        &[
+            Lexeme::Word(Keyword::Object),
+            Lexeme::Name(object.name().as_bytes()),
+            Lexeme::Word(Keyword::As),
+        ],
+        &mut lexemes,
+    )?;
     spell_shape_names(shapes, object.shapes(), &mut lexemes)?;
     push_word(Keyword::At, &mut lexemes)?;
     spell_ranges(object.ranges(), &mut lexemes)?;
     spell_attributes(object.attributes(), &mut lexemes)?;
-    push_symbol(Sym::Semicolon, &mut lexemes)?;
-    push_line(alloc, lexemes.as_slice(), text)
+    push_closed_line(alloc, lexemes, text)
 }
 
 /// Appends the line of a macro.
@@ -85,14 +93,18 @@ pub fn push_macro(alloc: Global, own: &MacroDef, text: &mut Vec<u8>) -> Result<(
         ++ line_text (macro_spelling own.now)) }
 {
     let mut lexemes = Vec::new(alloc);
-    push_word(Keyword::Macro, &mut lexemes)?;
-    push_name(own.name(), &mut lexemes)?;
-    push_symbol(Sym::ParenOpen, &mut lexemes)?;
+    push_all(
+        &[
+            Lexeme::Word(Keyword::Macro),
+            Lexeme::Name(own.name().as_bytes()),
+            Lexeme::Symbol(Sym::ParenOpen),
+        ],
+        &mut lexemes,
+    )?;
     spell_params(own.params(), &mut lexemes)?;
     push_symbol(Sym::ParenClose, &mut lexemes)?;
     spell_body(own.body(), &mut lexemes)?;
-    push_symbol(Sym::Semicolon, &mut lexemes)?;
-    push_line(alloc, lexemes.as_slice(), text)
+    push_closed_line(alloc, lexemes, text)
 }
 
 /// Appends the line of a rule.
@@ -101,12 +113,16 @@ pub fn push_rule(alloc: Global, rule: &RuleDef, text: &mut Vec<u8>) -> Result<()
         ++ line_text (rule_spelling rule.now)) }
 {
     let mut lexemes = Vec::new(alloc);
-    push_word(Keyword::Rule, &mut lexemes)?;
-    push_name(rule.name(), &mut lexemes)?;
-    push_symbol(Sym::Colon, &mut lexemes)?;
+    push_all(
+        &[
+            Lexeme::Word(Keyword::Rule),
+            Lexeme::Name(rule.name().as_bytes()),
+            Lexeme::Symbol(Sym::Colon),
+        ],
+        &mut lexemes,
+    )?;
     spell_demand(rule.demand(), &mut lexemes)?;
-    push_symbol(Sym::Semicolon, &mut lexemes)?;
-    push_line(alloc, lexemes.as_slice(), text)
+    push_closed_line(alloc, lexemes, text)
 }
 
 /// The name of the object at this position.
@@ -150,8 +166,7 @@ pub fn push_order(
     let mut lexemes = Vec::new(alloc);
     push_word(Keyword::Order, &mut lexemes)?;
     spell_object_names(objects, order, &mut lexemes)?;
-    push_symbol(Sym::Semicolon, &mut lexemes)?;
-    push_line(alloc, lexemes.as_slice(), text)
+    push_closed_line(alloc, lexemes, text)
 }
 
 /// Appends the line of the sides.
@@ -162,6 +177,5 @@ pub fn push_sides(alloc: Global, sides: &[Side], text: &mut Vec<u8>) -> Result<(
     let mut lexemes = Vec::new(alloc);
     push_word(Keyword::Sides, &mut lexemes)?;
     spell_sides(sides, &mut lexemes)?;
-    push_symbol(Sym::Semicolon, &mut lexemes)?;
-    push_line(alloc, lexemes.as_slice(), text)
+    push_closed_line(alloc, lexemes, text)
 }

@@ -14,19 +14,23 @@ use crate::print::statement::{
 use geo_tokens::token::Keyword;
 use problem_data::problem::{MacroDef, ObjectDef, Problem, RuleDef, ShapeDef};
 use problem_data::tree::Side;
-use rule_print::lexeme::{Lexeme, push, push_word};
+use rule_print::lexeme::Lexeme;
 use std::alloc::{AllocError, Global};
 
 fn push_head(alloc: Global, problem: &Problem, text: &mut Vec<u8>) -> Result<(), AllocError>
     ensures { IfOk result (λ _. text.new.items ≡ text.old.items
         ++ line_text (head_spelling problem.now)) }
 {
-    let mut lexemes = Vec::new(alloc);
-    push_word(Keyword::Geost, &mut lexemes)?;
-    push(Lexeme::Number(1), &mut lexemes)?;
-    push_word(Keyword::Dims, &mut lexemes)?;
-    push(Lexeme::Number(problem.dims() as u64), &mut lexemes)?;
-    push_line(alloc, lexemes.as_slice(), text)
+    push_line(
+        alloc,
+        &[
+            Lexeme::Word(Keyword::Geost),
+            Lexeme::Number(1),
+            Lexeme::Word(Keyword::Dims),
+            Lexeme::Number(problem.dims() as u64),
+        ],
+        text,
+    )
 }
 
 fn push_shapes(alloc: Global, shapes: &[ShapeDef], text: &mut Vec<u8>) -> Result<(), AllocError>
@@ -97,9 +101,7 @@ fn push_end(alloc: Global, text: &mut Vec<u8>) -> Result<(), AllocError>
     ensures { IfOk result (λ _. text.new.items ≡ text.old.items
         ++ line_text (word keywords.End ∷ [])) }
 {
-    let mut lexemes = Vec::new(alloc);
-    push_word(Keyword::End, &mut lexemes)?;
-    push_line(alloc, lexemes.as_slice(), text)
+    push_line(alloc, &[Lexeme::Word(Keyword::End)], text)
 }
 
 /// Appends the lines of the search order and of the sides, where they are needed.
