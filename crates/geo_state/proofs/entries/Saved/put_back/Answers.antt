@@ -3,8 +3,13 @@ use Rattle.geo_conditions.specs.Reach.{State, reach, nowhere, with_interval}
 use Rattle.geo_base.specs.Boxes.{coordinate}
 use Rattle.geo_state.specs.Undo.{Entry}
 use Rattle.geo_state.proofs.Numbers.{kept64}
-use Rattle.geo_state.proofs.Regions.{half_more}
+use Rattle.geo_state.proofs.Regions.{half, half_more}
 use Rattle.geo_state.proofs.entries.Saved.put_back.Goals as goal
+
+pub loop-d-init : goal.loop-d-init
+loop-d-init g c =
+    let S = c.args.state.now in
+    c.set_places.ensures ∙ ap (λ (e : Entry). set S e.object (half 0 e.reach (reach S e.object))) c.self.view_is
 
 pub loop-d-preserved : goal.loop-d-preserved
 loop-d-preserved g c =

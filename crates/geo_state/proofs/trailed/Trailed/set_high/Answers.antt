@@ -51,3 +51,9 @@ returns-clause-restores g c =
     (narrows_high p.state o c.args.d c.args.v t.trail.small c.requires.small (subst (λ (S : State). c.args.v ≤ℤ high S o c.args.d) e c.requires.narrower))
     (c.set_high.ensures ∙ ap (λ (z : ℤ). set p.state o (with_high (reach p.state o) c.args.d z)) (small_kept c.args.v c.requires.small)) c.save.ensures.marks c.save.ensures.items c.save.ensures.room).1
     ∙ ap (λ (t : Trail). t.restores) c.self.view_is
+
+pub returns-clause-state : goal.returns-clause-state
+returns-clause-state g c =
+    let S = c.self.inside.state in let o = c.args.o.0 in let d = c.args.d in let v = c.args.v in
+    c.set_high.ensures ∙ ap (λ (z : ℤ). set S o (with_high (reach S o) d z)) (small_kept v c.requires.small)
+    ∙ ap (λ (t : Trail). set t.state o (with_high (reach t.state o) d v)) c.self.view_is
