@@ -18,7 +18,7 @@ use super::forbidden::{ForbiddenPart, box_with, exactly};
 use super::indexical::Indexical;
 use super::point::tree_possible_at;
 use super::single_bound::bound_of;
-use super::spared::{is_named, tree_spares_anywhere};
+use super::spared::is_named;
 use super::tree::{forbid_tree, tree_part};
 use super::two_boxes::two_boxes;
 use super::watched::{Watched, tree_spares_watched};
@@ -115,18 +115,7 @@ impl<const K: usize> AnyIndexical<K> {
 
     /// Whether the condition surely spares the object at any place: it is possible wherever the object
     /// is put. It is told of conditions that are not met by two boxes, and is false for each other one.
-    pub fn surely_spares_anywhere(&self, s: &State<K>, o: ObjId) -> bool
-        requires k { K ≤ MAX_DIMS }
-        requires fits { FitsIn self.now.cond s.now }
-        ensures { IsTrue result → SparesAnywhere self.now.cond s.now o.0 }
-    {
-        match &self.boxes {
-            Some(_) => false,
-            None => tree_spares_anywhere(&self.cond, s, o),
-        }
-    }
-
-    /// The same, with what is watched of the condition, which is asked first and may change.
+    /// What is watched of the condition is asked first, and may change.
     pub fn surely_spares_watched(&self, s: &State<K>, o: ObjId, watched: &mut Watched) -> bool
         requires k { K ≤ MAX_DIMS }
         requires fits { FitsIn self.now.cond s.now }
