@@ -23,7 +23,6 @@ use std::marker::Model;
 /// A search for the layouts, in order. It walks over the prefixes of values for which a supported
 /// state is left, counts each once, and stops where the next one would exceed its budget. Its
 /// memory is taken at the start.
-#[derive(Drop)]
 pub struct Search<const K: usize, P: Propagate<K>, R: Recorder> {
     prop: P,
     rec: R,
@@ -33,6 +32,22 @@ pub struct Search<const K: usize, P: Propagate<K>, R: Recorder> {
     some_found: bool,
     began_empty: bool,
     over: Option<Step>,
+}
+
+/// Written out, since a derived one is made and proved anew, field by field, at each end of a function that drops a search.
+impl<const K: usize, P: Propagate<K> + Drop, R: Recorder + Drop> Drop for Search<K, P, R> {
+    fn drop(self) {
+        let Search {
+            prop: _prop,
+            rec: _rec,
+            walker: _walker,
+            budget: _,
+            found: _,
+            some_found: _,
+            began_empty: _,
+            over: _,
+        } = self;
+    }
 }
 
 impl<const K: usize, P: Propagate<K>, R: Recorder> Model for Search<K, P, R> {
@@ -200,6 +215,16 @@ impl<const K: usize, P: Propagate<K> + Drop, R: Recorder> Search<K, P, R> {
         ensures events { R.list result ≡ self.events }
         ensures refusals { R.refusals result ≡ self.refusals }
     {
-        self.rec
+        let Search {
+            prop: _prop,
+            rec,
+            walker: _walker,
+            budget: _,
+            found: _,
+            some_found: _,
+            began_empty: _,
+            over: _,
+        } = self;
+        rec
     }
 }
