@@ -103,7 +103,6 @@ impl Drop for PlainFormula {
 }
 
 /// What a rule without macros asks for.
-#[derive(Drop)]
 pub enum PlainBody {
     /// No two objects share a cell.
     Apart,
@@ -113,9 +112,29 @@ pub enum PlainBody {
     Plain(PlainFormula),
 }
 
+/// Written out, as the drop of an expression is.
+impl Drop for PlainBody {
+    fn drop(self) {
+        match self {
+            PlainBody::Apart => {}
+            PlainBody::Within(_ranges) => {}
+            PlainBody::Plain(_formula) => {}
+        }
+    }
+}
+
 /// A rule without macros, with the place of its name in the text.
-#[derive(Drop)]
 pub struct PlainRule {
     pub place: u64,
     pub body: PlainBody,
+}
+
+/// Written out, as the drop of an expression is.
+impl Drop for PlainRule {
+    fn drop(self) {
+        let PlainRule {
+            place: _,
+            body: _body,
+        } = self;
+    }
 }
