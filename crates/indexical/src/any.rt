@@ -28,13 +28,23 @@ use std::sync::ledger::Ledger;
 
 /// A condition of any kind. One that says that two boxes do not overlap is met by its boxes, one on a single coordinate of an
 /// object by its bound, and each other one by its tree.
-#[derive(Drop)]
 pub struct AnyIndexical<const K: usize> {
     cond: Cond,
     boxes: Option<ApartIndexical<K>>,
     bound: Option<BoundIndexical<K>>,
     ghost bounds: { ForSome bound (λ x. SaysBound x cond) },
     ghost says: { ForSome boxes (λ x. SaysApart x.first x.second x.short cond) },
+}
+
+/// Written out, since a derived one, with those of all parts, is made and proved anew in each crate that drops one.
+impl<const K: usize> Drop for AnyIndexical<K> {
+    fn drop(self) {
+        let AnyIndexical {
+            cond: _cond,
+            boxes: _boxes,
+            bound: _bound,
+        } = self;
+    }
 }
 
 impl<const K: usize> AnyIndexical<K> {
@@ -62,7 +72,12 @@ impl<const K: usize> AnyIndexical<K> {
     pub fn into_cond(self) -> Cond
         ensures { result ≡ self.entry.cond }
     {
-        self.cond
+        let AnyIndexical {
+            cond,
+            boxes: _boxes,
+            bound: _bound,
+        } = self;
+        cond
     }
 
     /// Whether the condition is met by two boxes.

@@ -10,9 +10,15 @@ use std::alloc::{AllocError, Global};
 use std::marker::Model;
 
 /// Names, each once, in the order in which they were met first. It is seen as their list.
-#[derive(Drop)]
 pub struct SeenNames<'a> {
     names: IndexSet<&'a [u8]>,
+}
+
+/// Written out, since a derived one, with those of all parts, is made and proved anew in each crate that drops seen names.
+impl Drop for SeenNames<'_> {
+    fn drop(self) {
+        let SeenNames { names: _names } = self;
+    }
 }
 
 impl<'a> Model for SeenNames<'a> {
