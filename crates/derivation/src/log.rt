@@ -7,10 +7,19 @@ use std::alloc::{AllocError, Global};
 use std::marker::Model;
 
 /// Keeps the events, and counts the refusals.
-#[derive(Drop)]
 pub struct Log {
     events: Vec<Event>,
     refused: u64,
+}
+
+/// Written out, since a derived one is made and proved anew wherever a record is dropped.
+impl Drop for Log {
+    fn drop(self) {
+        let Log {
+            events: _events,
+            refused: _,
+        } = self;
+    }
 }
 
 impl Model for Log {

@@ -24,10 +24,19 @@ impl Model for Placed {
 }
 
 /// A tuple: a shape and an origin for each object, in the order of the objects.
-#[derive(Drop)]
 pub struct Layout {
     alloc: Global,
     spots: Vec<Placed>,
+}
+
+/// Written out, since a derived one is made and proved anew wherever a layout is dropped.
+impl Drop for Layout {
+    fn drop(self) {
+        let Layout {
+            alloc: _,
+            spots: _spots,
+        } = self;
+    }
 }
 
 impl Model for Layout {

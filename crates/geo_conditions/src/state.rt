@@ -81,9 +81,15 @@ impl<const K: usize> Held<K> {
 }
 
 /// A state: for each object its places, and an interval in each dimension.
-#[derive(Drop)]
 pub struct State<const K: usize> {
     objects: Vec<Held<K>>,
+}
+
+/// Written out, since a derived one is made and proved anew wherever a state is dropped.
+impl<const K: usize> Drop for State<K> {
+    fn drop(self) {
+        let State { objects: _objects } = self;
+    }
 }
 
 impl<const K: usize> Model for State<K> {

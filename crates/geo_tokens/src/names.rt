@@ -51,12 +51,23 @@ fn named_object(alloc: Global, name: &[u8], shapes: &[u16]) -> Result<NamedObjec
 }
 
 /// A table of names.
-#[derive(Drop)]
 pub struct Names {
     alloc: Global,
     dims: usize,
     shapes: Vec<Name>,
     objects: Vec<NamedObject>,
+}
+
+/// Written out, since a derived one is made and proved anew wherever such a table is dropped.
+impl Drop for Names {
+    fn drop(self) {
+        let Names {
+            alloc: _,
+            dims: _,
+            shapes: _shapes,
+            objects: _objects,
+        } = self;
+    }
 }
 
 impl Model for Names {
