@@ -1,6 +1,6 @@
 -- The groups of rows by the other object, as they are put there.
 use Rattle.std.proofs.Common.{◌≡◌, ◌⊎◌, ℕ, zero, suc, ◌+◌, ◌-◌, ◌<◌, ◌≤◌, true, false, eqb-true, eq-eqb, List, [], ◌∷◌, ◌++◌, length, set, get_or, slice_index, refl, sym, ap, ◌∙◌, subst, inl, inr, arith, None, Some, Option, Vec, Global}
-use Rattle.std.specs.Prelude.{slice_get, nat_eq, IfSome, MatchOption, Contains}
+use Rattle.std.specs.Prelude.{slice_get, nat_eq, IfSome, MatchOption}
 use Rattle.std.proofs.Math.ListN.{length-set}
 use Rattle.std.proofs.lemmas.Bool.{cases_eq, cases_lt, false≢true, or_cases}
 use Rattle.std.proofs.lemmas.List.{get_or_push, get_or_append_left}

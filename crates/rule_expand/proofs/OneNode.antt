@@ -7,7 +7,7 @@ use Rattle.rule_expand.specs.Plain as plain
 use Rattle.rule_expand.specs.Plain.{PlainExprTree, PlainSums, PlainProducts, PlainCollTree, PlainFormulaTree, PlainFormulas}
 use Rattle.rule_expand.specs.PlainView.{plain_expr_view, plain_sums_view, plain_products_view, plain_coll_view, plain_formula_view, plain_formulas_view}
 use Rattle.rule_expand.specs.Expansion.{binders, binders_in}
-use Rattle.rule_expand.specs.Counts.{expr_nodes, expr_depth, sums_nodes, sums_depth, products_nodes, products_depth, nodes, depth, nodes_in, depth_in}
+use Rattle.rule_expand.specs.Counts.{expr_nodes, expr_depth, nodes, depth, nodes_in, depth_in}
 use Rattle.rule_expand.specs.Limits.{IsLimitFault, ExprMade, GivesExpr, SumsMade, ProductsMade, FormulaMade, FormulasMade, GivesFormula, PairMade}
 use Rattle.rule_expand.specs.declared.limits.ExpandFault.{ExpandFault}
 use Rattle.rule_expand.specs.declared.limits.ExpandFault.TheVariants.{TooLarge, Memory}

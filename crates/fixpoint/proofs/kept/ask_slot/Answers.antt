@@ -1,9 +1,6 @@
-use Rattle.std.proofs.Common.{◌≡◌, ◌-◌, ◌<◌, ℕ, length, map, sym, ◌∙◌, subst, rules, Some}
+use Rattle.std.proofs.Common.{◌-◌, ◌<◌, ℕ, length, map, sym, ◌∙◌, subst, rules}
 use Rattle.std.proofs.lemmas.List.{length-map}
-use Rattle.std.proofs.lemmas.Option.{same_Some}
-use Rattle.geo_conditions.specs.declared.cond.Cond.{Cond}
 use Rattle.indexical.specs.declared.any.AnyIndexical.{AnyIndexical}
-use Rattle.object_pruning.specs.declared.kept.Placed.{Placed}
 use Rattle.object_pruning.specs.InRows.{IsInGroup}
 use Rattle.fixpoint.proofs.Asked.{group_within, slot_elsewhere}
 use Rattle.fixpoint.proofs.kept.ask_slot.Goals as goal
