@@ -18,7 +18,6 @@ struct OpenNode<const K: usize> {
     second: Option<Half>,
 }
 
-#[derive(Drop)]
 struct Walk<'a, const K: usize> {
     conditions: &'a [Cond],
     events: &'a [Event],
@@ -28,7 +27,34 @@ struct Walk<'a, const K: usize> {
     out: Log,
 }
 
+/// Written out, since a derived one goes through all parts at each end of a function that drops a walk.
+impl<const K: usize> Drop for Walk<'_, K> {
+    fn drop(self) {
+        let Walk {
+            conditions: _,
+            events: _,
+            reaches: _reaches,
+            nodes: _nodes,
+            coverer: _coverer,
+            out: _out,
+        } = self;
+    }
+}
+
 impl<'a, const K: usize> Walk<'a, K> {
+    // What was written, at the end.
+    fn into_log(self) -> Log {
+        let Walk {
+            conditions: _,
+            events: _,
+            reaches: _reaches,
+            nodes: _nodes,
+            coverer: _coverer,
+            out,
+        } = self;
+        out
+    }
+
     // On to a part of what was left to the object.
     fn enter(
         &mut self,
@@ -193,5 +219,5 @@ pub fn with_simpler_covers<const K: usize>(
             None => break,
         }
     }
-    Ok(walk.out)
+    Ok(walk.into_log())
 }
