@@ -6,7 +6,7 @@ use Rattle.derivation_reading.proofs.Answering.{come, end, fault_come, text_come
 use Rattle.derivation_reading.proofs.feeder.read_derivation.Goals as goal
 use Rattle.derivation_reading.proofs.feeder.read_derivation.Goals.{then-not-branch+in_ok-finish, else-not-branch}
 
-feed_failed : (c : goal.After-drop-log-inside) → AnswersDerivation c.from_residual.result c.args.names.now c.args.place c.args.text.now
+feed_failed : (c : goal.After-drop-log) → AnswersDerivation c.from_residual.result c.args.names.now c.args.place c.args.text.now
 feed_failed c =
     let n = c.args.names.now in
     let fault = c.in_err-feed.field-0.0 in
@@ -23,7 +23,7 @@ returns-in_err-feed-clause-answer c = feed_failed c
 pub returns-in_err-feed-clause-only : goal.returns-in_err-feed-clause-only
 returns-in_err-feed-clause-only c = only c.args.names.now c.args.place c.args.text.now c.from_residual.result (feed_failed c)
 
-finish_failed : (c : goal.After-drop-log-inside-in_err-finish) → AnswersDerivation c.from_residual-in_err-finish.result c.args.names.now c.args.place c.args.text.now
+finish_failed : (c : goal.After-drop-log-in_err-finish) → AnswersDerivation c.from_residual-in_err-finish.result c.args.names.now c.args.place c.args.text.now
 finish_failed c =
     let n = c.args.names.now in
     let fault = c.in_err-finish.field-0.0 in
