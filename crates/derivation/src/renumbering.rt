@@ -6,12 +6,20 @@ ghost use Rattle.derivation.specs.Renumbered.{number_for, renumbered};
 use super::event::Event;
 
 /// Numbers of conditions that stand for others: up to a number each stands for itself, and each one behind it for one of a list.
-#[derive(Drop)]
 pub struct Renumbering {
     /// The last number that stands for itself.
     pub same: u32,
     /// What the numbers behind it stand for.
     pub others: Vec<u32>,
+}
+
+impl Drop for Renumbering {
+    fn drop(self) {
+        let Renumbering {
+            same: _,
+            others: _others,
+        } = self;
+    }
 }
 
 impl Renumbering {

@@ -20,10 +20,18 @@ use std::alloc::{AllocError, Global};
 use std::marker::Model;
 
 /// A check of a derivation. It holds the conditions, the state at the open node, and for each node that is open what it replaced.
-#[derive(Drop)]
 pub struct Checker<'a, const K: usize> {
     conds: &'a [Cond],
     progress: Progress<K>,
+}
+
+impl<const K: usize> Drop for Checker<'_, K> {
+    fn drop(self) {
+        let Checker {
+            conds: _,
+            progress: _progress,
+        } = self;
+    }
 }
 
 impl<'a, const K: usize> Model for Checker<'a, K> {

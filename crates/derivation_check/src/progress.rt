@@ -121,7 +121,6 @@ fn finish<const K: usize>(state: &mut State<K>, tasks: &mut Vec<Task>)
 }
 
 /// How far a check has come.
-#[derive(Drop)]
 pub struct Progress<const K: usize> {
     state: State<K>,
     tasks: Vec<Task>,
@@ -129,6 +128,19 @@ pub struct Progress<const K: usize> {
     boxes: Vec<OpenBox<K>>,
     nodes: u64,
     failed: Option<u64>,
+}
+
+impl<const K: usize> Drop for Progress<K> {
+    fn drop(self) {
+        let Progress {
+            state: _state,
+            tasks: _tasks,
+            work: _work,
+            boxes: _boxes,
+            nodes: _,
+            failed: _,
+        } = self;
+    }
 }
 
 impl<const K: usize> Model for Progress<K> {

@@ -38,7 +38,6 @@ pub enum Progress {
 }
 
 /// A derivation that comes in pieces. Of its text only what is open is kept.
-#[derive(Drop)]
 pub struct Feeder<'a> {
     names: &'a Names,
     place: u64,
@@ -46,6 +45,18 @@ pub struct Feeder<'a> {
     progress: Progress,
     /// What may come behind it, the next one last.
     behind: Vec<Symbol>,
+}
+
+impl Drop for Feeder<'_> {
+    fn drop(self) {
+        let Feeder {
+            names: _,
+            place: _,
+            stream: _stream,
+            progress: _progress,
+            behind: _behind,
+        } = self;
+    }
 }
 
 impl<'a> Feeder<'a> {

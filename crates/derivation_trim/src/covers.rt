@@ -192,13 +192,22 @@ pub fn events_from(events: &[Event], at: usize) -> &[Event] {
 }
 
 /// What makes covers simpler, with room that it uses again.
-#[derive(Drop)]
 pub struct Coverer<const K: usize> {
     /// The boxes that are still to be covered, the next one last.
     boxes: Vec<KBox<K>>,
     /// Conditions that the cover names.
     tried: Vec<Tried<K>>,
     recalled: Recalled<K>,
+}
+
+impl<const K: usize> Drop for Coverer<K> {
+    fn drop(self) {
+        let Coverer {
+            boxes: _boxes,
+            tried: _tried,
+            recalled: _recalled,
+        } = self;
+    }
 }
 
 impl<const K: usize> Coverer<K> {

@@ -17,13 +17,22 @@ pub struct Reach<const K: usize> {
 }
 
 /// What is left to each object.
-#[derive(Drop)]
 pub struct Reaches<const K: usize> {
     pub state: State<K>,
     /// For each object the version of what is left to it.
     pub versions: Vec<u64>,
     /// The last version so far.
     last: u64,
+}
+
+impl<const K: usize> Drop for Reaches<K> {
+    fn drop(self) {
+        let Reaches {
+            state: _state,
+            versions: _versions,
+            last: _,
+        } = self;
+    }
 }
 
 impl<const K: usize> Reaches<K> {

@@ -39,9 +39,14 @@ fn slot_of(number: u32, object: ObjId) -> usize {
 }
 
 /// Findings, each in a place of its own, from which a later one may drive it out.
-#[derive(Drop)]
 pub struct Recalled<const K: usize> {
     found: Vec<Found<K>>,
+}
+
+impl<const K: usize> Drop for Recalled<K> {
+    fn drop(self) {
+        let Recalled { found: _found } = self;
+    }
 }
 
 impl<const K: usize> Recalled<K> {

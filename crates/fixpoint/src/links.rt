@@ -11,7 +11,6 @@ use object_pruning::{Rows, rows_of};
 use std::alloc::{AllocError, Global};
 
 /// The links between conditions and objects. The numbers of the conditions count from 1.
-#[derive(Drop)]
 pub struct Links {
     /// For each condition the objects that it names.
     pub named: Vec<Vec<ObjId>>,
@@ -23,6 +22,18 @@ pub struct Links {
     pub rows: Vec<Rows>,
     /// For each object the groups of its rows by the other objects that the conditions name.
     pub pairs: Vec<Pairs>,
+}
+
+impl Drop for Links {
+    fn drop(self) {
+        let Links {
+            named: _named,
+            picks: _picks,
+            bare: _bare,
+            rows: _rows,
+            pairs: _pairs,
+        } = self;
+    }
 }
 
 // The objects that the condition names. Each gets the number of the condition.

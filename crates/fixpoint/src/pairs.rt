@@ -16,12 +16,20 @@ pub struct RowGroup {
 }
 
 /// The groups of an object's rows, by the other object that they name.
-#[derive(Drop)]
 pub struct Pairs {
     /// For each object the groups that name it too, and no third one; for the object itself those that name no other one.
     pub beside: Vec<Vec<RowGroup>>,
     /// The other groups.
     pub others: Vec<RowGroup>,
+}
+
+impl Drop for Pairs {
+    fn drop(self) {
+        let Pairs {
+            beside: _beside,
+            others: _others,
+        } = self;
+    }
 }
 
 // Whether each condition of the group names one object at most, by the lists of what conditions name.

@@ -256,7 +256,6 @@ fn some_state<const K: usize>(alloc: Global, objects: usize) -> Result<State<K>,
 
 /// Propagation by a queue of objects, each pruned by sweeps for its places and for the ends of its intervals. All memory but
 /// that of the record is taken at the start.
-#[derive(Drop)]
 pub struct QueueFixpoint<const K: usize> {
     pub list: Vec<AnyIndexical<K>>,
     links: Links,
@@ -274,6 +273,21 @@ pub struct QueueFixpoint<const K: usize> {
     ghost square: { IsSquare (length queued.items) dirty.items },
     ghost watching: { length watched.items ≡ length list.items },
     ghost stand: { AllStand (map (λ x. x.cond) list.items) last dirty.items kept.items },
+}
+
+impl<const K: usize> Drop for QueueFixpoint<K> {
+    fn drop(self) {
+        let QueueFixpoint {
+            list: _list,
+            links: _links,
+            last: _last,
+            queued: _queued,
+            dirty: _dirty,
+            watched: _watched,
+            kept: _kept,
+            hints: _hints,
+        } = self;
+    }
 }
 
 impl<const K: usize> QueueFixpoint<K> {

@@ -17,10 +17,18 @@ pub struct Term {
 
 /// A sum of coordinates with factors, and a constant. Most forms compare two coordinates, and lie
 /// inline.
-#[derive(Drop)]
 pub struct Form {
     terms: SmallVec<Term, 2>,
     constant: i64,
+}
+
+impl Drop for Form {
+    fn drop(self) {
+        let Form {
+            terms: _terms,
+            constant: _,
+        } = self;
+    }
 }
 
 impl Model for Form {

@@ -9,10 +9,18 @@ use std::alloc::{AllocError, Global};
 use std::marker::Model;
 
 /// Where one object is put: the place of its shape, from 1, and its origin.
-#[derive(Drop)]
 struct Placed {
     place: u8,
     origin: SmallVec<i64, MAX_DIMS>,
+}
+
+impl Drop for Placed {
+    fn drop(self) {
+        let Placed {
+            place: _,
+            origin: _origin,
+        } = self;
+    }
 }
 
 impl Model for Placed {

@@ -7,10 +7,18 @@ use std::marker::Model;
 
 /// In which order a search tries values: the objects one after another, and each dimension upwards
 /// or downwards.
-#[derive(Drop)]
 pub struct SearchOrder {
     objects: Vec<ObjId>,
     down: Vec<bool>,
+}
+
+impl Drop for SearchOrder {
+    fn drop(self) {
+        let SearchOrder {
+            objects: _objects,
+            down: _down,
+        } = self;
+    }
 }
 
 impl Model for SearchOrder {

@@ -14,7 +14,6 @@ pub const MAX_LEVELS: usize = 2000;
 
 /// A state that levels restore. A level saves what is open to an object before it changes it for the
 /// first time, and nothing else. Room for one entry a level and object is taken at the start.
-#[derive(Drop)]
 pub struct Trailed<const K: usize> {
     state: State<K>,
     saved: TrailStack<Saved<K>>,
@@ -23,6 +22,18 @@ pub struct Trailed<const K: usize> {
     // for each level how many entries there were when it was opened
     starts: Vec<usize>,
     depth: usize,
+}
+
+impl<const K: usize> Drop for Trailed<K> {
+    fn drop(self) {
+        let Trailed {
+            state: _state,
+            saved: _saved,
+            marks: _marks,
+            starts: _starts,
+            depth: _,
+        } = self;
+    }
 }
 
 impl<const K: usize> Model for Trailed<K> {

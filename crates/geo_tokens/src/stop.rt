@@ -11,7 +11,7 @@ use crate::token::{Kind, Token, class_of};
 use std::alloc::{AllocError, AllocFailed};
 
 /// Why reading stopped, with the tokens that were left.
-#[derive(Drop)]
+#[derive(Clone, Copy)]
 pub enum Stop<'a> {
     /// Memory ran out.
     Memory,

@@ -12,7 +12,6 @@ use problem_data::problem::Problem;
 use problem_summary::Summary;
 
 /// The answer to a command.
-#[derive(Drop)]
 pub enum Decision {
     /// The text is refused at a place.
     Refuse(u64, FaultWord),
@@ -40,6 +39,26 @@ pub enum Decision {
     BadToken,
     /// What a search has found of a problem that was made from a seed.
     Summed(Summary),
+}
+
+impl Drop for Decision {
+    fn drop(self) {
+        match self {
+            Decision::Refuse(_, _)
+            | Decision::Budget(_)
+            | Decision::Good
+            | Decision::Proved
+            | Decision::Failing(_)
+            | Decision::Large
+            | Decision::BadToken => {}
+            Decision::Nothing(_names, _log) => {}
+            Decision::Layout(_problem, _layout) => {}
+            Decision::Shown(_problem) => {}
+            Decision::Broken(_problem, _) => {}
+            Decision::Drawn(_picture) => {}
+            Decision::Summed(_summary) => {}
+        }
+    }
 }
 
 impl Decision {

@@ -15,10 +15,18 @@ use std::alloc::{AllocError, Global};
 
 /// The cells of one box of an object where a layout puts it: the span of their numbers in each
 /// dimension.
-#[derive(Drop)]
 pub struct Block {
     pub object: ObjId,
     pub spans: Vec<Span>,
+}
+
+impl Drop for Block {
+    fn drop(self) {
+        let Block {
+            object: _,
+            spans: _spans,
+        } = self;
+    }
 }
 
 // The first number of a box in one dimension, and the first one past it.

@@ -6,30 +6,63 @@ use problem_data::tree::Int;
 use rule_syntax::tree::PlacedName;
 
 /// A line: the name of an object, the name of its shape, and its coordinates.
-#[derive(Drop)]
 pub struct LineText {
     pub name: PlacedName,
     pub shape: PlacedName,
     pub origin: Vec<Int>,
 }
 
+impl Drop for LineText {
+    fn drop(self) {
+        let LineText {
+            name: _name,
+            shape: _shape,
+            origin: _origin,
+        } = self;
+    }
+}
+
 /// A group of the token line: which shape of the object's list, from 1, and the coordinates.
-#[derive(Drop)]
 pub struct GroupText {
     pub shape: u32,
     pub origin: Vec<Int>,
 }
 
+impl Drop for GroupText {
+    fn drop(self) {
+        let GroupText {
+            shape: _,
+            origin: _origin,
+        } = self;
+    }
+}
+
 /// The token line, with the place of its word. It has no groups where it says `-`.
-#[derive(Drop)]
 pub struct TokenText {
     pub place: u64,
     pub groups: Vec<GroupText>,
 }
 
+impl Drop for TokenText {
+    fn drop(self) {
+        let TokenText {
+            place: _,
+            groups: _groups,
+        } = self;
+    }
+}
+
 /// All that a layout text says. The token line may be left out.
-#[derive(Drop)]
 pub struct LayoutText {
     pub lines: Vec<LineText>,
     pub token: Option<TokenText>,
+}
+
+impl Drop for LayoutText {
+    fn drop(self) {
+        let LayoutText {
+            lines: _lines,
+            token: _token,
+        } = self;
+    }
 }

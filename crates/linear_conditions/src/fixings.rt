@@ -5,7 +5,7 @@ ghost use Rattle.linear_conditions.specs.Fixings.{fixed_place, place_of};
 ghost use Rattle.linear_conditions.specs.Views.{fixings_view};
 
 /// Objects with the places of their fixed shapes, the innermost first. Each link stands on the stack.
-#[derive(Clone, Copy, Drop)]
+#[derive(Clone, Copy)]
 pub enum Fixings<'a> {
     Nothing,
     /// One more: the object, by its position from 0, and the place of its shape in its own list, from 1.

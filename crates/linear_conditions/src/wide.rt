@@ -32,10 +32,18 @@ pub enum Atom {
 }
 
 /// A sum of coordinates with factors, and a constant. Most have few terms, and lie inline.
-#[derive(Drop)]
 pub struct WideSum {
     terms: SmallVec<WideTerm, 2>,
     constant: i128,
+}
+
+impl Drop for WideSum {
+    fn drop(self) {
+        let WideSum {
+            terms: _terms,
+            constant: _,
+        } = self;
+    }
 }
 
 fn is_same(a: &WideTerm, t: &WideTerm) -> bool
@@ -326,9 +334,10 @@ impl WideSum {
         requires { FitsSigned w128 (self.constant +ℤ pos 1) }
         ensures { wide_view result ≡ plus_one (wide_view self) }
     {
+        let WideSum { terms, constant } = self;
         WideSum {
-            terms: self.terms,
-            constant: self.constant + 1,
+            terms,
+            constant: constant + 1,
         }
     }
 }

@@ -32,12 +32,20 @@ pub struct Run {
 }
 
 /// The conditions that name an object, in rows: first those that ask for no place of it, and then, place by place, those that ask for it.
-#[derive(Drop)]
 pub struct Rows {
     pub rows: Vec<Vec<Group>>,
     /// The runs of the groups of each row.
     pub runs: Vec<Vec<Run>>,
     ghost in_runs: { (r : ℕ) → AreRuns (row rows.items r) (row runs.items r) },
+}
+
+impl Drop for Rows {
+    fn drop(self) {
+        let Rows {
+            rows: _rows,
+            runs: _runs,
+        } = self;
+    }
 }
 
 impl Rows {

@@ -12,10 +12,18 @@ use rule_syntax::tree::Formula;
 use std::marker::Model;
 
 /// A box of a shape: in each dimension where it begins, as seen from the origin of an object, and how many cells it has.
-#[derive(Drop)]
 pub struct BoxDef {
     offsets: Vec<i64>,
     sizes: Vec<i64>,
+}
+
+impl Drop for BoxDef {
+    fn drop(self) {
+        let BoxDef {
+            offsets: _offsets,
+            sizes: _sizes,
+        } = self;
+    }
 }
 
 impl Model for BoxDef {
@@ -50,10 +58,18 @@ impl BoxDef {
 }
 
 /// A shape: its boxes in file order.
-#[derive(Drop)]
 pub struct ShapeDef {
     name: Name,
     boxes: Vec<BoxDef>,
+}
+
+impl Drop for ShapeDef {
+    fn drop(self) {
+        let ShapeDef {
+            name: _name,
+            boxes: _boxes,
+        } = self;
+    }
 }
 
 impl Model for ShapeDef {
@@ -98,20 +114,38 @@ pub struct RangeDef {
 }
 
 /// An attribute of an object.
-#[derive(Drop)]
 pub struct AttributeDef {
     pub name: Name,
     pub value: i64,
 }
 
+impl Drop for AttributeDef {
+    fn drop(self) {
+        let AttributeDef {
+            name: _name,
+            value: _,
+        } = self;
+    }
+}
+
 /// An object: its shapes by their positions in the list of shapes, from 0, the range of each coordinate of its origin, and
 /// its attributes.
-#[derive(Drop)]
 pub struct ObjectDef {
     name: Name,
     shapes: Vec<u16>,
     ranges: Vec<RangeDef>,
     attributes: Vec<AttributeDef>,
+}
+
+impl Drop for ObjectDef {
+    fn drop(self) {
+        let ObjectDef {
+            name: _name,
+            shapes: _shapes,
+            ranges: _ranges,
+            attributes: _attributes,
+        } = self;
+    }
 }
 
 impl Model for ObjectDef {
@@ -185,19 +219,37 @@ impl ObjectDef {
 }
 
 /// A parameter of a macro.
-#[derive(Drop)]
 pub struct ParamDef {
     pub name: Name,
     pub kind: ParamKind,
 }
 
+impl Drop for ParamDef {
+    fn drop(self) {
+        let ParamDef {
+            name: _name,
+            kind: _,
+        } = self;
+    }
+}
+
 /// A macro, with the place of its name in the text.
-#[derive(Drop)]
 pub struct MacroDef {
     place: u64,
     name: Name,
     params: Vec<ParamDef>,
     body: MacroBody,
+}
+
+impl Drop for MacroDef {
+    fn drop(self) {
+        let MacroDef {
+            place: _,
+            name: _name,
+            params: _params,
+            body: _body,
+        } = self;
+    }
 }
 
 impl Model for MacroDef {
@@ -278,11 +330,20 @@ pub enum Demand {
 }
 
 /// A rule, with the place of its name in the text.
-#[derive(Drop)]
 pub struct RuleDef {
     place: u64,
     name: Name,
     demand: Demand,
+}
+
+impl Drop for RuleDef {
+    fn drop(self) {
+        let RuleDef {
+            place: _,
+            name: _name,
+            demand: _demand,
+        } = self;
+    }
 }
 
 impl Model for RuleDef {

@@ -22,11 +22,20 @@ pub struct RangeText {
 }
 
 /// A box of a shape, with the place of its word `box`.
-#[derive(Drop)]
 pub struct BoxText {
     pub place: u64,
     pub offsets: Vec<Int>,
     pub sizes: Vec<Int>,
+}
+
+impl Drop for BoxText {
+    fn drop(self) {
+        let BoxText {
+            place: _,
+            offsets: _offsets,
+            sizes: _sizes,
+        } = self;
+    }
 }
 
 /// The statement of a shape.
@@ -53,10 +62,18 @@ pub struct ObjectText {
 }
 
 /// The statement of the search order, with the place of its word.
-#[derive(Drop)]
 pub struct OrderText {
     pub place: u64,
     pub names: Vec<PlacedName>,
+}
+
+impl Drop for OrderText {
+    fn drop(self) {
+        let OrderText {
+            place: _,
+            names: _names,
+        } = self;
+    }
 }
 
 /// From which end the values of a coordinate are tried.
@@ -86,10 +103,18 @@ pub struct SideText {
 }
 
 /// The statement of the sides, with the place of its word.
-#[derive(Drop)]
 pub struct SidesText {
     pub place: u64,
     pub sides: Vec<SideText>,
+}
+
+impl Drop for SidesText {
+    fn drop(self) {
+        let SidesText {
+            place: _,
+            sides: _sides,
+        } = self;
+    }
 }
 
 /// What a parameter of a macro stands for.

@@ -22,7 +22,7 @@ use rule_names::table::position_of;
 use rule_syntax::tree::{Argument, Expr, Formula, PlacedName};
 
 /// The names in sight, the innermost first. The objects' names are always in sight.
-#[derive(Clone, Copy, Drop)]
+#[derive(Clone, Copy)]
 pub enum Scope<'a> {
     /// The objects alone.
     Objects,
@@ -33,7 +33,7 @@ pub enum Scope<'a> {
 }
 
 /// What a name stands for.
-#[derive(Clone, Copy, Drop)]
+#[derive(Clone, Copy)]
 pub enum Found<'a> {
     Subject(Subject),
     /// An argument that is no bare name, with what is in sight of it: names, and how many macros.
@@ -42,7 +42,7 @@ pub enum Found<'a> {
 }
 
 /// A macro that gives a number, with its position among the macros.
-#[derive(Clone, Copy, Drop)]
+#[derive(Clone, Copy)]
 pub struct ValueMacro<'a> {
     pub index: usize,
     pub params: &'a [ParamDef],
@@ -50,7 +50,7 @@ pub struct ValueMacro<'a> {
 }
 
 /// A macro that gives a formula, with its position among the macros.
-#[derive(Clone, Copy, Drop)]
+#[derive(Clone, Copy)]
 pub struct FormulaMacro<'a> {
     pub index: usize,
     pub params: &'a [ParamDef],

@@ -10,12 +10,22 @@ use std::alloc::{AllocError, Global};
 
 /// A problem whose rules are expanded, with the tables of its names and for each macro the parameter that it hands on, and where
 /// memory is taken from.
-#[derive(Drop)]
 pub struct Source<'a> {
     pub alloc: Global,
     pub problem: &'a Problem,
     pub names: Tables<'a>,
     pub handed: Vec<Option<usize>>,
+}
+
+impl Drop for Source<'_> {
+    fn drop(self) {
+        let Source {
+            alloc: _,
+            problem: _,
+            names: _names,
+            handed: _handed,
+        } = self;
+    }
 }
 
 /// A problem with its tables.

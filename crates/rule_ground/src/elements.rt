@@ -21,7 +21,7 @@ use rule_values::elements::{Elements, elements_of, owner};
 use rule_values::env::{Env, Thing};
 
 /// An element of a quantifier.
-#[derive(Clone, Copy, Drop)]
+#[derive(Clone, Copy)]
 pub enum Element<'a> {
     /// A thing as it is.
     Whole(Thing<'a>),

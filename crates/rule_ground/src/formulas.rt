@@ -32,7 +32,7 @@ use rule_values::env::{Env, Thing};
 use std::alloc::Global;
 
 /// What is grounded at each element of a quantifier: a formula under a sign, with a variable for the element.
-#[derive(Clone, Copy, Drop)]
+#[derive(Clone, Copy)]
 pub struct Site<'a> {
     pub formula: &'a PlainFormula,
     /// True for plus.

@@ -12,7 +12,7 @@ use problem_data::problem::{ParamDef, Problem};
 use problem_data::tree::ParamKind;
 
 /// The names in sight, the innermost first. The objects' names are always in sight.
-#[derive(Clone, Copy, Drop)]
+#[derive(Clone, Copy)]
 pub enum Scope<'a> {
     /// The parameters of a macro; a rule has none.
     Parameters(&'a [ParamDef]),

@@ -12,12 +12,22 @@ use problem_data::seen::SeenNames;
 use std::alloc::{AllocError, Global};
 
 /// The names of a problem's objects, shapes and macros, each in the order of the problem's list, and of all attributes.
-#[derive(Drop)]
 pub struct Tables<'a> {
     pub objects: Box<SeenNames<'a>>,
     pub shapes: Box<SeenNames<'a>>,
     pub macros: Box<SeenNames<'a>>,
     pub attributes: Box<SeenNames<'a>>,
+}
+
+impl Drop for Tables<'_> {
+    fn drop(self) {
+        let Tables {
+            objects: _objects,
+            shapes: _shapes,
+            macros: _macros,
+            attributes: _attributes,
+        } = self;
+    }
 }
 
 // A part of a problem with a name of its own.

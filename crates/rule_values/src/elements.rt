@@ -15,7 +15,7 @@ use problem_data::problem::{BoxDef, Problem};
 use rule_expand::plain::PlainColl;
 
 /// The elements that a variable ranges over.
-#[derive(Clone, Copy, Drop)]
+#[derive(Clone, Copy)]
 pub enum Elements<'a> {
     /// So many objects, from the first one.
     Objects(usize),

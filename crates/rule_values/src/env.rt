@@ -8,7 +8,7 @@ use problem_data::problem::BoxDef;
 use rule_expand::plain::Subject;
 
 /// What a variable stands for.
-#[derive(Clone, Copy, Drop)]
+#[derive(Clone, Copy)]
 pub enum Thing<'a> {
     /// No object and no box: its fields are 0.
     Nothing,
@@ -20,7 +20,7 @@ pub enum Thing<'a> {
 
 /// The variables in sight by their numbers, the innermost first. It takes no memory: each link stands with the call that
 /// binds its variable.
-#[derive(Clone, Copy, Drop)]
+#[derive(Clone, Copy)]
 pub enum Env<'a> {
     Empty,
     More(&'a Env<'a>, u32, Thing<'a>),

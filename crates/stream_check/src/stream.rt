@@ -23,11 +23,20 @@ use geo_tokens::names::Names;
 use std::alloc::{AllocError, Global};
 
 /// A derivation that is checked while it is read. It keeps the nodes and the covers that are open, and the events of one piece.
-#[derive(Drop)]
 pub struct StreamCheck<'a, const K: usize> {
     feeder: Feeder<'a>,
     checker: Checker<'a, K>,
     log: Log,
+}
+
+impl<const K: usize> Drop for StreamCheck<'_, K> {
+    fn drop(self) {
+        let StreamCheck {
+            feeder: _feeder,
+            checker: _checker,
+            log: _log,
+        } = self;
+    }
 }
 
 // Checks all of these events.

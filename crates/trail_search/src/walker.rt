@@ -22,7 +22,6 @@ use std::alloc::AllocError;
 use std::marker::Model;
 
 /// The place of a search in its walk.
-#[derive(Drop)]
 pub struct Walker<const K: usize> {
     pub first: State<K>,
     pub variables: Vec<Variable>,
@@ -31,6 +30,20 @@ pub struct Walker<const K: usize> {
     pub values: Vec<i64>,
     pub along: bool,
     pub walked: u64,
+}
+
+impl<const K: usize> Drop for Walker<K> {
+    fn drop(self) {
+        let Walker {
+            first: _first,
+            variables: _variables,
+            token: _token,
+            trail: _trail,
+            values: _values,
+            along: _,
+            walked: _,
+        } = self;
+    }
 }
 
 impl<const K: usize> Model for Walker<K> {
