@@ -22,6 +22,7 @@ struct Span<const K: usize> {
 }
 
 /// What was read of a derivation, from its end.
+#[derive(Drop)]
 struct Backwards<'a, const K: usize> {
     conditions: &'a [Cond],
     /// The nodes that are part of no other yet, the first in the text last.
@@ -32,18 +33,6 @@ struct Backwards<'a, const K: usize> {
     covers_end: usize,
     /// For each event where the derivation goes on if it is left out, or 0 where it stays.
     jumps: Vec<usize>,
-}
-
-impl<const K: usize> Drop for Backwards<'_, K> {
-    fn drop(self) {
-        let Backwards {
-            conditions: _,
-            spans: _spans,
-            covers: _covers,
-            covers_end: _,
-            jumps: _jumps,
-        } = self;
-    }
 }
 
 // What it takes to refute the condition of this number.
