@@ -24,10 +24,18 @@ pub const MOST_LAYOUTS: usize = 50;
 pub const BUDGET: u64 = 1_000_000;
 
 /// What is open to an object: its places, and the ends of each interval.
-#[derive(Drop)]
 pub struct Open {
     places: Vec<u8>,
     ends: Vec<(i64, i64)>,
+}
+
+impl Drop for Open {
+    fn drop(self) {
+        let Open {
+            places: _places,
+            ends: _ends,
+        } = self;
+    }
 }
 
 impl Open {
@@ -81,7 +89,6 @@ pub fn has_tuple(state: &[Open], puts: &[Put]) -> bool {
 }
 
 /// What a propagator answers.
-#[derive(Drop)]
 pub struct Answers {
     /// What the first settle leaves; nothing where the state is dead.
     pub state: Option<Vec<Open>>,
@@ -89,6 +96,16 @@ pub struct Answers {
     pub layouts: Vec<Vec<Put>>,
     /// Whether the search ended behind them.
     pub ended: bool,
+}
+
+impl Drop for Answers {
+    fn drop(self) {
+        let Answers {
+            state: _state,
+            layouts: _layouts,
+            ended: _,
+        } = self;
+    }
 }
 
 /// What is open to an object of the state.

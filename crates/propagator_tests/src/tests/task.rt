@@ -18,10 +18,18 @@ use rule_ground::ground::ground_rules;
 use std::alloc::Global;
 
 /// A problem with its rules without macros.
-#[derive(Drop)]
 pub struct Task {
     pub problem: Problem,
     pub rules: Vec<PlainRule>,
+}
+
+impl Drop for Task {
+    fn drop(self) {
+        let Task {
+            problem: _problem,
+            rules: _rules,
+        } = self;
+    }
 }
 
 /// Reads a problem whose rules can be judged.

@@ -13,10 +13,18 @@ use rule_expand::plain::PlainRule;
 use std::alloc::{AllocError, Global};
 
 /// Where an object is put: the place of its shape, from 1, and its origin.
-#[derive(Drop)]
 pub struct Put {
     pub place: u8,
     pub origin: Vec<i64>,
+}
+
+impl Drop for Put {
+    fn drop(self) {
+        let Put {
+            place: _,
+            origin: _origin,
+        } = self;
+    }
 }
 
 /// A number that is taken apart, the last digit first.
