@@ -80,14 +80,13 @@ fn sweep_lead<L: Ledger, I: Indexical<3>>(
     lead: usize,
     s: &State<3>,
     list: &[Counted<I>],
-    picks: &[u32],
     steps: &mut Steps<L>,
 ) -> Result<Row, AllocError>
     requires lead { lead < 3 }
     requires object { 0 < length s.now }
     requires fits { AllFit (map (λ x. I.cond x.inner) list.now) s.now }
-    requires picks { ArePicks (length list.now) picks.now }
 {
+    let picks = numbers(alloc, list.len().min(1000))?;
     let way = Way::new(lead, task.up);
     let mut log = if task.keeps {
         Some(Log::new(alloc))
@@ -97,7 +96,7 @@ fn sweep_lead<L: Ledger, I: Indexical<3>>(
     let before = questions(list);
     let mut point = None;
     for _ in 0..task.times {
-        point = sweep_once(s, list, picks, &way, &mut log, steps)?;
+        point = sweep_once(s, list, &picks, &way, &mut log, steps)?;
     }
     let questions = questions(list).wrapping_sub(before);
     Ok(Row { point, questions })
@@ -115,50 +114,57 @@ fn sweep_task<L: Ledger>(
     let s = scene(alloc)?;
     if task.trees {
         let list = trees(alloc, &s)?;
-        let picks = numbers(alloc, list.len().min(1000))?;
-        sweep_lead(alloc, task, lead, &s, &list, &picks, steps)
+        sweep_lead(alloc, task, lead, &s, &list, steps)
     } else {
         let list = boxes(alloc, &s)?;
-        let picks = numbers(alloc, list.len().min(1000))?;
-        sweep_lead(alloc, task, lead, &s, &list, &picks, steps)
+        sweep_lead(alloc, task, lead, &s, &list, steps)
+    }
+}
+
+/// Prints what one lead dimension of a task gave.
+fn print_row(rt: &HostRuntime, task: &Task, lead: usize, row: &Row) -> io::Result<()> {
+    let form = if task.trees { "trees" } else { "boxes" };
+    let record = if task.keeps { "log" } else { "none" };
+    let way = if task.up { "up" } else { "down" };
+    match row.point {
+        Some(p) => println!(rt;
+            "{form} {record} {way} {lead}: at {} {} {}, {} questions",
+            p.get(0),
+            p.get(1),
+            p.get(2),
+            row.questions
+        ),
+        None => println!(rt;
+            "{form} {record} {way} {lead}: nowhere, {} questions",
+            row.questions
+        ),
     }
 }
 
 /// Does a task, and prints a line for each lead dimension.
 fn report<L: Ledger>(rt: &HostRuntime, task: &Task, steps: &mut Steps<L>) -> io::Result<()> {
-    let form = if task.trees { "trees" } else { "boxes" };
-    let record = if task.keeps { "log" } else { "none" };
-    let way = if task.up { "up" } else { "down" };
     for lead in 0..3 {
         let row = sweep_task(rt.alloc(), task, lead, steps)?;
-        match row.point {
-            Some(p) => println!(rt;
-                "{form} {record} {way} {lead}: at {} {} {}, {} questions",
-                p.get(0),
-                p.get(1),
-                p.get(2),
-                row.questions
-            )?,
-            None => println!(rt;
-                "{form} {record} {way} {lead}: nowhere, {} questions",
-                row.questions
-            )?,
-        }
+        print_row(rt, task, lead, &row)?;
     }
     Ok(())
 }
 
+/// The number that a word writes.
+fn number(word: &String) -> Option<u64> {
+    word.as_str().parse::<u64>().ok()
+}
+
 /// The task that the words name.
 fn task_of(words: &[String]) -> Option<Task> {
-    if words.len() != 4 {
+    let [form, record, way, times] = words else {
         return None;
-    }
-    let times = words[3].as_str().parse::<u64>().ok()?;
+    };
     Some(Task {
-        trees: words[0].as_str() == "trees",
-        keeps: words[1].as_str() == "log",
-        up: words[2].as_str() == "up",
-        times,
+        trees: form.as_str() == "trees",
+        keeps: record.as_str() == "log",
+        up: way.as_str() == "up",
+        times: number(times)?,
     })
 }
 
@@ -192,8 +198,9 @@ fn run<L: Ledger>(blank: Blank, rt: &HostRuntime, task: Option<Task>) -> io::Res
 
 fn main(rt: HostRuntime) -> io::Result<()> {
     let mut words = Vec::new(rt.alloc());
-    if let Ok(all) = env::args(&rt) {
-        for word in all.skip(1) {
+    if let Ok(mut all) = env::args(&rt) {
+        let _program = all.next();
+        for word in all {
             words.push(word)?;
         }
     }
