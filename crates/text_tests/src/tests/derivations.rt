@@ -83,19 +83,36 @@ fn is_right(read: Result<Vec<u8>, TextFault>, fault: Option<(u64, FaultWord)>) -
     }
 }
 
-#[test]
-fn derivations_are_read_in_any_pieces(rt: HostRuntime) -> Result<(), Fail> {
-    let names = table(rt.alloc())?;
-    for size in SIZES {
-        for text in [LINES, SPELLED] {
-            let read = lines(rt.alloc(), &names, text, *size);
-            assert!(rt; is_right(read, None), "pieces of {size}");
-        }
-        for (text, place, word) in FAULTS {
-            let read = lines(rt.alloc(), &names, text, *size);
-            assert!(rt; is_right(read, Some((*place, *word))), "pieces of {size}");
+/// Whether all texts are read right where they come in pieces of this size.
+fn are_read(alloc: Global, names: &Names, size: usize) -> bool {
+    for text in [LINES, SPELLED] {
+        if !is_right(lines(alloc, names, text, size), None) {
+            return false;
         }
     }
+    for (text, place, word) in FAULTS {
+        if !is_right(lines(alloc, names, text, size), Some((*place, *word))) {
+            return false;
+        }
+    }
+    true
+}
+
+/// The first size of pieces in which a text is read wrong.
+fn wrong_size(alloc: Global) -> Result<Option<usize>, AllocError> {
+    let names = table(alloc)?;
+    for size in SIZES {
+        if !are_read(alloc, &names, *size) {
+            return Ok(Some(*size));
+        }
+    }
+    Ok(None)
+}
+
+#[test]
+fn derivations_are_read_in_any_pieces(rt: HostRuntime) -> Result<(), Fail> {
+    let wrong = wrong_size(rt.alloc())?;
+    assert!(rt; wrong.is_none(), "pieces of {wrong:?}");
     Ok(())
 }
 
@@ -112,8 +129,11 @@ fn answers(alloc: Global, names: &Names, pieces: &[&[u8]]) -> Result<String, All
     Ok(shown)
 }
 
-/// Pieces, and what is answered to them: a token is whole with the byte behind it, a byte that can begin no token at once.
-const PIECES: &[(&[&[u8]], &str)] = &[
+/// Pieces, and what is answered to them.
+type Row = (&'static [&'static [u8]], &'static str);
+
+/// A token is whole with the byte behind it, a byte that can begin no token at once.
+const PIECES: &[Row] = &[
     (
         &[b"dead 1", b" ", b"qed", b" ", b"?"],
         "Ok(false) 0, Ok(false) 1, Ok(false) 1, Ok(true) 1, Ok(true) 1, ",
@@ -136,13 +156,24 @@ const PIECES: &[(&[&[u8]], &str)] = &[
     ),
 ];
 
+/// What the first row wants whose pieces are answered with something else.
+fn wrong_answer(
+    alloc: Global,
+    rows: &'static [Row],
+) -> Result<Option<&'static str>, AllocError> {
+    let names = table(alloc)?;
+    for (pieces, wanted) in rows {
+        let shown = answers(alloc, &names, pieces)?;
+        if shown.as_str() != *wanted {
+            return Ok(Some(wanted));
+        }
+    }
+    Ok(None)
+}
+
 #[test]
 fn answers_come_with_the_piece_that_completes_them(rt: HostRuntime) -> Result<(), Fail> {
-    let alloc = rt.alloc();
-    let names = table(alloc)?;
-    for (pieces, wanted) in PIECES {
-        let shown = answers(alloc, &names, pieces)?;
-        assert!(rt; shown.as_str() == *wanted);
-    }
+    let wrong = wrong_answer(rt.alloc(), PIECES)?;
+    assert!(rt; wrong.is_none(), "{wrong:?}");
     Ok(())
 }

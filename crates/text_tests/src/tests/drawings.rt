@@ -209,12 +209,23 @@ fn is_answer(
     Ok(answer(alloc, problem, layout)?.as_slice() == wanted)
 }
 
+/// The first layout text that has another drawing or fault than its row says.
+fn wrong_layout(
+    alloc: Global,
+    rows: &'static [Row],
+) -> Result<Option<&'static [u8]>, AllocError> {
+    for (problem, layout, wanted) in rows {
+        if !is_answer(alloc, problem, layout, wanted)? {
+            return Ok(Some(layout));
+        }
+    }
+    Ok(None)
+}
+
 #[test]
 fn layouts_are_read_and_drawn(rt: HostRuntime) -> Result<(), Fail> {
-    for (problem, layout, wanted) in ROWS {
-        let is_right = is_answer(rt.alloc(), problem, layout, wanted)?;
-        assert!(rt; is_right);
-    }
+    let wrong = wrong_layout(rt.alloc(), ROWS)?;
+    assert!(rt; wrong.is_none(), "{wrong:?}");
     Ok(())
 }
 
@@ -245,26 +256,46 @@ const LONG_ROWS: &[Long] = &[
     ),
 ];
 
+/// Whether a drawing is so long, and begins and ends so.
+fn is_drawing(drawing: &[u8], length: usize, front: &[u8], end: &[u8]) -> bool {
+    drawing.len() == length && drawing.starts_with(front) && drawing.ends_with(end)
+}
+
+/// The first layout text that has another long drawing than its row says.
+fn wrong_long_layout(
+    alloc: Global,
+    rows: &'static [Long],
+) -> Result<Option<&'static [u8]>, TextFault> {
+    for (problem, layout, length, front, end) in rows {
+        if !is_drawing(&drawn(alloc, problem, layout)?, *length, front, end) {
+            return Ok(Some(layout));
+        }
+    }
+    Ok(None)
+}
+
 #[test]
 fn a_million_cells_are_drawn(rt: HostRuntime) -> Result<(), Fail> {
-    for (problem, layout, length, front, end) in LONG_ROWS {
-        let long = drawn(rt.alloc(), problem, layout)?;
-        let is_right = long.len() == *length && long.starts_with(front) && long.ends_with(end);
-        assert!(rt; is_right);
-    }
+    let wrong = wrong_long_layout(rt.alloc(), LONG_ROWS)?;
+    assert!(rt; wrong.is_none(), "{wrong:?}");
     Ok(())
 }
 
 /// A sink that takes five bytes in a call and fails at the second one.
-#[test]
-fn a_fault_leaves_the_front_of_a_drawing(rt: HostRuntime) -> Result<(), Fail> {
-    let problem = read_problem(rt.alloc(), LINE)?;
-    let layout = read_layout(rt.alloc(), &problem, b"layout a as s at 0 b as s at 2", 0)?;
-    let mut sink = MemSink::new(rt.alloc(), 5, vec![in rt.alloc(); 2]?);
+fn leaves_a_front(alloc: Global) -> Result<bool, TextFault> {
+    let problem = read_problem(alloc, LINE)?;
+    let layout = read_layout(alloc, &problem, b"layout a as s at 0 b as s at 2", 0)?;
+    let mut sink = MemSink::new(alloc, 5, vec![in alloc; 2]?);
     let failed = matches!(
-        draw(rt.alloc(), &problem, &layout, &mut sink),
+        draw(alloc, &problem, &layout, &mut sink),
         Err(PutFault::Failed)
     );
-    assert!(rt; failed && sink.bytes() == b"box 0".as_slice());
+    Ok(failed && sink.bytes() == b"box 0".as_slice())
+}
+
+#[test]
+fn a_fault_leaves_the_front_of_a_drawing(rt: HostRuntime) -> Result<(), Fail> {
+    let is_right = leaves_a_front(rt.alloc())?;
+    assert!(rt; is_right);
     Ok(())
 }

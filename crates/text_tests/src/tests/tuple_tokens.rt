@@ -21,8 +21,10 @@ const PLANE: &[u8] = b"geost 1 dims 2 shape flat box 0 0 size 2 1 ; shape tall b
 
 const EMPTY: &[u8] = b"geost 1 dims 1 end";
 
-/// Problems and words, with the layout block of the tuple that a word stands for.
-const ROWS: &[(&[u8], &[u8], &[u8])] = &[
+/// A problem and a word, with the layout block of the tuple that the word stands for, or its fault.
+type Row = (&'static [u8], &'static [u8], &'static [u8]);
+
+const ROWS: &[Row] = &[
     (
         LINE,
         b"1,0/1,2",
@@ -106,11 +108,23 @@ fn block(alloc: Global, problem: &[u8], word: &[u8]) -> Result<Vec<u8>, TextFaul
     }
 }
 
+/// The first word that has another block or fault than its row says.
+fn wrong_word(
+    alloc: Global,
+    rows: &'static [Row],
+) -> Result<Option<&'static [u8]>, TextFault> {
+    for (problem, word, wanted) in rows {
+        let found = block(alloc, problem, word)?;
+        if found.as_slice() != *wanted {
+            return Ok(Some(word));
+        }
+    }
+    Ok(None)
+}
+
 #[test]
 fn a_token_is_read_in_its_one_spelling(rt: HostRuntime) -> Result<(), Fail> {
-    for (problem, word, wanted) in ROWS {
-        let found = block(rt.alloc(), problem, word)?;
-        assert!(rt; found.as_slice() == *wanted);
-    }
+    let wrong = wrong_word(rt.alloc(), ROWS)?;
+    assert!(rt; wrong.is_none(), "{wrong:?}");
     Ok(())
 }
