@@ -12,7 +12,7 @@ use std::env;
 use std::io::{self, ErrorKind};
 
 /// Why the words could not be read.
-#[derive(Clone, Copy, Debug, PartialEq, Eq)]
+#[derive(Clone, Copy)]
 pub enum Unread {
     /// There was no memory for them.
     Memory,
@@ -22,12 +22,13 @@ pub enum Unread {
 
 /// The words behind the program's name.
 pub fn arguments(rt: &HostRuntime) -> Result<Vec<String>, Unread> {
-    let all = match env::args(rt) {
+    let mut all = match env::args(rt) {
         Ok(all) => all,
         Err(fault) => return Err(why_unread(&fault)),
     };
+    let _program = all.next();
     let mut words = Vec::new(rt.alloc());
-    for word in all.skip(1) {
+    for word in all {
         if words.push(word).is_err() {
             return Err(Unread::Memory);
         }
