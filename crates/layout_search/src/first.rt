@@ -69,7 +69,10 @@ fn search_in<const K: usize>(
     let mut search = start_search::<K, Log>(alloc, problem, conditions, None, budget, record)?;
     match search.next() {
         Step::Found => Ok(Outcome::Found(found_layout(alloc, problem, &search)?)),
-        Step::Ended => Ok(Outcome::Nothing(search.into_recorder())),
+        Step::Ended => {
+            let derivation = search.into_recorder();
+            Ok(Outcome::Nothing(derivation))
+        }
         Step::Budget => Ok(Outcome::OutOfBudget),
         Step::Memory => Err(AllocError),
     }

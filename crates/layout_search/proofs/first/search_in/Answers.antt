@@ -56,7 +56,7 @@ returns-in-Ended-clause-walk g c =
       over = c.in_ok-search.ensures.over;
       steps = c.in-Ended.ensures.steps;
     })
-    c.into_recorder.result
+    c.into_recorder-derivation.result
 
 pub returns-in-Ended-clause-layout : goal.returns-in-Ended-clause-layout
 returns-in-Ended-clause-layout g c =
@@ -97,6 +97,6 @@ returns-in-Ended-clause-derivation g c =
         over = c.in_ok-search.ensures.over;
         steps = c.in-Ended.ensures.steps;
       })
-          c.into_recorder.result.events c.into_recorder.ensures.events (subst (λ (x : Step). HasRecorded x b) c.in-Ended.is recorded),
+          c.into_recorder-derivation.result.events c.into_recorder-derivation.ensures.events (subst (λ (x : Step). HasRecorded x b) c.in-Ended.is recorded),
       c.requires.few,
     )
