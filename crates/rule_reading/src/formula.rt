@@ -14,7 +14,7 @@ ghost use Rattle.rule_syntax.specs.View.{argument_views, formula_view, formula_v
 ghost use Rattle.rule_reading.specs.Bound.{quantified_over_at};
 
 use crate::quantifier::{QUANTIFIERS, begins_quantifier, bound};
-use geo_tokens::stop::{Stop, next_is, one_of, refusal, start_of, token};
+use geo_tokens::stop::{Stop, add, followed_by, next_is, one_of, refusal, start_of, token};
 use geo_tokens::token::{Keyword, Kind, Sym, Token};
 use rule_syntax::expression::{arguments, expression};
 use rule_syntax::tree::{Argument, Formula, Rel};
@@ -160,9 +160,8 @@ fn brackets<'a>(
     ensures { Gives formula_view result (brackets_at (formula_at text.now below) tokens.now) }
 {
     let (_, rest) = token(tokens, Kind::Symbol(Sym::BracketOpen))?;
-    let (inner, rest) = formula(alloc, text, below, rest)?;
-    let (_, rest) = token(rest, Kind::Symbol(Sym::BracketClose))?;
-    Ok((inner, rest))
+    let inner = formula(alloc, text, below, rest);
+    followed_by(inner, Kind::Symbol(Sym::BracketClose))
 }
 
 /// A quantifier with its variable and its body.
@@ -289,9 +288,8 @@ fn more_unaries<'a>(
     let mut operands = Vec::new(alloc);
     let mut rest = tokens;
     'items: while next_is(rest, Kind::Word(Keyword::And)) {
-        let (operand, after) = and_unary(alloc, text, levels, rest)?;
-        operands.push(operand)?;
-        rest = after;
+        let operand = and_unary(alloc, text, levels, rest);
+        rest = add(&mut operands, operand)?;
     }
     Ok((operands, rest))
 }
@@ -353,9 +351,8 @@ fn more_conjunctions<'a>(
     let mut operands = Vec::new(alloc);
     let mut rest = tokens;
     'items: while next_is(rest, Kind::Word(Keyword::Or)) {
-        let (operand, after) = or_conjunction(alloc, text, levels, rest)?;
-        operands.push(operand)?;
-        rest = after;
+        let operand = or_conjunction(alloc, text, levels, rest);
+        rest = add(&mut operands, operand)?;
     }
     Ok((operands, rest))
 }

@@ -11,7 +11,7 @@ ghost use Rattle.rule_syntax.specs.Reading.{each_at, count_at, quantifier_at, ne
 ghost use Rattle.rule_syntax.specs.View.{coll_view, names_view};
 ghost use Rattle.rule_reading.specs.Bound.{range_at, bound_at, bound_view};
 
-use geo_tokens::stop::{Stop, next_in, next_is, one_of, token};
+use geo_tokens::stop::{Stop, add, followed_by, next_in, next_is, one_of, token};
 use geo_tokens::token::{Keyword, Kind, Sym, Token, number_in};
 use rule_syntax::tree::{Coll, PlacedName, QuantKind};
 use rule_syntax::words::placed_name;
@@ -108,9 +108,8 @@ fn more_names<'a>(
     let mut names = Vec::new(alloc);
     let mut rest = tokens;
     'items: while next_is(rest, Kind::Symbol(Sym::Comma)) {
-        let (name, after) = next_name(alloc, text, rest)?;
-        names.push(name)?;
-        rest = after;
+        let name = next_name(alloc, text, rest);
+        rest = add(&mut names, name)?;
     }
     Ok((names, rest))
 }
@@ -125,8 +124,8 @@ fn name_list<'a>(
 {
     let (_, rest) = token(tokens, Kind::Symbol(Sym::ParenOpen))?;
     let (first, rest) = placed_name(alloc, text, rest)?;
-    let (mut names, rest) = more_names(alloc, text, rest)?;
-    let (_, rest) = token(rest, Kind::Symbol(Sym::ParenClose))?;
+    let names = more_names(alloc, text, rest);
+    let (mut names, rest) = followed_by(names, Kind::Symbol(Sym::ParenClose))?;
     names.insert(0, first)?;
     Ok((Coll::Listed(names), rest))
 }
@@ -155,8 +154,8 @@ fn boxes<'a>(
 ) -> Result<(Coll, &'a [Token]), Stop<'a>>
     ensures { Gives coll_view result (boxes_at text.now tokens.now) }
 {
-    let (_, rest) = token(tokens, Kind::Word(Keyword::Boxes))?;
-    let (_, rest) = token(rest, Kind::Word(Keyword::Of))?;
+    let word = token(tokens, Kind::Word(Keyword::Boxes));
+    let (_, rest) = followed_by(word, Kind::Word(Keyword::Of))?;
     let (name, rest) = placed_name(alloc, text, rest)?;
     Ok((Coll::BoxesOf(name), rest))
 }
@@ -185,9 +184,8 @@ fn range<'a>(
     ensures { Gives coll_view result (range_at text.now tokens.now) }
 {
     let (_, rest) = token(tokens, Kind::Word(Keyword::In))?;
-    let (collection, rest) = collection(alloc, text, rest)?;
-    let (_, rest) = token(rest, Kind::Symbol(Sym::Colon))?;
-    Ok((collection, rest))
+    let collection = collection(alloc, text, rest);
+    followed_by(collection, Kind::Symbol(Sym::Colon))
 }
 
 /// A quantifier with its place, its variable and what that ranges over.
