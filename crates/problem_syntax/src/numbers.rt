@@ -8,7 +8,7 @@ ghost use Rattle.problem_data.specs.Grammar.{plain_int};
 ghost use Rattle.problem_data.specs.Meaning.{number_of};
 ghost use Rattle.problem_syntax.specs.Reading.{plain_int_at, negative_int_at, int_at, ints_at, range_at, ranges_at};
 
-use geo_tokens::stop::{Stop, next_in, next_is, token};
+use geo_tokens::stop::{Stop, add, followed_by, next_in, next_is, token};
 use geo_tokens::token::{Kind, Sym, Token, number_in};
 use problem_data::tree::{Int, RangeText};
 use std::alloc::{AllocError, Global};
@@ -86,9 +86,8 @@ pub fn ints(alloc: Global, tokens: &[Token]) -> Result<(Vec<Int>, &[Token]), Sto
     let mut read = vec![in alloc; first]?;
     let mut rest = after;
     'items: while begins_int(rest) {
-        let (one, after) = int(rest)?;
-        read.push(one)?;
-        rest = after;
+        let one = int(rest);
+        rest = add(&mut read, one)?;
     }
     Ok((read, rest))
 }
@@ -98,8 +97,7 @@ pub fn ints(alloc: Global, tokens: &[Token]) -> Result<(Vec<Int>, &[Token]), Sto
 fn range(tokens: &[Token]) -> Result<(RangeText, &[Token]), Stop<'_>>
     ensures { Gives (λ r. r) result (range_at tokens.now) }
 {
-    let (low, rest) = int(tokens)?;
-    let (_, rest) = token(rest, Kind::Symbol(Sym::DotDot))?;
+    let (low, rest) = followed_by(int(tokens), Kind::Symbol(Sym::DotDot))?;
     let (high, rest) = int(rest)?;
     Ok((RangeText { low, high }, rest))
 }
@@ -113,9 +111,8 @@ pub fn ranges(alloc: Global, tokens: &[Token]) -> Result<(Vec<RangeText>, &[Toke
     let mut read = vec![in alloc; first]?;
     let mut rest = after;
     'items: while begins_int(rest) {
-        let (one, after) = range(rest)?;
-        read.push(one)?;
-        rest = after;
+        let one = range(rest);
+        rest = add(&mut read, one)?;
     }
     Ok((read, rest))
 }

@@ -8,7 +8,7 @@ ghost use Rattle.problem_data.specs.View.{box_view, box_views, statement_view};
 
 use crate::end::ended;
 use crate::numbers::{int, ints, ranges};
-use geo_tokens::stop::{Stop, next_is, token};
+use geo_tokens::stop::{Stop, add, followed_by, next_is, token};
 use geo_tokens::token::{Keyword, Kind, Sym, Token};
 use problem_data::tree::{AttributeText, BoxText, ObjectText, ShapeText, Statement};
 use rule_syntax::tree::PlacedName;
@@ -21,8 +21,7 @@ fn shape_box(alloc: Global, tokens: &[Token]) -> Result<(BoxText, &[Token]), Sto
     ensures { Gives box_view result (box_at tokens.now) }
 {
     let (word, rest) = token(tokens, Kind::Word(Keyword::Box))?;
-    let (offsets, rest) = ints(alloc, rest)?;
-    let (_, rest) = token(rest, Kind::Word(Keyword::Size))?;
+    let (offsets, rest) = followed_by(ints(alloc, rest), Kind::Word(Keyword::Size))?;
     let (sizes, rest) = ints(alloc, rest)?;
     Ok((
         BoxText {
@@ -43,9 +42,8 @@ fn boxes(alloc: Global, tokens: &[Token]) -> Result<(Vec<BoxText>, &[Token]), St
     let mut read = vec![in alloc; first]?;
     let mut rest = after;
     'items: while next_is(rest, Kind::Word(Keyword::Box)) {
-        let (one, after) = shape_box(alloc, rest)?;
-        read.push(one)?;
-        rest = after;
+        let one = shape_box(alloc, rest);
+        rest = add(&mut read, one)?;
     }
     Ok((read, rest))
 }
@@ -90,9 +88,8 @@ pub fn names<'a>(
     let mut read = vec![in alloc; first]?;
     let mut rest = after;
     'items: while next_is(rest, Kind::Symbol(Sym::Comma)) {
-        let (one, after) = next_name(alloc, text, rest)?;
-        read.push(one)?;
-        rest = after;
+        let one = next_name(alloc, text, rest);
+        rest = add(&mut read, one)?;
     }
     Ok((read, rest))
 }
@@ -106,8 +103,8 @@ fn attribute<'a>(
 ) -> Result<(AttributeText, &'a [Token]), Stop<'a>>
     ensures { Gives (λ a. a) result (attribute_at text.now tokens.now) }
 {
-    let (name, rest) = placed_name(alloc, text, tokens)?;
-    let (_, rest) = token(rest, Kind::Symbol(Sym::Equal))?;
+    let name = placed_name(alloc, text, tokens);
+    let (name, rest) = followed_by(name, Kind::Symbol(Sym::Equal))?;
     let (value, rest) = int(rest)?;
     Ok((AttributeText { name, value }, rest))
 }
@@ -137,9 +134,8 @@ fn attribute_list<'a>(
     let mut read = vec![in alloc; first]?;
     let mut rest = after;
     'items: while next_is(rest, Kind::Symbol(Sym::Comma)) {
-        let (one, after) = next_attribute(alloc, text, rest)?;
-        read.push(one)?;
-        rest = after;
+        let one = next_attribute(alloc, text, rest);
+        rest = add(&mut read, one)?;
     }
     Ok((read, rest))
 }
@@ -192,8 +188,8 @@ pub fn object<'a>(
     ensures { Gives statement_view result (object_at text.now tokens.now) }
 {
     let (_, rest) = token(tokens, Kind::Word(Keyword::Object))?;
-    let (name, rest) = placed_name(alloc, text, rest)?;
-    let (_, rest) = token(rest, Kind::Word(Keyword::As))?;
+    let name = placed_name(alloc, text, rest);
+    let (name, rest) = followed_by(name, Kind::Word(Keyword::As))?;
     let (shapes, rest) = names(alloc, text, rest)?;
     object_rest(alloc, text, name, shapes, rest)
 }

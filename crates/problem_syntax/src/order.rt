@@ -9,7 +9,7 @@ ghost use Rattle.problem_data.specs.View.{statement_view};
 
 use crate::end::ended;
 use crate::objects::names;
-use geo_tokens::stop::{Stop, next_in, one_of, token};
+use geo_tokens::stop::{Stop, add, next_in, one_of, token};
 use geo_tokens::token::{Keyword, Kind, Token};
 use problem_data::tree::{OrderText, Side, SideText, SidesText, Statement};
 use std::alloc::Global;
@@ -72,9 +72,8 @@ fn side_list(alloc: Global, tokens: &[Token]) -> Result<(Vec<SideText>, &[Token]
     let mut read = vec![in alloc; first]?;
     let mut rest = after;
     'items: while begins_side(rest) {
-        let (one, after) = side(rest)?;
-        read.push(one)?;
-        rest = after;
+        let one = side(rest);
+        rest = add(&mut read, one)?;
     }
     Ok((read, rest))
 }

@@ -8,7 +8,7 @@ ghost use Rattle.problem_data.specs.View.{body_view, demand_view, statement_view
 
 use crate::end::ended;
 use crate::numbers::ranges;
-use geo_tokens::stop::{Stop, next_is, one_of, token};
+use geo_tokens::stop::{Stop, add, followed_by, next_is, one_of, token};
 use geo_tokens::token::{Keyword, Kind, Sym, Token};
 use problem_data::tree::{
     MacroBody, MacroText, ParamKind, ParamText, RuleBody, RuleText, Statement,
@@ -39,8 +39,8 @@ fn param<'a>(
 ) -> Result<(ParamText, &'a [Token]), Stop<'a>>
     ensures { Gives (λ p. p) result (param_at text.now tokens.now) }
 {
-    let (name, rest) = placed_name(alloc, text, tokens)?;
-    let (_, rest) = token(rest, Kind::Symbol(Sym::Colon))?;
+    let name = placed_name(alloc, text, tokens);
+    let (name, rest) = followed_by(name, Kind::Symbol(Sym::Colon))?;
     let (word, rest) = one_of(
         rest,
         &[
@@ -78,9 +78,8 @@ fn param_list<'a>(
     let mut read = vec![in alloc; first]?;
     let mut rest = after;
     'items: while next_is(rest, Kind::Symbol(Sym::Comma)) {
-        let (one, after) = next_param(alloc, text, rest)?;
-        read.push(one)?;
-        rest = after;
+        let one = next_param(alloc, text, rest);
+        rest = add(&mut read, one)?;
     }
     Ok((read, rest))
 }
@@ -110,9 +109,8 @@ fn params<'a>(
     ensures { Gives (λ v. v.items) result (params_at text.now tokens.now) }
 {
     let (_, rest) = token(tokens, Kind::Symbol(Sym::ParenOpen))?;
-    let (params, rest) = some_params(alloc, text, rest)?;
-    let (_, rest) = token(rest, Kind::Symbol(Sym::ParenClose))?;
-    Ok((params, rest))
+    let params = some_params(alloc, text, rest);
+    followed_by(params, Kind::Symbol(Sym::ParenClose))
 }
 
 /// A formula that a macro stands for.
