@@ -82,12 +82,10 @@ fn begins_int(tokens: &[Token]) -> bool
 pub fn ints(alloc: Global, tokens: &[Token]) -> Result<(Vec<Int>, &[Token]), Stop<'_>>
     ensures { Gives (λ v. v.items) result (ints_at tokens.now) }
 {
-    let (first, after) = int(tokens)?;
-    let mut read = vec![in alloc; first]?;
-    let mut rest = after;
+    let mut read = Vec::new(alloc);
+    let mut rest = add(&mut read, int(tokens))?;
     'items: while begins_int(rest) {
-        let one = int(rest);
-        rest = add(&mut read, one)?;
+        rest = add(&mut read, int(rest))?;
     }
     Ok((read, rest))
 }
@@ -107,12 +105,10 @@ fn range(tokens: &[Token]) -> Result<(RangeText, &[Token]), Stop<'_>>
 pub fn ranges(alloc: Global, tokens: &[Token]) -> Result<(Vec<RangeText>, &[Token]), Stop<'_>>
     ensures { Gives (λ v. v.items) result (ranges_at tokens.now) }
 {
-    let (first, after) = range(tokens)?;
-    let mut read = vec![in alloc; first]?;
-    let mut rest = after;
+    let mut read = Vec::new(alloc);
+    let mut rest = add(&mut read, range(tokens))?;
     'items: while begins_int(rest) {
-        let one = range(rest);
-        rest = add(&mut read, one)?;
+        rest = add(&mut read, range(rest))?;
     }
     Ok((read, rest))
 }

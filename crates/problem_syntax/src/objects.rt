@@ -38,12 +38,10 @@ fn shape_box(alloc: Global, tokens: &[Token]) -> Result<(BoxText, &[Token]), Sto
 fn boxes(alloc: Global, tokens: &[Token]) -> Result<(Vec<BoxText>, &[Token]), Stop<'_>>
     ensures { Gives box_views result (boxes_at tokens.now) }
 {
-    let (first, after) = shape_box(alloc, tokens)?;
-    let mut read = vec![in alloc; first]?;
-    let mut rest = after;
+    let mut read = Vec::new(alloc);
+    let mut rest = add(&mut read, shape_box(alloc, tokens))?;
     'items: while next_is(rest, Kind::Word(Keyword::Box)) {
-        let one = shape_box(alloc, rest);
-        rest = add(&mut read, one)?;
+        rest = add(&mut read, shape_box(alloc, rest))?;
     }
     Ok((read, rest))
 }
@@ -84,12 +82,10 @@ pub fn names<'a>(
 ) -> Result<(Vec<PlacedName>, &'a [Token]), Stop<'a>>
     ensures { Gives (λ v. v.items) result (names_at text.now tokens.now) }
 {
-    let (first, after) = placed_name(alloc, text, tokens)?;
-    let mut read = vec![in alloc; first]?;
-    let mut rest = after;
+    let mut read = Vec::new(alloc);
+    let mut rest = add(&mut read, placed_name(alloc, text, tokens))?;
     'items: while next_is(rest, Kind::Symbol(Sym::Comma)) {
-        let one = next_name(alloc, text, rest);
-        rest = add(&mut read, one)?;
+        rest = add(&mut read, next_name(alloc, text, rest))?;
     }
     Ok((read, rest))
 }
@@ -130,12 +126,10 @@ fn attribute_list<'a>(
 ) -> Result<(Vec<AttributeText>, &'a [Token]), Stop<'a>>
     ensures { Gives (λ v. v.items) result (attribute_list_at text.now tokens.now) }
 {
-    let (first, after) = attribute(alloc, text, tokens)?;
-    let mut read = vec![in alloc; first]?;
-    let mut rest = after;
+    let mut read = Vec::new(alloc);
+    let mut rest = add(&mut read, attribute(alloc, text, tokens))?;
     'items: while next_is(rest, Kind::Symbol(Sym::Comma)) {
-        let one = next_attribute(alloc, text, rest);
-        rest = add(&mut read, one)?;
+        rest = add(&mut read, next_attribute(alloc, text, rest))?;
     }
     Ok((read, rest))
 }

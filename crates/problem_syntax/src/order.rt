@@ -68,12 +68,10 @@ fn begins_side(tokens: &[Token]) -> bool
 fn side_list(alloc: Global, tokens: &[Token]) -> Result<(Vec<SideText>, &[Token]), Stop<'_>>
     ensures { Gives (λ v. v.items) result (side_list_at tokens.now) }
 {
-    let (first, after) = side(tokens)?;
-    let mut read = vec![in alloc; first]?;
-    let mut rest = after;
+    let mut read = Vec::new(alloc);
+    let mut rest = add(&mut read, side(tokens))?;
     'items: while begins_side(rest) {
-        let one = side(rest);
-        rest = add(&mut read, one)?;
+        rest = add(&mut read, side(rest))?;
     }
     Ok((read, rest))
 }

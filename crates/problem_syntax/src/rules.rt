@@ -74,12 +74,10 @@ fn param_list<'a>(
 ) -> Result<(Vec<ParamText>, &'a [Token]), Stop<'a>>
     ensures { Gives (λ v. v.items) result (param_list_at text.now tokens.now) }
 {
-    let (first, after) = param(alloc, text, tokens)?;
-    let mut read = vec![in alloc; first]?;
-    let mut rest = after;
+    let mut read = Vec::new(alloc);
+    let mut rest = add(&mut read, param(alloc, text, tokens))?;
     'items: while next_is(rest, Kind::Symbol(Sym::Comma)) {
-        let one = next_param(alloc, text, rest);
-        rest = add(&mut read, one)?;
+        rest = add(&mut read, next_param(alloc, text, rest))?;
     }
     Ok((read, rest))
 }

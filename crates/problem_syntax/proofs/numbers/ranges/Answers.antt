@@ -8,12 +8,12 @@ use Rattle.problem_syntax.proofs.numbers.ranges.Goals as goal
 
 pub items-smaller : goal.items-smaller
 items-smaller c =
-    let lt : length c.in_ok-rest.rest.now < length c.items.rest.now = one_shorter RangeWords range_at int_firsts [] range_good refl
-        (λ a. a) c.range-one.result c.items.read.items c.add.new.items.items c.items.rest.now c.in_ok-rest.rest c.in_ok-rest.ensures c.range-one.ensures in
+    let lt : length c.in_ok-rest-2.rest.now < length c.items.rest.now = one_shorter RangeWords range_at int_firsts [] range_good refl
+        (λ a. a) c.range-in-items.result c.items.read.items c.add-in-items.new.items.items c.items.rest.now c.in_ok-rest-2.rest c.in_ok-rest-2.ensures c.range-in-items.ensures in
     omega arith
 
 pub items-preserved : goal.items-preserved
 items-preserved c =
     one_more_alone RangeWords range_at int_firsts [] range_good refl
-    c.range-one.result c.items.read.items c.add.new.items.items c.items.rest.now c.in_ok-rest.rest (ranges_at c.args.tokens.now)
-    (sym c.begins_int.ensures ∙ c.items-test.true) c.in_ok-rest.ensures c.range-one.ensures c.items.invariant
+    c.range-in-items.result c.items.read.items c.add-in-items.new.items.items c.items.rest.now c.in_ok-rest-2.rest (ranges_at c.args.tokens.now)
+    (sym c.begins_int.ensures ∙ c.items-test.true) c.in_ok-rest-2.ensures c.range-in-items.ensures c.items.invariant

@@ -11,12 +11,12 @@ use Rattle.problem_syntax.proofs.objects.boxes.Goals as goal
 
 pub items-smaller : goal.items-smaller
 items-smaller c =
-    let lt : length c.in_ok-rest.rest.now < length c.items.rest.now = one_shorter BoxWords box_at (word keywords.Box) int_firsts box_good refl
-        box_view c.shape_box-one.result c.items.read.items c.add.new.items.items c.items.rest.now c.in_ok-rest.rest c.in_ok-rest.ensures c.shape_box-one.ensures in
+    let lt : length c.in_ok-rest-2.rest.now < length c.items.rest.now = one_shorter BoxWords box_at (word keywords.Box) int_firsts box_good refl
+        box_view c.shape_box-in-items.result c.items.read.items c.add-in-items.new.items.items c.items.rest.now c.in_ok-rest-2.rest c.in_ok-rest-2.ensures c.shape_box-in-items.ensures in
     omega arith
 
 pub items-preserved : goal.items-preserved
 items-preserved c =
     one_more BoxWords box_at (word keywords.Box) int_firsts box_good refl
-    box_view c.shape_box-one.result c.items.read.items c.add.new.items.items c.items.rest.now c.in_ok-rest.rest (boxes_at c.args.tokens.now)
-    (sym c.next_is.ensures ∙ c.items-test.true) c.in_ok-rest.ensures c.shape_box-one.ensures c.items.invariant
+    box_view c.shape_box-in-items.result c.items.read.items c.add-in-items.new.items.items c.items.rest.now c.in_ok-rest-2.rest (boxes_at c.args.tokens.now)
+    (sym c.next_is.ensures ∙ c.items-test.true) c.in_ok-rest-2.ensures c.shape_box-in-items.ensures c.items.invariant
