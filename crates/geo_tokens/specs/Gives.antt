@@ -1,5 +1,5 @@
 -- What a function that reads returned is what reading gives, unless memory ran out.
-use Rattle.std.specs.Prelude.{ℕ, ◌≡◌, List, [], ◌∷◌, ◌++◌, drop, true, false, Some, None, Result, Ok, Err}
+use Rattle.std.specs.Prelude.{ℕ, ◌≡◌, List, [], ◌∷◌, ◌++◌, drop, true, false, Option, Some, None, Result, Ok, Err}
 use Rattle.std.specs.Borrow.{Bor}
 use Rattle.geo_tokens.specs.declared.token.Token.{Token}
 use Rattle.geo_tokens.specs.Words.{Kinds, Lang}
@@ -20,6 +20,11 @@ Gives view (Err e) r = Fails e r
 -- the values before, and those that are read behind them
 abbrev pub with_front : {A : Type 0} → List A → Read (List A) → Read (List A)
 with_front front read = read >>= λ others rest. Got (Some (front ++ others)) rest
+
+-- the tokens behind one of these kinds, where one stands
+abbrev pub IsBehind : Kinds → List Token → Option (Bor (List Token)) → Type 0
+IsBehind ks w (Some rest) = (t : Token) × (next_is ks w ≡ true) × (token_at ks w ≡ Got (Some t) rest.now)
+IsBehind ks w None = (next_is ks w ≡ false) × (token_at ks w ≡ Wrong w)
 
 -- A value was found, or reading stopped; and a token of these kinds was taken behind it.
 abbrev pub Follows : {X : Type 0} → Kinds → Result (X × Bor (List Token)) Stop → Result (X × Bor (List Token)) Stop → Type 0

@@ -3,7 +3,7 @@
 ghost use Rattle.std.specs.Prelude.{◌≡◌, ◌∷◌, []};
 ghost use Rattle.geo_tokens.specs.Words.{start_of, has, kinds_of};
 ghost use Rattle.geo_tokens.specs.Reading.{next_is, token_at};
-ghost use Rattle.geo_tokens.specs.Gives.{Gives, Follows, Adds, Refuses};
+ghost use Rattle.geo_tokens.specs.Gives.{Gives, IsBehind, Follows, Adds, Refuses};
 ghost use Rattle.geo_tokens.specs.declared.stop.Stop.TheVariants.{Memory};
 ghost use Rattle.geo_tokens.specs.Class.{class_of};
 
@@ -54,6 +54,22 @@ pub fn next_is(tokens: &[Token], kind: Kind) -> bool
     match tokens {
         [first, ..] => class_of(first.kind) == class_of(kind),
         [] => false,
+    }
+}
+
+/// The tokens behind one of this kind, where one stands.
+pub fn behind(tokens: &[Token], kind: Kind) -> Option<&[Token]>
+    ensures { IsBehind (class_of kind ∷ []) tokens.now result }
+{
+    match tokens {
+        [first, rest @ ..] => {
+            if class_of(first.kind) == class_of(kind) {
+                Some(rest)
+            } else {
+                None
+            }
+        }
+        [] => None,
     }
 }
 
