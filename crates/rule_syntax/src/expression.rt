@@ -15,7 +15,7 @@ use crate::words::{
     begins_expression, division, extreme_of, extreme_word, flat_factor, number, placed_name,
     product_goes_on, shape_number, sum_goes_on, sum_mark, variable,
 };
-use geo_tokens::stop::{Stop, add, followed_by, next_is, start_of, token};
+use geo_tokens::stop::{Stop, add, behind, followed_by, next_is, start_of, token};
 use geo_tokens::token::{Keyword, Kind, Sym, Token};
 use std::alloc::{AllocError, Global};
 
@@ -44,7 +44,9 @@ fn parens<'a>(
 ) -> Result<(Expr, &'a [Token]), Stop<'a>>
     ensures { Gives expr_view result (parens_at (expr_at text.now below) tokens.now) }
 {
-    let (_, rest) = token(tokens, Kind::Symbol(Sym::ParenOpen))?;
+    let Some(rest) = behind(tokens, Kind::Symbol(Sym::ParenOpen)) else {
+        return Err(Stop::Wrong(tokens));
+    };
     let inner = expression(alloc, text, below, rest);
     followed_by(inner, Kind::Symbol(Sym::ParenClose))
 }
@@ -59,7 +61,9 @@ fn next_argument<'a>(
 ) -> Result<(Argument, &'a [Token]), Stop<'a>>
     ensures { Gives argument_view result (next_argument_at (expr_at text.now below) tokens.now) }
 {
-    let (_, list) = token(tokens, Kind::Symbol(Sym::Comma))?;
+    let Some(list) = behind(tokens, Kind::Symbol(Sym::Comma)) else {
+        return Err(Stop::Wrong(tokens));
+    };
     let (value, rest) = expression(alloc, text, below, list)?;
     Ok((
         Argument {
@@ -120,7 +124,9 @@ pub fn arguments<'a>(
 ) -> Result<(Vec<Argument>, &'a [Token]), Stop<'a>>
     ensures { Gives argument_views result (args_over_at (expr_at text.now below) tokens.now) }
 {
-    let (_, rest) = token(tokens, Kind::Symbol(Sym::ParenOpen))?;
+    let Some(rest) = behind(tokens, Kind::Symbol(Sym::ParenOpen)) else {
+        return Err(Stop::Wrong(tokens));
+    };
     let arguments = argument_list(alloc, text, below, rest);
     followed_by(arguments, Kind::Symbol(Sym::ParenClose))
 }
@@ -152,7 +158,9 @@ fn pair<'a>(
 ) -> Result<((Expr, Expr), &'a [Token]), Stop<'a>>
     ensures { Gives pair_view result (pair_at (expr_at text.now below) tokens.now) }
 {
-    let (_, rest) = token(tokens, Kind::Symbol(Sym::ParenOpen))?;
+    let Some(rest) = behind(tokens, Kind::Symbol(Sym::ParenOpen)) else {
+        return Err(Stop::Wrong(tokens));
+    };
     let first = expression(alloc, text, below, rest);
     let (first, rest) = followed_by(first, Kind::Symbol(Sym::Comma))?;
     let second = expression(alloc, text, below, rest);
@@ -233,8 +241,7 @@ fn product_step<'a>(
 ) -> Result<(ProdStep, &'a [Token]), Stop<'a>>
     ensures { Gives product_view result (product_step_at (factor_at text.now levels) tokens.now) }
 {
-    if next_is(tokens, Kind::Symbol(Sym::Star)) {
-        let (_, rest) = token(tokens, Kind::Symbol(Sym::Star))?;
+    if let Some(rest) = behind(tokens, Kind::Symbol(Sym::Star)) {
         let (factor, rest) = factor(alloc, text, levels, rest)?;
         Ok((ProdStep::Times(factor), rest))
     } else {
