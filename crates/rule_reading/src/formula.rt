@@ -14,7 +14,7 @@ ghost use Rattle.rule_syntax.specs.View.{argument_views, formula_view, formula_v
 ghost use Rattle.rule_reading.specs.Bound.{quantified_over_at};
 
 use crate::quantifier::{QUANTIFIERS, begins_quantifier, bound};
-use geo_tokens::stop::{Stop, add, followed_by, next_is, one_of, refusal, start_of, token};
+use geo_tokens::stop::{Stop, add, behind, followed_by, next_is, one_of, refusal, start_of, token};
 use geo_tokens::token::{Keyword, Kind, Sym, Token};
 use rule_syntax::expression::{arguments, expression};
 use rule_syntax::tree::{Argument, Formula, Rel};
@@ -159,7 +159,9 @@ fn brackets<'a>(
 ) -> Result<(Formula, &'a [Token]), Stop<'a>>
     ensures { Gives formula_view result (brackets_at (formula_at text.now below) tokens.now) }
 {
-    let (_, rest) = token(tokens, Kind::Symbol(Sym::BracketOpen))?;
+    let Some(rest) = behind(tokens, Kind::Symbol(Sym::BracketOpen)) else {
+        return Err(Stop::Wrong(tokens));
+    };
     let inner = formula(alloc, text, below, rest);
     followed_by(inner, Kind::Symbol(Sym::BracketClose))
 }
@@ -270,7 +272,9 @@ fn and_unary<'a>(
 ) -> Result<(Formula, &'a [Token]), Stop<'a>>
     ensures { Gives formula_view result (and_unary_at text.now levels tokens.now) }
 {
-    let (_, rest) = token(tokens, Kind::Word(Keyword::And))?;
+    let Some(rest) = behind(tokens, Kind::Word(Keyword::And)) else {
+        return Err(Stop::Wrong(tokens));
+    };
     unary(alloc, text, levels, rest)
 }
 
@@ -333,7 +337,9 @@ fn or_conjunction<'a>(
 ) -> Result<(Formula, &'a [Token]), Stop<'a>>
     ensures { Gives formula_view result (or_conjunction_at text.now levels tokens.now) }
 {
-    let (_, rest) = token(tokens, Kind::Word(Keyword::Or))?;
+    let Some(rest) = behind(tokens, Kind::Word(Keyword::Or)) else {
+        return Err(Stop::Wrong(tokens));
+    };
     conjunction(alloc, text, levels, rest)
 }
 
@@ -397,10 +403,9 @@ fn implied<'a>(
     ensures { Gives behind_view result
         (behind_at (word keywords.Implies) (disjunction_at text.now levels) tokens.now) }
 {
-    if !next_is(tokens, Kind::Word(Keyword::Implies)) {
+    let Some(rest) = behind(tokens, Kind::Word(Keyword::Implies)) else {
         return Ok((None, tokens));
-    }
-    let (_, rest) = token(tokens, Kind::Word(Keyword::Implies))?;
+    };
     let (second, rest) = disjunction(alloc, text, levels, rest)?;
     Ok((Some(second), rest))
 }
@@ -455,10 +460,9 @@ fn equivalent<'a>(
     ensures { Gives behind_view result
         (behind_at (word keywords.Iff) (implication_at text.now levels) tokens.now) }
 {
-    if !next_is(tokens, Kind::Word(Keyword::Iff)) {
+    let Some(rest) = behind(tokens, Kind::Word(Keyword::Iff)) else {
         return Ok((None, tokens));
-    }
-    let (_, rest) = token(tokens, Kind::Word(Keyword::Iff))?;
+    };
     let (second, rest) = implication(alloc, text, levels, rest)?;
     Ok((Some(second), rest))
 }
