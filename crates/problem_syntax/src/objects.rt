@@ -8,7 +8,7 @@ ghost use Rattle.problem_data.specs.View.{box_view, box_views, statement_view};
 
 use crate::end::ended;
 use crate::numbers::{int, ints, ranges};
-use geo_tokens::stop::{Stop, add, followed_by, next_is, token};
+use geo_tokens::stop::{Stop, add, behind, followed_by, next_is, token};
 use geo_tokens::token::{Keyword, Kind, Sym, Token};
 use problem_data::tree::{AttributeText, BoxText, ObjectText, ShapeText, Statement};
 use rule_syntax::tree::PlacedName;
@@ -55,7 +55,9 @@ pub fn shape<'a>(
 ) -> Result<(Statement, &'a [Token]), Stop<'a>>
     ensures { Gives statement_view result (shape_at text.now tokens.now) }
 {
-    let (_, rest) = token(tokens, Kind::Word(Keyword::Shape))?;
+    let Some(rest) = behind(tokens, Kind::Word(Keyword::Shape)) else {
+        return Err(Stop::Wrong(tokens));
+    };
     let (name, rest) = placed_name(alloc, text, rest)?;
     let (boxes, rest) = boxes(alloc, rest)?;
     ended(Statement::Shape(ShapeText { name, boxes }), rest)
@@ -69,7 +71,9 @@ fn next_name<'a>(
 ) -> Result<(PlacedName, &'a [Token]), Stop<'a>>
     ensures { Gives (λ n. n) result (next_at (named_at text.now) tokens.now) }
 {
-    let (_, rest) = token(tokens, Kind::Symbol(Sym::Comma))?;
+    let Some(rest) = behind(tokens, Kind::Symbol(Sym::Comma)) else {
+        return Err(Stop::Wrong(tokens));
+    };
     placed_name(alloc, text, rest)
 }
 
@@ -113,7 +117,9 @@ fn next_attribute<'a>(
 ) -> Result<(AttributeText, &'a [Token]), Stop<'a>>
     ensures { Gives (λ a. a) result (next_at (attribute_at text.now) tokens.now) }
 {
-    let (_, rest) = token(tokens, Kind::Symbol(Sym::Comma))?;
+    let Some(rest) = behind(tokens, Kind::Symbol(Sym::Comma)) else {
+        return Err(Stop::Wrong(tokens));
+    };
     attribute(alloc, text, rest)
 }
 
@@ -143,10 +149,9 @@ fn attributes<'a>(
 ) -> Result<(Vec<AttributeText>, &'a [Token]), Stop<'a>>
     ensures { Gives (λ v. v.items) result (attributes_at text.now tokens.now) }
 {
-    if !next_is(tokens, Kind::Word(Keyword::With)) {
+    let Some(rest) = behind(tokens, Kind::Word(Keyword::With)) else {
         return Ok((Vec::new(alloc), tokens));
-    }
-    let (_, rest) = token(tokens, Kind::Word(Keyword::With))?;
+    };
     attribute_list(alloc, text, rest)
 }
 
@@ -160,7 +165,9 @@ fn object_rest<'a>(
 ) -> Result<(Statement, &'a [Token]), Stop<'a>>
     ensures { Gives statement_view result (object_rest_at text.now name shapes.items tokens.now) }
 {
-    let (_, rest) = token(tokens, Kind::Word(Keyword::At))?;
+    let Some(rest) = behind(tokens, Kind::Word(Keyword::At)) else {
+        return Err(Stop::Wrong(tokens));
+    };
     let (ranges, rest) = ranges(alloc, rest)?;
     let (attributes, rest) = attributes(alloc, text, rest)?;
     let object = ObjectText {
@@ -181,7 +188,9 @@ pub fn object<'a>(
 ) -> Result<(Statement, &'a [Token]), Stop<'a>>
     ensures { Gives statement_view result (object_at text.now tokens.now) }
 {
-    let (_, rest) = token(tokens, Kind::Word(Keyword::Object))?;
+    let Some(rest) = behind(tokens, Kind::Word(Keyword::Object)) else {
+        return Err(Stop::Wrong(tokens));
+    };
     let name = placed_name(alloc, text, rest);
     let (name, rest) = followed_by(name, Kind::Word(Keyword::As))?;
     let (shapes, rest) = names(alloc, text, rest)?;

@@ -11,7 +11,7 @@ use crate::numbers::int_of;
 use crate::objects::{object, shape};
 use crate::order::{order, sides};
 use crate::rules::{macro_statement, rule};
-use geo_tokens::stop::{Stop, add, followed_by, next_in, next_is, token};
+use geo_tokens::stop::{Stop, add, behind, followed_by, next_in, next_is, token};
 use geo_tokens::token::{Keyword, Kind, Token};
 use problem_data::tree::{Int, ProblemText, Statement};
 use std::alloc::Global;
@@ -111,7 +111,9 @@ pub fn problem<'a>(
 ) -> Result<(ProblemText, &'a [Token]), Stop<'a>>
     ensures { Gives problem_view result (problem_at text.now levels tokens.now) }
 {
-    let (_, rest) = token(tokens, Kind::Word(Keyword::Geost))?;
+    let Some(rest) = behind(tokens, Kind::Word(Keyword::Geost)) else {
+        return Err(Stop::Wrong(tokens));
+    };
     let version = token(rest, Kind::Number(0));
     let (version, rest) = followed_by(version, Kind::Word(Keyword::Dims))?;
     let (dims, rest) = token(rest, Kind::Number(0))?;
