@@ -1,12 +1,11 @@
 -- What goes on behind a value that was read.
-use Rattle.std.proofs.Common.{◌≡◌, ◌<◌, List, [], ◌∷◌, ◌++◌, length, map, sym, ap, subst, ◌∙◌, Result, Ok, Err, Some, None, true, false}
+use Rattle.std.proofs.Common.{◌≡◌, ◌<◌, List, [], ◌∷◌, ◌++◌, length, map, sym, ap, subst, ◌∙◌, Result, Ok, Err, Some, true, false}
 use Rattle.std.proofs.lemmas.List.{map_push}
 use Rattle.std.specs.Borrow.{Bor}
 use Rattle.geo_tokens.specs.declared.token.Token.{Token}
 use Rattle.geo_tokens.specs.declared.stop.Stop.{Stop}
-use Rattle.geo_tokens.specs.declared.stop.Stop.TheVariants as stops
 use Rattle.geo_tokens.specs.Words.{Kinds, Lang}
-use Rattle.geo_tokens.specs.Reading.{Read, Got, Wrong, token_at, next_is, many_at, ◌>>=◌}
+use Rattle.geo_tokens.specs.Reading.{Read, Got, token_at, next_is, many_at, ◌>>=◌}
 use Rattle.geo_tokens.specs.Gives.{Fails, Gives, Follows, Adds, with_front}
 use Rattle.geo_tokens.proofs.Lists.{disjoint}
 use Rattle.geo_tokens.proofs.Good.{Good}
