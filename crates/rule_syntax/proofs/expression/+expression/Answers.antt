@@ -1,6 +1,4 @@
-use Rattle.std.proofs.Common.{◌≡◌, ◌∷◌, [], ◌++◌, ◌<◌, length, sym, subst, ◌∙◌, arith, refl}
-use Rattle.std.proofs.lemmas.List.{map_push}
-use Rattle.std.proofs.lemmas.Result.{err_from_is_err_and}
+use Rattle.std.proofs.Common.{◌<◌, length, sym, subst, ◌∙◌, arith, refl}
 use Rattle.geo_tokens.specs.declared.token.Sym.TheVariants as syms
 use Rattle.geo_tokens.specs.Words.{symbol, Bind, Tok, Placed}
 use Rattle.geo_tokens.specs.Gives.{Gives}
@@ -12,7 +10,6 @@ use Rattle.rule_syntax.specs.Tree.{ExprTree, argument}
 use Rattle.rule_syntax.specs.Grammar.{ProductStep, SumStep, Term, Factor, ExprWords}
 use Rattle.rule_syntax.specs.Reading.{factor_at, term_at, expr_at, product_step_at, sum_step_at, next_argument_at}
 use Rattle.rule_syntax.specs.View.{expr_view, sum_view, sum_views, product_view, product_views, argument_view, argument_views}
-use Rattle.rule_syntax.proofs.Stopped.{stopped, out_of_memory}
 use Rattle.rule_syntax.proofs.Expressions.{product_step_is_good, sum_step_is_good, next_argument_is_good, factor_flat, factor_nested}
 use Rattle.rule_syntax.proofs.expression.+expression.Goals as goal
 
@@ -27,7 +24,7 @@ factor-returns-else-levels-eq0 t c =
 pub more_terms-items-smaller : goal.more_terms-items-smaller
 more_terms-items-smaller t c =
     let lt : length c.in_ok-rest.rest.now < length c.items.rest.now = one_shorter (SumStep (Term (Factor c.args.text.now c.args.levels))) (sum_step_at (term_at c.args.text.now c.args.levels)) (symbols syms.Plus syms.Minus) term_behinds (sum_step_is_good c.args.text.now c.args.levels) refl
-        sum_view c.sum_step-step.result c.items.steps.items c.add.new.items.items c.items.rest.now c.in_ok-rest.rest c.in_ok-rest.ensures c.sum_step-step.ensures in
+    sum_view c.sum_step-step.result c.items.steps.items c.add.new.items.items c.items.rest.now c.in_ok-rest.rest c.in_ok-rest.ensures c.sum_step-step.ensures in
     omega arith
 
 pub more_terms-items-preserved : goal.more_terms-items-preserved
@@ -39,7 +36,7 @@ more_terms-items-preserved t c =
 pub more_factors-items-smaller : goal.more_factors-items-smaller
 more_factors-items-smaller t c =
     let lt : length c.in_ok-rest.rest.now < length c.items.rest.now = one_shorter (ProductStep (Factor c.args.text.now c.args.levels)) (product_step_at (factor_at c.args.text.now c.args.levels)) product_marks (symbol syms.Dot) (product_step_is_good c.args.text.now c.args.levels) refl
-        product_view c.product_step-step.result c.items.steps.items c.add.new.items.items c.items.rest.now c.in_ok-rest.rest c.in_ok-rest.ensures c.product_step-step.ensures in
+    product_view c.product_step-step.result c.items.steps.items c.add.new.items.items c.items.rest.now c.in_ok-rest.rest c.in_ok-rest.ensures c.product_step-step.ensures in
     omega arith
 
 pub more_factors-items-preserved : goal.more_factors-items-preserved
@@ -51,7 +48,7 @@ more_factors-items-preserved t c =
 pub more_arguments-items-smaller : goal.more_arguments-items-smaller
 more_arguments-items-smaller t c =
     let lt : length c.in_ok-rest.rest.now < length c.items.rest.now = one_shorter (Bind (Tok (symbol syms.Comma)) (λ mark. Placed (ExprWords c.args.text.now c.args.below) argument)) (next_argument_at (expr_at c.args.text.now c.args.below)) (symbol syms.Comma) expr_behinds (next_argument_is_good c.args.text.now c.args.below) refl
-        argument_view c.next_argument-argument.result c.items.arguments.items c.add.new.items.items c.items.rest.now c.in_ok-rest.rest c.in_ok-rest.ensures c.next_argument-argument.ensures in
+    argument_view c.next_argument-argument.result c.items.arguments.items c.add.new.items.items c.items.rest.now c.in_ok-rest.rest c.in_ok-rest.ensures c.next_argument-argument.ensures in
     omega arith
 
 pub more_arguments-items-preserved : goal.more_arguments-items-preserved
@@ -68,4 +65,3 @@ more_factors-returns t c = is_done product_marks (product_step_at (factor_at c.a
 
 pub more_arguments-returns : goal.more_arguments-returns
 more_arguments-returns t c = is_done (symbol syms.Comma) (next_argument_at (expr_at c.args.text.now c.args.below)) (argument_views c.items.arguments) c.items.rest.now (many_at (symbol syms.Comma) (next_argument_at (expr_at c.args.text.now c.args.below)) c.args.tokens.now) (sym c.next_is.ensures ∙ c.items-test.false) c.items.invariant
-
