@@ -1,6 +1,4 @@
-use Rattle.std.proofs.Common.{◌≡◌, ◌∷◌, [], ◌++◌, ◌<◌, length, sym, subst, ◌∙◌, arith, refl}
-use Rattle.std.proofs.lemmas.List.{map_push}
-use Rattle.std.proofs.lemmas.Result.{err_from_is_err_and}
+use Rattle.std.proofs.Common.{◌<◌, length, sym, subst, ◌∙◌, arith, refl}
 use Rattle.geo_tokens.specs.declared.token.Keyword.TheVariants as keywords
 use Rattle.geo_tokens.specs.Words.{word, Bind, Tok}
 use Rattle.geo_tokens.specs.Gives.{Gives}
@@ -12,7 +10,6 @@ use Rattle.rule_syntax.specs.Tree.{FormulaTree}
 use Rattle.rule_syntax.specs.Grammar.{Unary, Conjunction}
 use Rattle.rule_syntax.specs.Reading.{and_unary_at, or_conjunction_at}
 use Rattle.rule_syntax.specs.View.{formula_view, formula_views}
-use Rattle.rule_syntax.proofs.Stopped.{stopped, out_of_memory}
 use Rattle.rule_reading.proofs.Formulas.{and_unary_good, or_conjunction_good, unary_flat, unary_nested}
 use Rattle.rule_reading.proofs.formula.+formula.Goals as goal
 
@@ -27,7 +24,7 @@ unary-returns-else-levels-eq0 t c =
 pub more_unaries-items-smaller : goal.more_unaries-items-smaller
 more_unaries-items-smaller t c =
     let lt : length c.in_ok-rest.rest.now < length c.items.rest.now = one_shorter (Bind (Tok (word keywords.And)) (λ mark. Unary c.args.text.now c.args.levels)) (and_unary_at c.args.text.now c.args.levels) (word keywords.And) expr_behinds (and_unary_good c.args.text.now c.args.levels) refl
-        formula_view c.and_unary-operand.result c.items.operands.items c.add.new.items.items c.items.rest.now c.in_ok-rest.rest c.in_ok-rest.ensures c.and_unary-operand.ensures in
+    formula_view c.and_unary-operand.result c.items.operands.items c.add.new.items.items c.items.rest.now c.in_ok-rest.rest c.in_ok-rest.ensures c.and_unary-operand.ensures in
     omega arith
 
 pub more_unaries-items-preserved : goal.more_unaries-items-preserved
@@ -39,7 +36,7 @@ more_unaries-items-preserved t c =
 pub more_conjunctions-items-smaller : goal.more_conjunctions-items-smaller
 more_conjunctions-items-smaller t c =
     let lt : length c.in_ok-rest.rest.now < length c.items.rest.now = one_shorter (Bind (Tok (word keywords.Or)) (λ mark. Conjunction (Unary c.args.text.now c.args.levels))) (or_conjunction_at c.args.text.now c.args.levels) (word keywords.Or) conjunction_behinds (or_conjunction_good c.args.text.now c.args.levels) refl
-        formula_view c.or_conjunction-operand.result c.items.operands.items c.add.new.items.items c.items.rest.now c.in_ok-rest.rest c.in_ok-rest.ensures c.or_conjunction-operand.ensures in
+    formula_view c.or_conjunction-operand.result c.items.operands.items c.add.new.items.items c.items.rest.now c.in_ok-rest.rest c.in_ok-rest.ensures c.or_conjunction-operand.ensures in
     omega arith
 
 pub more_conjunctions-items-preserved : goal.more_conjunctions-items-preserved

@@ -1,4 +1,4 @@
-use Rattle.std.proofs.Common.{◌≡◌, ◌∷◌, [], ◌++◌, sym, ◌∙◌, refl}
+use Rattle.std.proofs.Common.{[], sym, ◌∙◌, refl}
 use Rattle.geo_tokens.specs.declared.token.Sym.TheVariants as syms
 use Rattle.geo_tokens.specs.Words.{symbol, Bind, Tok}
 use Rattle.geo_tokens.specs.Reading.{many_at}
