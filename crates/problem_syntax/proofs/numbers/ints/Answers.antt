@@ -9,7 +9,7 @@ use Rattle.problem_syntax.proofs.numbers.ints.Goals as goal
 pub items-smaller : goal.items-smaller
 items-smaller c =
     let lt : length c.in_ok-rest-2.rest.now < length c.items.rest.now = one_shorter IntWords int_at int_firsts [] int_good refl
-        (λ a. a) c.int-in-items.result c.items.read.items c.add-in-items.new.items.items c.items.rest.now c.in_ok-rest-2.rest c.in_ok-rest-2.ensures c.int-in-items.ensures in
+    (λ a. a) c.int-in-items.result c.items.read.items c.add-in-items.new.items.items c.items.rest.now c.in_ok-rest-2.rest c.in_ok-rest-2.ensures c.int-in-items.ensures in
     omega arith
 
 pub items-preserved : goal.items-preserved

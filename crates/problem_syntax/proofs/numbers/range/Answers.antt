@@ -4,7 +4,7 @@ use Rattle.geo_tokens.specs.declared.token.Token.{Token}
 use Rattle.geo_tokens.specs.declared.token.Sym.TheVariants as symbols
 use Rattle.geo_tokens.specs.declared.stop.Stop.{Stop}
 use Rattle.geo_tokens.specs.Words.{symbol}
-use Rattle.geo_tokens.specs.Reading.{Read, Got, token_at}
+use Rattle.geo_tokens.specs.Reading.{Got, token_at}
 use Rattle.geo_tokens.specs.Gives.{Gives, Follows}
 use Rattle.problem_data.specs.declared.tree.Int.{Int}
 use Rattle.problem_syntax.specs.Reading.{int_at, range_at}

@@ -10,7 +10,7 @@ use Rattle.problem_syntax.proofs.objects.attribute_list.Goals as goal
 pub items-smaller : goal.items-smaller
 items-smaller c =
     let lt : length c.in_ok-rest-2.rest.now < length c.items.rest.now = one_shorter (Bind (Tok (symbol symbols.Comma)) (λ mark. AttributeWords c.args.text.now)) (next_at (attribute_at c.args.text.now)) (symbol symbols.Comma) [] (next_attribute_good c.args.text.now) refl
-        (λ a. a) c.next_attribute.result c.items.read.items c.add-in-items.new.items.items c.items.rest.now c.in_ok-rest-2.rest c.in_ok-rest-2.ensures c.next_attribute.ensures in
+    (λ a. a) c.next_attribute.result c.items.read.items c.add-in-items.new.items.items c.items.rest.now c.in_ok-rest-2.rest c.in_ok-rest-2.ensures c.next_attribute.ensures in
     omega arith
 
 pub items-preserved : goal.items-preserved
