@@ -11,7 +11,7 @@ use Rattle.layout_text.proofs.groups.later_numbers.Goals as goal
 pub items-smaller : goal.items-smaller
 items-smaller c =
     let lt : length c.in_ok-rest.rest.now < length c.items.rest.now = one_shorter (Bind (Tok (symbol Comma)) (λ mark. IntWords)) (next_at int_at) (symbol Comma) [] next_int_good refl
-        (λ a. a) c.next_number.result c.items.read.items c.add.new.items.items c.items.rest.now c.in_ok-rest.rest c.in_ok-rest.ensures c.next_number.ensures in
+    (λ a. a) c.next_number.result c.items.read.items c.add.new.items.items c.items.rest.now c.in_ok-rest.rest c.in_ok-rest.ensures c.next_number.ensures in
     omega arith
 
 pub items-preserved : goal.items-preserved
