@@ -57,15 +57,6 @@ module _ {A : Type 0} (L : Lang A) (r : List Token → Read A) (f e : Kinds) (go
       let four : many_at f r (t ∷ w) ≡ (many_at f r after >>= λ others last. Got (Some (a ∷ others)) last) = one ∙ two ∙ ap (λ (x : Read (List A)). x >>= λ others last. Got (Some (a ∷ others)) last) three in
       sym (ap (with_front front) four ∙ regroup front a (many_at f r after)) ∙ so_far
 
-  -- an item could not be read
-  pub ends : (e : Stop) (front : List A) (w : List Token) (total : Read (List A)) → next_is f w ≡ true → Fails e (r w) → with_front front (many_at f r w) ≡ total → Fails e total
-  unfolding rest_at
-  ends e front [] total test h so_far = absurd cc
-  ends e front (t ∷ w) total test h so_far =
-      let one : Fails e (rest_at (length w) (r (t ∷ w))) = fails_first e (r (t ∷ w)) _ h in
-      let two : Fails e (with_front front (rest_at (length w) (r (t ∷ w)))) = fails_first e (rest_at (length w) (r (t ∷ w))) _ one in
-      subst (λ (x : Read (List A)). Fails e x) (ap (with_front front) (sym (step_of t w test)) ∙ so_far) two
-
 -- no more items stand there
 none_at : {A : Type 0} (f : Kinds) (r : List Token → Read A) (k : ℕ) (w : List Token) → next_is f w ≡ false → up_to_at f r k w ≡ Got (Some []) w
 none_at f r zero w test = refl

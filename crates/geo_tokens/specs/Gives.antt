@@ -1,12 +1,12 @@
 -- What a function that reads returned is what reading gives, unless memory ran out.
-use Rattle.std.specs.Prelude.{ℕ, ◌≡◌, List, ◌++◌, drop, true, false, Some, None, Result, Ok, Err}
+use Rattle.std.specs.Prelude.{ℕ, ◌≡◌, List, [], ◌∷◌, ◌++◌, drop, true, false, Option, Some, None, Result, Ok, Err}
 use Rattle.std.specs.Borrow.{Bor}
 use Rattle.geo_tokens.specs.declared.token.Token.{Token}
 use Rattle.geo_tokens.specs.Words.{Kinds, Lang}
 use Rattle.geo_tokens.specs.Deep.{IsValue, IsFault, IsDeep, IsText, IsTextFault}
 use Rattle.geo_tokens.specs.declared.stop.Stop.{Stop}
 use Rattle.geo_tokens.specs.declared.stop.Stop.TheVariants as stops
-use Rattle.geo_tokens.specs.Reading.{Read, Got, Wrong, next_is, ◌>>=◌}
+use Rattle.geo_tokens.specs.Reading.{Read, Got, Wrong, next_is, token_at, ◌>>=◌}
 
 abbrev pub Fails : {A : Type 0} → Stop → Read A → Type 0
 Fails stops.Memory r = Unit {0}
@@ -20,6 +20,23 @@ Gives view (Err e) r = Fails e r
 -- the values before, and those that are read behind them
 abbrev pub with_front : {A : Type 0} → List A → Read (List A) → Read (List A)
 with_front front read = read >>= λ others rest. Got (Some (front ++ others)) rest
+
+-- the tokens behind one of these kinds, where one stands
+abbrev pub IsBehind : Kinds → List Token → Option (Bor (List Token)) → Type 0
+IsBehind ks w (Some rest) = (t : Token) × (next_is ks w ≡ true) × (token_at ks w ≡ Got (Some t) rest.now)
+IsBehind ks w None = (next_is ks w ≡ false) × (token_at ks w ≡ Wrong w)
+
+-- A value was found, or reading stopped; and a token of these kinds was taken behind it.
+abbrev pub Follows : {X : Type 0} → Kinds → Result (X × Bor (List Token)) Stop → Result (X × Bor (List Token)) Stop → Type 0
+Follows ks (Ok x) (Ok both) = (t : Token) × (token_at ks x.1.now ≡ Got (Some t) both.1.now) × (both.0 ≡ x.0)
+Follows ks (Ok x) (Err e) = Fails e (token_at ks x.1.now)
+Follows ks (Err e) both = both ≡ Err e
+
+-- A value was found, or reading stopped; and it was put behind the items before, unless memory ran out.
+abbrev pub Adds : {X : Type 0} → Result (X × Bor (List Token)) Stop → List X → List X → Result (Bor (List Token)) Stop → Type 0
+Adds (Ok x) before items (Ok rest) = (items ≡ before ++ x.0 ∷ []) × (rest.now ≡ x.1.now)
+Adds (Ok x) before items (Err e) = e ≡ stops.Memory
+Adds (Err e) before items added = added ≡ Err e
 
 -- What a function returned reads the language L from the front of w, where `limit` levels may be opened,
 -- unless memory ran out.

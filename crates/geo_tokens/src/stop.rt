@@ -1,9 +1,9 @@
-//! Why reading stopped, and the readers of one token.
+//! Why reading stopped, the readers of one token, and what goes on behind a value that was read.
 
 ghost use Rattle.std.specs.Prelude.{◌≡◌, ◌∷◌, []};
 ghost use Rattle.geo_tokens.specs.Words.{start_of, has, kinds_of};
 ghost use Rattle.geo_tokens.specs.Reading.{next_is, token_at};
-ghost use Rattle.geo_tokens.specs.Gives.{Gives, Refuses};
+ghost use Rattle.geo_tokens.specs.Gives.{Gives, IsBehind, Follows, Adds, Refuses};
 ghost use Rattle.geo_tokens.specs.declared.stop.Stop.TheVariants.{Memory};
 ghost use Rattle.geo_tokens.specs.Class.{class_of};
 
@@ -57,6 +57,22 @@ pub fn next_is(tokens: &[Token], kind: Kind) -> bool
     }
 }
 
+/// The tokens behind one of this kind, where one stands.
+pub fn behind(tokens: &[Token], kind: Kind) -> Option<&[Token]>
+    ensures { IsBehind (class_of kind ∷ []) tokens.now result }
+{
+    match tokens {
+        [first, rest @ ..] => {
+            if class_of(first.kind) == class_of(kind) {
+                Some(rest)
+            } else {
+                None
+            }
+        }
+        [] => None,
+    }
+}
+
 /// Takes a token of this kind.
 pub fn token<'a>(tokens: &'a [Token], kind: Kind) -> Result<(Token, &'a [Token]), Stop<'a>>
     ensures { Gives (λ t. t) result (token_at (class_of kind ∷ []) tokens.now) }
@@ -71,6 +87,30 @@ pub fn token<'a>(tokens: &'a [Token], kind: Kind) -> Result<(Token, &'a [Token])
         }
         [] => Err(Stop::Wrong(tokens)),
     }
+}
+
+/// What was found, with a token of this kind taken behind it.
+pub fn followed_by<'a, T: Drop>(
+    found: Result<(T, &'a [Token]), Stop<'a>>,
+    kind: Kind,
+) -> Result<(T, &'a [Token]), Stop<'a>>
+    ensures { Follows (class_of kind ∷ []) found.entry result }
+{
+    let (value, rest) = found?;
+    let (_, rest) = token(rest, kind)?;
+    Ok((value, rest))
+}
+
+/// Puts what was found behind the items of a list, and gives the tokens behind it.
+pub fn add<'a, T: Drop>(
+    items: &mut Vec<T>,
+    found: Result<(T, &'a [Token]), Stop<'a>>,
+) -> Result<&'a [Token], Stop<'a>>
+    ensures { Adds found.entry items.old.items items.new.items result }
+{
+    let (item, rest) = found?;
+    items.push(item)?;
+    Ok(rest)
 }
 
 /// One of the kinds is this one.

@@ -9,7 +9,7 @@ ghost use Rattle.layout_text.specs.Reading.{group_at, next_group_at, no_groups_a
 ghost use Rattle.layout_text.specs.View.{group_view, group_views, token_view, token_views};
 
 use crate::tree::{GroupText, TokenText};
-use geo_tokens::stop::{Stop, next_is, token};
+use geo_tokens::stop::{Stop, add, behind, next_is, token};
 use geo_tokens::token::{Keyword, Kind, Sym, Token, number_in};
 use problem_data::tree::Int;
 use problem_syntax::numbers::int;
@@ -19,7 +19,9 @@ use std::alloc::Global;
 fn next_number(tokens: &[Token]) -> Result<(Int, &[Token]), Stop<'_>>
     ensures { Gives (λ i. i) result (next_at int_at tokens.now) }
 {
-    let (_, rest) = token(tokens, Kind::Symbol(Sym::Comma))?;
+    let Some(rest) = behind(tokens, Kind::Symbol(Sym::Comma)) else {
+        return Err(Stop::Wrong(tokens));
+    };
     int(rest)
 }
 
@@ -30,9 +32,7 @@ fn later_numbers(alloc: Global, tokens: &[Token]) -> Result<(Vec<Int>, &[Token])
     let mut read = Vec::new(alloc);
     let mut rest = tokens;
     'items: while next_is(rest, Kind::Symbol(Sym::Comma)) {
-        let (one, after) = next_number(rest)?;
-        read.push(one)?;
-        rest = after;
+        rest = add(&mut read, next_number(rest))?;
     }
     Ok((read, rest))
 }
@@ -52,7 +52,9 @@ fn group(alloc: Global, tokens: &[Token]) -> Result<(GroupText, &[Token]), Stop<
 fn next_group(alloc: Global, tokens: &[Token]) -> Result<(GroupText, &[Token]), Stop<'_>>
     ensures { Gives group_view result (next_group_at tokens.now) }
 {
-    let (_, rest) = token(tokens, Kind::Symbol(Sym::Slash))?;
+    let Some(rest) = behind(tokens, Kind::Symbol(Sym::Slash)) else {
+        return Err(Stop::Wrong(tokens));
+    };
     group(alloc, rest)
 }
 
@@ -60,13 +62,10 @@ fn next_group(alloc: Global, tokens: &[Token]) -> Result<(GroupText, &[Token]), 
 fn some_groups(alloc: Global, tokens: &[Token]) -> Result<(Vec<GroupText>, &[Token]), Stop<'_>>
     ensures { Gives group_views result (some_groups_at tokens.now) }
 {
-    let (first, after) = group(alloc, tokens)?;
-    let mut read = vec![in alloc; first]?;
-    let mut rest = after;
+    let mut read = Vec::new(alloc);
+    let mut rest = add(&mut read, group(alloc, tokens))?;
     'items: while next_is(rest, Kind::Symbol(Sym::Slash)) {
-        let (one, after) = next_group(alloc, rest)?;
-        read.push(one)?;
-        rest = after;
+        rest = add(&mut read, next_group(alloc, rest))?;
     }
     Ok((read, rest))
 }
@@ -75,7 +74,9 @@ fn some_groups(alloc: Global, tokens: &[Token]) -> Result<(Vec<GroupText>, &[Tok
 fn no_groups(alloc: Global, tokens: &[Token]) -> Result<(Vec<GroupText>, &[Token]), Stop<'_>>
     ensures { Gives group_views result (no_groups_at tokens.now) }
 {
-    let (_, rest) = token(tokens, Kind::Symbol(Sym::Minus))?;
+    let Some(rest) = behind(tokens, Kind::Symbol(Sym::Minus)) else {
+        return Err(Stop::Wrong(tokens));
+    };
     Ok((Vec::new(alloc), rest))
 }
 

@@ -7,7 +7,7 @@ ghost use Rattle.layout_text.specs.Reading.{line_at};
 ghost use Rattle.layout_text.specs.View.{line_view, line_views};
 
 use crate::tree::LineText;
-use geo_tokens::stop::{Stop, next_is, token};
+use geo_tokens::stop::{Stop, add, followed_by, next_is};
 use geo_tokens::token::{Keyword, Kind, Token};
 use problem_syntax::numbers::ints;
 use rule_syntax::words::placed_name;
@@ -22,10 +22,10 @@ fn line<'a>(
 ) -> Result<(LineText, &'a [Token]), Stop<'a>>
     ensures { Gives line_view result (line_at text.now tokens.now) }
 {
-    let (name, rest) = placed_name(alloc, text, tokens)?;
-    let (_, rest) = token(rest, Kind::Word(Keyword::As))?;
-    let (shape, rest) = placed_name(alloc, text, rest)?;
-    let (_, rest) = token(rest, Kind::Word(Keyword::At))?;
+    let name = placed_name(alloc, text, tokens);
+    let (name, rest) = followed_by(name, Kind::Word(Keyword::As))?;
+    let shape = placed_name(alloc, text, rest);
+    let (shape, rest) = followed_by(shape, Kind::Word(Keyword::At))?;
     let (origin, rest) = ints(alloc, rest)?;
     Ok((
         LineText {
@@ -48,9 +48,7 @@ pub fn lines<'a>(
     let mut read = Vec::new(alloc);
     let mut rest = tokens;
     'items: while next_is(rest, Kind::Name) {
-        let (one, after) = line(alloc, text, rest)?;
-        read.push(one)?;
-        rest = after;
+        rest = add(&mut read, line(alloc, text, rest))?;
     }
     Ok((read, rest))
 }

@@ -11,7 +11,7 @@ use crate::groups::end_line;
 use crate::lines::lines;
 use crate::tree::LayoutText;
 use geo_tokens::fault::TextFault;
-use geo_tokens::stop::{Stop, token};
+use geo_tokens::stop::{Stop, behind};
 use geo_tokens::token::{Keyword, Kind, Token};
 use rule_reading::read::fault_of;
 use std::alloc::Global;
@@ -25,7 +25,9 @@ fn layout<'a>(
 ) -> Result<(LayoutText, &'a [Token]), Stop<'a>>
     ensures { Gives layout_view result (layout_at text.now 0 tokens.now) }
 {
-    let (_, rest) = token(tokens, Kind::Word(Keyword::Layout))?;
+    let Some(rest) = behind(tokens, Kind::Word(Keyword::Layout)) else {
+        return Err(Stop::Wrong(tokens));
+    };
     let (lines, rest) = lines(alloc, text, rest)?;
     let (token, rest) = end_line(alloc, rest)?;
     Ok((LayoutText { lines, token }, rest))

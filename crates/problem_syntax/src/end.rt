@@ -4,7 +4,7 @@ ghost use Rattle.geo_tokens.specs.Gives.{Gives};
 ghost use Rattle.problem_data.specs.View.{statement_view};
 ghost use Rattle.problem_syntax.specs.Reading.{ended_at};
 
-use geo_tokens::stop::{Stop, token};
+use geo_tokens::stop::{Stop, behind};
 use geo_tokens::token::{Kind, Sym, Token};
 use problem_data::tree::Statement;
 
@@ -12,7 +12,9 @@ use problem_data::tree::Statement;
 fn closed<T: Drop>(value: T, tokens: &[Token]) -> Result<(T, &[Token]), Stop<'_>>
     ensures { Gives (λ t. t) result (ended_at value tokens.now) }
 {
-    let (_, rest) = token(tokens, Kind::Symbol(Sym::Semicolon))?;
+    let Some(rest) = behind(tokens, Kind::Symbol(Sym::Semicolon)) else {
+        return Err(Stop::Wrong(tokens));
+    };
     Ok((value, rest))
 }
 

@@ -8,7 +8,7 @@ ghost use Rattle.problem_data.specs.Grammar.{plain_int};
 ghost use Rattle.problem_data.specs.Meaning.{number_of};
 ghost use Rattle.problem_syntax.specs.Reading.{plain_int_at, negative_int_at, int_at, ints_at, range_at, ranges_at};
 
-use geo_tokens::stop::{Stop, next_in, next_is, token};
+use geo_tokens::stop::{Stop, add, followed_by, next_in, next_is, token};
 use geo_tokens::token::{Kind, Sym, Token, number_in};
 use problem_data::tree::{Int, RangeText};
 use std::alloc::{AllocError, Global};
@@ -82,13 +82,10 @@ fn begins_int(tokens: &[Token]) -> bool
 pub fn ints(alloc: Global, tokens: &[Token]) -> Result<(Vec<Int>, &[Token]), Stop<'_>>
     ensures { Gives (λ v. v.items) result (ints_at tokens.now) }
 {
-    let (first, after) = int(tokens)?;
-    let mut read = vec![in alloc; first]?;
-    let mut rest = after;
+    let mut read = Vec::new(alloc);
+    let mut rest = add(&mut read, int(tokens))?;
     'items: while begins_int(rest) {
-        let (one, after) = int(rest)?;
-        read.push(one)?;
-        rest = after;
+        rest = add(&mut read, int(rest))?;
     }
     Ok((read, rest))
 }
@@ -98,8 +95,7 @@ pub fn ints(alloc: Global, tokens: &[Token]) -> Result<(Vec<Int>, &[Token]), Sto
 fn range(tokens: &[Token]) -> Result<(RangeText, &[Token]), Stop<'_>>
     ensures { Gives (λ r. r) result (range_at tokens.now) }
 {
-    let (low, rest) = int(tokens)?;
-    let (_, rest) = token(rest, Kind::Symbol(Sym::DotDot))?;
+    let (low, rest) = followed_by(int(tokens), Kind::Symbol(Sym::DotDot))?;
     let (high, rest) = int(rest)?;
     Ok((RangeText { low, high }, rest))
 }
@@ -109,13 +105,10 @@ fn range(tokens: &[Token]) -> Result<(RangeText, &[Token]), Stop<'_>>
 pub fn ranges(alloc: Global, tokens: &[Token]) -> Result<(Vec<RangeText>, &[Token]), Stop<'_>>
     ensures { Gives (λ v. v.items) result (ranges_at tokens.now) }
 {
-    let (first, after) = range(tokens)?;
-    let mut read = vec![in alloc; first]?;
-    let mut rest = after;
+    let mut read = Vec::new(alloc);
+    let mut rest = add(&mut read, range(tokens))?;
     'items: while begins_int(rest) {
-        let (one, after) = range(rest)?;
-        read.push(one)?;
-        rest = after;
+        rest = add(&mut read, range(rest))?;
     }
     Ok((read, rest))
 }

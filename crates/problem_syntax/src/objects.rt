@@ -8,7 +8,7 @@ ghost use Rattle.problem_data.specs.View.{box_view, box_views, statement_view};
 
 use crate::end::ended;
 use crate::numbers::{int, ints, ranges};
-use geo_tokens::stop::{Stop, next_is, token};
+use geo_tokens::stop::{Stop, add, behind, followed_by, next_is, token};
 use geo_tokens::token::{Keyword, Kind, Sym, Token};
 use problem_data::tree::{AttributeText, BoxText, ObjectText, ShapeText, Statement};
 use rule_syntax::tree::PlacedName;
@@ -21,8 +21,7 @@ fn shape_box(alloc: Global, tokens: &[Token]) -> Result<(BoxText, &[Token]), Sto
     ensures { Gives box_view result (box_at tokens.now) }
 {
     let (word, rest) = token(tokens, Kind::Word(Keyword::Box))?;
-    let (offsets, rest) = ints(alloc, rest)?;
-    let (_, rest) = token(rest, Kind::Word(Keyword::Size))?;
+    let (offsets, rest) = followed_by(ints(alloc, rest), Kind::Word(Keyword::Size))?;
     let (sizes, rest) = ints(alloc, rest)?;
     Ok((
         BoxText {
@@ -39,13 +38,10 @@ fn shape_box(alloc: Global, tokens: &[Token]) -> Result<(BoxText, &[Token]), Sto
 fn boxes(alloc: Global, tokens: &[Token]) -> Result<(Vec<BoxText>, &[Token]), Stop<'_>>
     ensures { Gives box_views result (boxes_at tokens.now) }
 {
-    let (first, after) = shape_box(alloc, tokens)?;
-    let mut read = vec![in alloc; first]?;
-    let mut rest = after;
+    let mut read = Vec::new(alloc);
+    let mut rest = add(&mut read, shape_box(alloc, tokens))?;
     'items: while next_is(rest, Kind::Word(Keyword::Box)) {
-        let (one, after) = shape_box(alloc, rest)?;
-        read.push(one)?;
-        rest = after;
+        rest = add(&mut read, shape_box(alloc, rest))?;
     }
     Ok((read, rest))
 }
@@ -59,7 +55,9 @@ pub fn shape<'a>(
 ) -> Result<(Statement, &'a [Token]), Stop<'a>>
     ensures { Gives statement_view result (shape_at text.now tokens.now) }
 {
-    let (_, rest) = token(tokens, Kind::Word(Keyword::Shape))?;
+    let Some(rest) = behind(tokens, Kind::Word(Keyword::Shape)) else {
+        return Err(Stop::Wrong(tokens));
+    };
     let (name, rest) = placed_name(alloc, text, rest)?;
     let (boxes, rest) = boxes(alloc, rest)?;
     ended(Statement::Shape(ShapeText { name, boxes }), rest)
@@ -73,7 +71,9 @@ fn next_name<'a>(
 ) -> Result<(PlacedName, &'a [Token]), Stop<'a>>
     ensures { Gives (λ n. n) result (next_at (named_at text.now) tokens.now) }
 {
-    let (_, rest) = token(tokens, Kind::Symbol(Sym::Comma))?;
+    let Some(rest) = behind(tokens, Kind::Symbol(Sym::Comma)) else {
+        return Err(Stop::Wrong(tokens));
+    };
     placed_name(alloc, text, rest)
 }
 
@@ -86,13 +86,10 @@ pub fn names<'a>(
 ) -> Result<(Vec<PlacedName>, &'a [Token]), Stop<'a>>
     ensures { Gives (λ v. v.items) result (names_at text.now tokens.now) }
 {
-    let (first, after) = placed_name(alloc, text, tokens)?;
-    let mut read = vec![in alloc; first]?;
-    let mut rest = after;
+    let mut read = Vec::new(alloc);
+    let mut rest = add(&mut read, placed_name(alloc, text, tokens))?;
     'items: while next_is(rest, Kind::Symbol(Sym::Comma)) {
-        let (one, after) = next_name(alloc, text, rest)?;
-        read.push(one)?;
-        rest = after;
+        rest = add(&mut read, next_name(alloc, text, rest))?;
     }
     Ok((read, rest))
 }
@@ -106,8 +103,8 @@ fn attribute<'a>(
 ) -> Result<(AttributeText, &'a [Token]), Stop<'a>>
     ensures { Gives (λ a. a) result (attribute_at text.now tokens.now) }
 {
-    let (name, rest) = placed_name(alloc, text, tokens)?;
-    let (_, rest) = token(rest, Kind::Symbol(Sym::Equal))?;
+    let name = placed_name(alloc, text, tokens);
+    let (name, rest) = followed_by(name, Kind::Symbol(Sym::Equal))?;
     let (value, rest) = int(rest)?;
     Ok((AttributeText { name, value }, rest))
 }
@@ -120,7 +117,9 @@ fn next_attribute<'a>(
 ) -> Result<(AttributeText, &'a [Token]), Stop<'a>>
     ensures { Gives (λ a. a) result (next_at (attribute_at text.now) tokens.now) }
 {
-    let (_, rest) = token(tokens, Kind::Symbol(Sym::Comma))?;
+    let Some(rest) = behind(tokens, Kind::Symbol(Sym::Comma)) else {
+        return Err(Stop::Wrong(tokens));
+    };
     attribute(alloc, text, rest)
 }
 
@@ -133,13 +132,10 @@ fn attribute_list<'a>(
 ) -> Result<(Vec<AttributeText>, &'a [Token]), Stop<'a>>
     ensures { Gives (λ v. v.items) result (attribute_list_at text.now tokens.now) }
 {
-    let (first, after) = attribute(alloc, text, tokens)?;
-    let mut read = vec![in alloc; first]?;
-    let mut rest = after;
+    let mut read = Vec::new(alloc);
+    let mut rest = add(&mut read, attribute(alloc, text, tokens))?;
     'items: while next_is(rest, Kind::Symbol(Sym::Comma)) {
-        let (one, after) = next_attribute(alloc, text, rest)?;
-        read.push(one)?;
-        rest = after;
+        rest = add(&mut read, next_attribute(alloc, text, rest))?;
     }
     Ok((read, rest))
 }
@@ -153,10 +149,9 @@ fn attributes<'a>(
 ) -> Result<(Vec<AttributeText>, &'a [Token]), Stop<'a>>
     ensures { Gives (λ v. v.items) result (attributes_at text.now tokens.now) }
 {
-    if !next_is(tokens, Kind::Word(Keyword::With)) {
+    let Some(rest) = behind(tokens, Kind::Word(Keyword::With)) else {
         return Ok((Vec::new(alloc), tokens));
-    }
-    let (_, rest) = token(tokens, Kind::Word(Keyword::With))?;
+    };
     attribute_list(alloc, text, rest)
 }
 
@@ -170,7 +165,9 @@ fn object_rest<'a>(
 ) -> Result<(Statement, &'a [Token]), Stop<'a>>
     ensures { Gives statement_view result (object_rest_at text.now name shapes.items tokens.now) }
 {
-    let (_, rest) = token(tokens, Kind::Word(Keyword::At))?;
+    let Some(rest) = behind(tokens, Kind::Word(Keyword::At)) else {
+        return Err(Stop::Wrong(tokens));
+    };
     let (ranges, rest) = ranges(alloc, rest)?;
     let (attributes, rest) = attributes(alloc, text, rest)?;
     let object = ObjectText {
@@ -191,9 +188,11 @@ pub fn object<'a>(
 ) -> Result<(Statement, &'a [Token]), Stop<'a>>
     ensures { Gives statement_view result (object_at text.now tokens.now) }
 {
-    let (_, rest) = token(tokens, Kind::Word(Keyword::Object))?;
-    let (name, rest) = placed_name(alloc, text, rest)?;
-    let (_, rest) = token(rest, Kind::Word(Keyword::As))?;
+    let Some(rest) = behind(tokens, Kind::Word(Keyword::Object)) else {
+        return Err(Stop::Wrong(tokens));
+    };
+    let name = placed_name(alloc, text, rest);
+    let (name, rest) = followed_by(name, Kind::Word(Keyword::As))?;
     let (shapes, rest) = names(alloc, text, rest)?;
     object_rest(alloc, text, name, shapes, rest)
 }

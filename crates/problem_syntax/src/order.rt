@@ -9,7 +9,7 @@ ghost use Rattle.problem_data.specs.View.{statement_view};
 
 use crate::end::ended;
 use crate::objects::names;
-use geo_tokens::stop::{Stop, next_in, one_of, token};
+use geo_tokens::stop::{Stop, add, next_in, one_of, token};
 use geo_tokens::token::{Keyword, Kind, Token};
 use problem_data::tree::{OrderText, Side, SideText, SidesText, Statement};
 use std::alloc::Global;
@@ -68,13 +68,10 @@ fn begins_side(tokens: &[Token]) -> bool
 fn side_list(alloc: Global, tokens: &[Token]) -> Result<(Vec<SideText>, &[Token]), Stop<'_>>
     ensures { Gives (λ v. v.items) result (side_list_at tokens.now) }
 {
-    let (first, after) = side(tokens)?;
-    let mut read = vec![in alloc; first]?;
-    let mut rest = after;
+    let mut read = Vec::new(alloc);
+    let mut rest = add(&mut read, side(tokens))?;
     'items: while begins_side(rest) {
-        let (one, after) = side(rest)?;
-        read.push(one)?;
-        rest = after;
+        rest = add(&mut read, side(rest))?;
     }
     Ok((read, rest))
 }

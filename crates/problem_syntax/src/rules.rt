@@ -8,7 +8,7 @@ ghost use Rattle.problem_data.specs.View.{body_view, demand_view, statement_view
 
 use crate::end::ended;
 use crate::numbers::ranges;
-use geo_tokens::stop::{Stop, next_is, one_of, token};
+use geo_tokens::stop::{Stop, add, behind, followed_by, next_is, one_of};
 use geo_tokens::token::{Keyword, Kind, Sym, Token};
 use problem_data::tree::{
     MacroBody, MacroText, ParamKind, ParamText, RuleBody, RuleText, Statement,
@@ -39,8 +39,8 @@ fn param<'a>(
 ) -> Result<(ParamText, &'a [Token]), Stop<'a>>
     ensures { Gives (λ p. p) result (param_at text.now tokens.now) }
 {
-    let (name, rest) = placed_name(alloc, text, tokens)?;
-    let (_, rest) = token(rest, Kind::Symbol(Sym::Colon))?;
+    let name = placed_name(alloc, text, tokens);
+    let (name, rest) = followed_by(name, Kind::Symbol(Sym::Colon))?;
     let (word, rest) = one_of(
         rest,
         &[
@@ -61,7 +61,9 @@ fn next_param<'a>(
 ) -> Result<(ParamText, &'a [Token]), Stop<'a>>
     ensures { Gives (λ p. p) result (next_at (param_at text.now) tokens.now) }
 {
-    let (_, rest) = token(tokens, Kind::Symbol(Sym::Comma))?;
+    let Some(rest) = behind(tokens, Kind::Symbol(Sym::Comma)) else {
+        return Err(Stop::Wrong(tokens));
+    };
     param(alloc, text, rest)
 }
 
@@ -74,13 +76,10 @@ fn param_list<'a>(
 ) -> Result<(Vec<ParamText>, &'a [Token]), Stop<'a>>
     ensures { Gives (λ v. v.items) result (param_list_at text.now tokens.now) }
 {
-    let (first, after) = param(alloc, text, tokens)?;
-    let mut read = vec![in alloc; first]?;
-    let mut rest = after;
+    let mut read = Vec::new(alloc);
+    let mut rest = add(&mut read, param(alloc, text, tokens))?;
     'items: while next_is(rest, Kind::Symbol(Sym::Comma)) {
-        let (one, after) = next_param(alloc, text, rest)?;
-        read.push(one)?;
-        rest = after;
+        rest = add(&mut read, next_param(alloc, text, rest))?;
     }
     Ok((read, rest))
 }
@@ -109,10 +108,11 @@ fn params<'a>(
 ) -> Result<(Vec<ParamText>, &'a [Token]), Stop<'a>>
     ensures { Gives (λ v. v.items) result (params_at text.now tokens.now) }
 {
-    let (_, rest) = token(tokens, Kind::Symbol(Sym::ParenOpen))?;
-    let (params, rest) = some_params(alloc, text, rest)?;
-    let (_, rest) = token(rest, Kind::Symbol(Sym::ParenClose))?;
-    Ok((params, rest))
+    let Some(rest) = behind(tokens, Kind::Symbol(Sym::ParenOpen)) else {
+        return Err(Stop::Wrong(tokens));
+    };
+    let params = some_params(alloc, text, rest);
+    followed_by(params, Kind::Symbol(Sym::ParenClose))
 }
 
 /// A formula that a macro stands for.
@@ -124,7 +124,9 @@ fn formula_body<'a>(
 ) -> Result<(MacroBody, &'a [Token]), Stop<'a>>
     ensures { Gives body_view result (means_at text.now levels tokens.now) }
 {
-    let (_, rest) = token(tokens, Kind::Word(Keyword::Means))?;
+    let Some(rest) = behind(tokens, Kind::Word(Keyword::Means)) else {
+        return Err(Stop::Wrong(tokens));
+    };
     let (formula, rest) = formula(alloc, text, levels, rest)?;
     Ok((MacroBody::Means(formula), rest))
 }
@@ -138,7 +140,9 @@ fn value_body<'a>(
 ) -> Result<(MacroBody, &'a [Token]), Stop<'a>>
     ensures { Gives body_view result (equals_at text.now levels tokens.now) }
 {
-    let (_, rest) = token(tokens, Kind::Word(Keyword::Is))?;
+    let Some(rest) = behind(tokens, Kind::Word(Keyword::Is)) else {
+        return Err(Stop::Wrong(tokens));
+    };
     let (value, rest) = expression(alloc, text, levels, rest)?;
     Ok((MacroBody::Is(value), rest))
 }
@@ -185,7 +189,9 @@ pub fn macro_statement<'a>(
 ) -> Result<(Statement, &'a [Token]), Stop<'a>>
     ensures { Gives statement_view result (macro_at text.now levels tokens.now) }
 {
-    let (_, rest) = token(tokens, Kind::Word(Keyword::Macro))?;
+    let Some(rest) = behind(tokens, Kind::Word(Keyword::Macro)) else {
+        return Err(Stop::Wrong(tokens));
+    };
     let (name, rest) = placed_name(alloc, text, rest)?;
     macro_rest(alloc, text, levels, name, rest)
 }
@@ -194,7 +200,9 @@ pub fn macro_statement<'a>(
 fn apart(tokens: &[Token]) -> Result<(RuleBody, &[Token]), Stop<'_>>
     ensures { Gives demand_view result (apart_at tokens.now) }
 {
-    let (_, rest) = token(tokens, Kind::Word(Keyword::Apart))?;
+    let Some(rest) = behind(tokens, Kind::Word(Keyword::Apart)) else {
+        return Err(Stop::Wrong(tokens));
+    };
     Ok((RuleBody::Apart, rest))
 }
 
@@ -202,7 +210,9 @@ fn apart(tokens: &[Token]) -> Result<(RuleBody, &[Token]), Stop<'_>>
 fn within(alloc: Global, tokens: &[Token]) -> Result<(RuleBody, &[Token]), Stop<'_>>
     ensures { Gives demand_view result (within_at tokens.now) }
 {
-    let (_, rest) = token(tokens, Kind::Word(Keyword::Within))?;
+    let Some(rest) = behind(tokens, Kind::Word(Keyword::Within)) else {
+        return Err(Stop::Wrong(tokens));
+    };
     let (ranges, rest) = ranges(alloc, rest)?;
     Ok((RuleBody::Within(ranges), rest))
 }
@@ -249,7 +259,9 @@ fn rule_rest<'a>(
 ) -> Result<(Statement, &'a [Token]), Stop<'a>>
     ensures { Gives statement_view result (rule_rest_at text.now levels name tokens.now) }
 {
-    let (_, rest) = token(tokens, Kind::Symbol(Sym::Colon))?;
+    let Some(rest) = behind(tokens, Kind::Symbol(Sym::Colon)) else {
+        return Err(Stop::Wrong(tokens));
+    };
     let (body, rest) = rule_body(alloc, text, levels, rest)?;
     ended(Statement::Rule(RuleText { name, body }), rest)
 }
@@ -264,7 +276,9 @@ pub fn rule<'a>(
 ) -> Result<(Statement, &'a [Token]), Stop<'a>>
     ensures { Gives statement_view result (rule_at text.now levels tokens.now) }
 {
-    let (_, rest) = token(tokens, Kind::Word(Keyword::Rule))?;
+    let Some(rest) = behind(tokens, Kind::Word(Keyword::Rule)) else {
+        return Err(Stop::Wrong(tokens));
+    };
     let (name, rest) = placed_name(alloc, text, rest)?;
     rule_rest(alloc, text, levels, name, rest)
 }

@@ -11,7 +11,7 @@ use crate::numbers::int_of;
 use crate::objects::{object, shape};
 use crate::order::{order, sides};
 use crate::rules::{macro_statement, rule};
-use geo_tokens::stop::{Stop, next_in, next_is, token};
+use geo_tokens::stop::{Stop, add, behind, followed_by, next_in, next_is, token};
 use geo_tokens::token::{Keyword, Kind, Token};
 use problem_data::tree::{Int, ProblemText, Statement};
 use std::alloc::Global;
@@ -71,9 +71,8 @@ fn statements<'a>(
     let mut read = Vec::new(alloc);
     let mut rest = tokens;
     'items: while begins_statement(rest) {
-        let (one, after) = statement(alloc, text, levels, rest)?;
-        read.push(one)?;
-        rest = after;
+        let one = statement(alloc, text, levels, rest);
+        rest = add(&mut read, one)?;
     }
     Ok((read, rest))
 }
@@ -90,8 +89,8 @@ fn problem_rest<'a>(
     ensures { Gives problem_view result
         (problem_rest_at text.now levels version dims tokens.now) }
 {
-    let (statements, rest) = statements(alloc, text, levels, tokens)?;
-    let (_, rest) = token(rest, Kind::Word(Keyword::End))?;
+    let statements = statements(alloc, text, levels, tokens);
+    let (statements, rest) = followed_by(statements, Kind::Word(Keyword::End))?;
     Ok((
         ProblemText {
             version,
@@ -112,9 +111,11 @@ pub fn problem<'a>(
 ) -> Result<(ProblemText, &'a [Token]), Stop<'a>>
     ensures { Gives problem_view result (problem_at text.now levels tokens.now) }
 {
-    let (_, rest) = token(tokens, Kind::Word(Keyword::Geost))?;
-    let (version, rest) = token(rest, Kind::Number(0))?;
-    let (_, rest) = token(rest, Kind::Word(Keyword::Dims))?;
+    let Some(rest) = behind(tokens, Kind::Word(Keyword::Geost)) else {
+        return Err(Stop::Wrong(tokens));
+    };
+    let version = token(rest, Kind::Number(0));
+    let (version, rest) = followed_by(version, Kind::Word(Keyword::Dims))?;
     let (dims, rest) = token(rest, Kind::Number(0))?;
     problem_rest(alloc, text, levels, int_of(version), int_of(dims), rest)
 }

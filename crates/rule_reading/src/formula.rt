@@ -14,7 +14,7 @@ ghost use Rattle.rule_syntax.specs.View.{argument_views, formula_view, formula_v
 ghost use Rattle.rule_reading.specs.Bound.{quantified_over_at};
 
 use crate::quantifier::{QUANTIFIERS, begins_quantifier, bound};
-use geo_tokens::stop::{Stop, next_is, one_of, refusal, start_of, token};
+use geo_tokens::stop::{Stop, add, behind, followed_by, next_is, one_of, refusal, start_of, token};
 use geo_tokens::token::{Keyword, Kind, Sym, Token};
 use rule_syntax::expression::{arguments, expression};
 use rule_syntax::tree::{Argument, Formula, Rel};
@@ -159,10 +159,11 @@ fn brackets<'a>(
 ) -> Result<(Formula, &'a [Token]), Stop<'a>>
     ensures { Gives formula_view result (brackets_at (formula_at text.now below) tokens.now) }
 {
-    let (_, rest) = token(tokens, Kind::Symbol(Sym::BracketOpen))?;
-    let (inner, rest) = formula(alloc, text, below, rest)?;
-    let (_, rest) = token(rest, Kind::Symbol(Sym::BracketClose))?;
-    Ok((inner, rest))
+    let Some(rest) = behind(tokens, Kind::Symbol(Sym::BracketOpen)) else {
+        return Err(Stop::Wrong(tokens));
+    };
+    let inner = formula(alloc, text, below, rest);
+    followed_by(inner, Kind::Symbol(Sym::BracketClose))
 }
 
 /// A quantifier with its variable and its body.
@@ -271,7 +272,9 @@ fn and_unary<'a>(
 ) -> Result<(Formula, &'a [Token]), Stop<'a>>
     ensures { Gives formula_view result (and_unary_at text.now levels tokens.now) }
 {
-    let (_, rest) = token(tokens, Kind::Word(Keyword::And))?;
+    let Some(rest) = behind(tokens, Kind::Word(Keyword::And)) else {
+        return Err(Stop::Wrong(tokens));
+    };
     unary(alloc, text, levels, rest)
 }
 
@@ -289,9 +292,8 @@ fn more_unaries<'a>(
     let mut operands = Vec::new(alloc);
     let mut rest = tokens;
     'items: while next_is(rest, Kind::Word(Keyword::And)) {
-        let (operand, after) = and_unary(alloc, text, levels, rest)?;
-        operands.push(operand)?;
-        rest = after;
+        let operand = and_unary(alloc, text, levels, rest);
+        rest = add(&mut operands, operand)?;
     }
     Ok((operands, rest))
 }
@@ -335,7 +337,9 @@ fn or_conjunction<'a>(
 ) -> Result<(Formula, &'a [Token]), Stop<'a>>
     ensures { Gives formula_view result (or_conjunction_at text.now levels tokens.now) }
 {
-    let (_, rest) = token(tokens, Kind::Word(Keyword::Or))?;
+    let Some(rest) = behind(tokens, Kind::Word(Keyword::Or)) else {
+        return Err(Stop::Wrong(tokens));
+    };
     conjunction(alloc, text, levels, rest)
 }
 
@@ -353,9 +357,8 @@ fn more_conjunctions<'a>(
     let mut operands = Vec::new(alloc);
     let mut rest = tokens;
     'items: while next_is(rest, Kind::Word(Keyword::Or)) {
-        let (operand, after) = or_conjunction(alloc, text, levels, rest)?;
-        operands.push(operand)?;
-        rest = after;
+        let operand = or_conjunction(alloc, text, levels, rest);
+        rest = add(&mut operands, operand)?;
     }
     Ok((operands, rest))
 }
@@ -400,10 +403,9 @@ fn implied<'a>(
     ensures { Gives behind_view result
         (behind_at (word keywords.Implies) (disjunction_at text.now levels) tokens.now) }
 {
-    if !next_is(tokens, Kind::Word(Keyword::Implies)) {
+    let Some(rest) = behind(tokens, Kind::Word(Keyword::Implies)) else {
         return Ok((None, tokens));
-    }
-    let (_, rest) = token(tokens, Kind::Word(Keyword::Implies))?;
+    };
     let (second, rest) = disjunction(alloc, text, levels, rest)?;
     Ok((Some(second), rest))
 }
@@ -458,10 +460,9 @@ fn equivalent<'a>(
     ensures { Gives behind_view result
         (behind_at (word keywords.Iff) (implication_at text.now levels) tokens.now) }
 {
-    if !next_is(tokens, Kind::Word(Keyword::Iff)) {
+    let Some(rest) = behind(tokens, Kind::Word(Keyword::Iff)) else {
         return Ok((None, tokens));
-    }
-    let (_, rest) = token(tokens, Kind::Word(Keyword::Iff))?;
+    };
     let (second, rest) = implication(alloc, text, levels, rest)?;
     Ok((Some(second), rest))
 }

@@ -11,7 +11,7 @@ ghost use Rattle.rule_syntax.specs.Reading.{each_at, count_at, quantifier_at, ne
 ghost use Rattle.rule_syntax.specs.View.{coll_view, names_view};
 ghost use Rattle.rule_reading.specs.Bound.{range_at, bound_at, bound_view};
 
-use geo_tokens::stop::{Stop, next_in, next_is, one_of, token};
+use geo_tokens::stop::{Stop, add, behind, followed_by, next_in, next_is, one_of, token};
 use geo_tokens::token::{Keyword, Kind, Sym, Token, number_in};
 use rule_syntax::tree::{Coll, PlacedName, QuantKind};
 use rule_syntax::words::placed_name;
@@ -92,7 +92,9 @@ fn next_name<'a>(
 ) -> Result<(PlacedName, &'a [Token]), Stop<'a>>
     ensures { Gives (λ n. n) result (next_name_at text.now tokens.now) }
 {
-    let (_, rest) = token(tokens, Kind::Symbol(Sym::Comma))?;
+    let Some(rest) = behind(tokens, Kind::Symbol(Sym::Comma)) else {
+        return Err(Stop::Wrong(tokens));
+    };
     placed_name(alloc, text, rest)
 }
 
@@ -108,9 +110,8 @@ fn more_names<'a>(
     let mut names = Vec::new(alloc);
     let mut rest = tokens;
     'items: while next_is(rest, Kind::Symbol(Sym::Comma)) {
-        let (name, after) = next_name(alloc, text, rest)?;
-        names.push(name)?;
-        rest = after;
+        let name = next_name(alloc, text, rest);
+        rest = add(&mut names, name)?;
     }
     Ok((names, rest))
 }
@@ -123,10 +124,12 @@ fn name_list<'a>(
 ) -> Result<(Coll, &'a [Token]), Stop<'a>>
     ensures { Gives coll_view result (name_list_at text.now tokens.now) }
 {
-    let (_, rest) = token(tokens, Kind::Symbol(Sym::ParenOpen))?;
+    let Some(rest) = behind(tokens, Kind::Symbol(Sym::ParenOpen)) else {
+        return Err(Stop::Wrong(tokens));
+    };
     let (first, rest) = placed_name(alloc, text, rest)?;
-    let (mut names, rest) = more_names(alloc, text, rest)?;
-    let (_, rest) = token(rest, Kind::Symbol(Sym::ParenClose))?;
+    let names = more_names(alloc, text, rest);
+    let (mut names, rest) = followed_by(names, Kind::Symbol(Sym::ParenClose))?;
     names.insert(0, first)?;
     Ok((Coll::Listed(names), rest))
 }
@@ -139,7 +142,9 @@ fn objects<'a>(
 ) -> Result<(Coll, &'a [Token]), Stop<'a>>
     ensures { Gives coll_view result (objects_at text.now tokens.now) }
 {
-    let (_, rest) = token(tokens, Kind::Word(Keyword::Objects))?;
+    let Some(rest) = behind(tokens, Kind::Word(Keyword::Objects)) else {
+        return Err(Stop::Wrong(tokens));
+    };
     if next_is(rest, Kind::Symbol(Sym::ParenOpen)) {
         name_list(alloc, text, rest)
     } else {
@@ -155,8 +160,8 @@ fn boxes<'a>(
 ) -> Result<(Coll, &'a [Token]), Stop<'a>>
     ensures { Gives coll_view result (boxes_at text.now tokens.now) }
 {
-    let (_, rest) = token(tokens, Kind::Word(Keyword::Boxes))?;
-    let (_, rest) = token(rest, Kind::Word(Keyword::Of))?;
+    let word = token(tokens, Kind::Word(Keyword::Boxes));
+    let (_, rest) = followed_by(word, Kind::Word(Keyword::Of))?;
     let (name, rest) = placed_name(alloc, text, rest)?;
     Ok((Coll::BoxesOf(name), rest))
 }
@@ -184,10 +189,11 @@ fn range<'a>(
 ) -> Result<(Coll, &'a [Token]), Stop<'a>>
     ensures { Gives coll_view result (range_at text.now tokens.now) }
 {
-    let (_, rest) = token(tokens, Kind::Word(Keyword::In))?;
-    let (collection, rest) = collection(alloc, text, rest)?;
-    let (_, rest) = token(rest, Kind::Symbol(Sym::Colon))?;
-    Ok((collection, rest))
+    let Some(rest) = behind(tokens, Kind::Word(Keyword::In)) else {
+        return Err(Stop::Wrong(tokens));
+    };
+    let collection = collection(alloc, text, rest);
+    followed_by(collection, Kind::Symbol(Sym::Colon))
 }
 
 /// A quantifier with its place, its variable and what that ranges over.

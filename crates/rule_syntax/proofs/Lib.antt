@@ -1,4 +1,3 @@
 pub mod Expressions
 pub mod Views
-pub mod Stopped
 mod Refusals

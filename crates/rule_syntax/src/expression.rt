@@ -15,7 +15,7 @@ use crate::words::{
     begins_expression, division, extreme_of, extreme_word, flat_factor, number, placed_name,
     product_goes_on, shape_number, sum_goes_on, sum_mark, variable,
 };
-use geo_tokens::stop::{Stop, next_is, start_of, token};
+use geo_tokens::stop::{Stop, add, behind, followed_by, next_is, start_of, token};
 use geo_tokens::token::{Keyword, Kind, Sym, Token};
 use std::alloc::{AllocError, Global};
 
@@ -44,10 +44,11 @@ fn parens<'a>(
 ) -> Result<(Expr, &'a [Token]), Stop<'a>>
     ensures { Gives expr_view result (parens_at (expr_at text.now below) tokens.now) }
 {
-    let (_, rest) = token(tokens, Kind::Symbol(Sym::ParenOpen))?;
-    let (inner, rest) = expression(alloc, text, below, rest)?;
-    let (_, rest) = token(rest, Kind::Symbol(Sym::ParenClose))?;
-    Ok((inner, rest))
+    let Some(rest) = behind(tokens, Kind::Symbol(Sym::ParenOpen)) else {
+        return Err(Stop::Wrong(tokens));
+    };
+    let inner = expression(alloc, text, below, rest);
+    followed_by(inner, Kind::Symbol(Sym::ParenClose))
 }
 
 /// A comma and an argument.
@@ -60,7 +61,9 @@ fn next_argument<'a>(
 ) -> Result<(Argument, &'a [Token]), Stop<'a>>
     ensures { Gives argument_view result (next_argument_at (expr_at text.now below) tokens.now) }
 {
-    let (_, list) = token(tokens, Kind::Symbol(Sym::Comma))?;
+    let Some(list) = behind(tokens, Kind::Symbol(Sym::Comma)) else {
+        return Err(Stop::Wrong(tokens));
+    };
     let (value, rest) = expression(alloc, text, below, list)?;
     Ok((
         Argument {
@@ -85,9 +88,8 @@ fn more_arguments<'a>(
     let mut arguments = Vec::new(alloc);
     let mut rest = tokens;
     'items: while next_is(rest, Kind::Symbol(Sym::Comma)) {
-        let (argument, after) = next_argument(alloc, text, below, rest)?;
-        arguments.push(argument)?;
-        rest = after;
+        let argument = next_argument(alloc, text, below, rest);
+        rest = add(&mut arguments, argument)?;
     }
     Ok((arguments, rest))
 }
@@ -122,10 +124,11 @@ pub fn arguments<'a>(
 ) -> Result<(Vec<Argument>, &'a [Token]), Stop<'a>>
     ensures { Gives argument_views result (args_over_at (expr_at text.now below) tokens.now) }
 {
-    let (_, rest) = token(tokens, Kind::Symbol(Sym::ParenOpen))?;
-    let (arguments, rest) = argument_list(alloc, text, below, rest)?;
-    let (_, rest) = token(rest, Kind::Symbol(Sym::ParenClose))?;
-    Ok((arguments, rest))
+    let Some(rest) = behind(tokens, Kind::Symbol(Sym::ParenOpen)) else {
+        return Err(Stop::Wrong(tokens));
+    };
+    let arguments = argument_list(alloc, text, below, rest);
+    followed_by(arguments, Kind::Symbol(Sym::ParenClose))
 }
 
 /// A call that gives a number.
@@ -155,11 +158,13 @@ fn pair<'a>(
 ) -> Result<((Expr, Expr), &'a [Token]), Stop<'a>>
     ensures { Gives pair_view result (pair_at (expr_at text.now below) tokens.now) }
 {
-    let (_, rest) = token(tokens, Kind::Symbol(Sym::ParenOpen))?;
-    let (first, rest) = expression(alloc, text, below, rest)?;
-    let (_, rest) = token(rest, Kind::Symbol(Sym::Comma))?;
-    let (second, rest) = expression(alloc, text, below, rest)?;
-    let (_, rest) = token(rest, Kind::Symbol(Sym::ParenClose))?;
+    let Some(rest) = behind(tokens, Kind::Symbol(Sym::ParenOpen)) else {
+        return Err(Stop::Wrong(tokens));
+    };
+    let first = expression(alloc, text, below, rest);
+    let (first, rest) = followed_by(first, Kind::Symbol(Sym::Comma))?;
+    let second = expression(alloc, text, below, rest);
+    let (second, rest) = followed_by(second, Kind::Symbol(Sym::ParenClose))?;
     Ok(((first, second), rest))
 }
 
@@ -236,8 +241,7 @@ fn product_step<'a>(
 ) -> Result<(ProdStep, &'a [Token]), Stop<'a>>
     ensures { Gives product_view result (product_step_at (factor_at text.now levels) tokens.now) }
 {
-    if next_is(tokens, Kind::Symbol(Sym::Star)) {
-        let (_, rest) = token(tokens, Kind::Symbol(Sym::Star))?;
+    if let Some(rest) = behind(tokens, Kind::Symbol(Sym::Star)) {
         let (factor, rest) = factor(alloc, text, levels, rest)?;
         Ok((ProdStep::Times(factor), rest))
     } else {
@@ -259,9 +263,8 @@ fn more_factors<'a>(
     let mut steps = Vec::new(alloc);
     let mut rest = tokens;
     'items: while product_goes_on(rest) {
-        let (step, after) = product_step(alloc, text, levels, rest)?;
-        steps.push(step)?;
-        rest = after;
+        let step = product_step(alloc, text, levels, rest);
+        rest = add(&mut steps, step)?;
     }
     Ok((steps, rest))
 }
@@ -338,9 +341,8 @@ fn more_terms<'a>(
     let mut steps = Vec::new(alloc);
     let mut rest = tokens;
     'items: while sum_goes_on(rest) {
-        let (step, after) = sum_step(alloc, text, levels, rest)?;
-        steps.push(step)?;
-        rest = after;
+        let step = sum_step(alloc, text, levels, rest);
+        rest = add(&mut steps, step)?;
     }
     Ok((steps, rest))
 }

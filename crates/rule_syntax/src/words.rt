@@ -14,7 +14,7 @@ ghost use Rattle.rule_syntax.specs.View.{expr_view, product_view, argument_views
 
 use crate::tree::{Argument, Expr, PlacedName, ProdStep};
 use geo_tokens::name::Name;
-use geo_tokens::stop::{Stop, next_in, next_is, one_of, refusal, token};
+use geo_tokens::stop::{Stop, behind, next_in, next_is, one_of, refusal, token};
 use geo_tokens::token::{Keyword, Kind, Sym, Token, number_in};
 use std::alloc::{AllocError, Global};
 
@@ -136,7 +136,9 @@ fn flat_call<'a>(
     ensures { Gives expr_view result
         (value_call_at text.now (cut_at (symbol syms.ParenOpen)) tokens.now) }
 {
-    let (_, rest) = token(tokens, Kind::Symbol(Sym::Dollar))?;
+    let Some(rest) = behind(tokens, Kind::Symbol(Sym::Dollar)) else {
+        return Err(Stop::Wrong(tokens));
+    };
     let (_, rest) = placed_name(alloc, text, rest)?;
     refused_expression(rest, Kind::Symbol(Sym::ParenOpen))
 }

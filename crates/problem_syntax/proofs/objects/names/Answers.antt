@@ -1,7 +1,7 @@
 use Rattle.std.proofs.Common.{[], ◌<◌, length, sym, ◌∙◌, arith, refl}
 use Rattle.geo_tokens.specs.declared.token.Sym.TheVariants as symbols
 use Rattle.geo_tokens.specs.Words.{symbol, Bind, Tok}
-use Rattle.geo_tokens.proofs.Loop.{goes_on, found_shorter}
+use Rattle.geo_tokens.proofs.Followed.{one_shorter, one_more_alone}
 use Rattle.rule_syntax.specs.Grammar.{Named}
 use Rattle.rule_syntax.specs.Reading.{named_at}
 use Rattle.problem_syntax.specs.Reading.{next_at, names_at}
@@ -10,9 +10,12 @@ use Rattle.problem_syntax.proofs.objects.names.Goals as goal
 
 pub items-smaller : goal.items-smaller
 items-smaller c =
-    let lt : length c.in_ok-one.after.now < length c.items.rest.now = found_shorter (Bind (Tok (symbol symbols.Comma)) (λ mark. Named c.args.text.now)) (next_at (named_at c.args.text.now)) (symbol symbols.Comma) [] (next_name_good c.args.text.now) refl c.items.rest.now c.in_ok-one.after.now c.in_ok-one.one c.in_ok-one.ensures in
+    let lt : length c.in_ok-rest-2.rest.now < length c.items.rest.now = one_shorter (Bind (Tok (symbol symbols.Comma)) (λ mark. Named c.args.text.now)) (next_at (named_at c.args.text.now)) (symbol symbols.Comma) [] (next_name_good c.args.text.now) refl
+    (λ a. a) c.next_name.result c.items.read.items c.add-in-items.new.items.items c.items.rest.now c.in_ok-rest-2.rest c.in_ok-rest-2.ensures c.next_name.ensures in
     omega arith
 
 pub items-preserved : goal.items-preserved
 items-preserved c =
-    rw c.in_ok-push.ensures.items (goes_on (Bind (Tok (symbol symbols.Comma)) (λ mark. Named c.args.text.now)) (next_at (named_at c.args.text.now)) (symbol symbols.Comma) [] (next_name_good c.args.text.now) refl c.items.read.items c.items.rest.now c.in_ok-one.after.now c.in_ok-one.one (names_at c.args.text.now c.args.tokens.now) (sym c.next_is.ensures ∙ c.items-test.true) c.in_ok-one.ensures c.items.invariant)
+    one_more_alone (Bind (Tok (symbol symbols.Comma)) (λ mark. Named c.args.text.now)) (next_at (named_at c.args.text.now)) (symbol symbols.Comma) [] (next_name_good c.args.text.now) refl
+    c.next_name.result c.items.read.items c.add-in-items.new.items.items c.items.rest.now c.in_ok-rest-2.rest (names_at c.args.text.now c.args.tokens.now)
+    (sym c.next_is.ensures ∙ c.items-test.true) c.in_ok-rest-2.ensures c.next_name.ensures c.items.invariant

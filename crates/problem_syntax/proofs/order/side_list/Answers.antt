@@ -1,5 +1,5 @@
 use Rattle.std.proofs.Common.{[], ◌<◌, length, sym, ◌∙◌, arith, refl}
-use Rattle.geo_tokens.proofs.Loop.{goes_on, found_shorter}
+use Rattle.geo_tokens.proofs.Followed.{one_shorter, one_more_alone}
 use Rattle.problem_data.specs.Marks.{side_words}
 use Rattle.problem_data.specs.Grammar.{SideWords}
 use Rattle.problem_syntax.specs.Reading.{side_at, side_list_at}
@@ -8,9 +8,12 @@ use Rattle.problem_syntax.proofs.order.side_list.Goals as goal
 
 pub items-smaller : goal.items-smaller
 items-smaller c =
-    let lt : length c.in_ok-one.after.now < length c.items.rest.now = found_shorter SideWords side_at side_words [] side_good refl c.items.rest.now c.in_ok-one.after.now c.in_ok-one.one c.in_ok-one.ensures in
+    let lt : length c.in_ok-rest-2.rest.now < length c.items.rest.now = one_shorter SideWords side_at side_words [] side_good refl
+    (λ a. a) c.side-in-items.result c.items.read.items c.add-in-items.new.items.items c.items.rest.now c.in_ok-rest-2.rest c.in_ok-rest-2.ensures c.side-in-items.ensures in
     omega arith
 
 pub items-preserved : goal.items-preserved
 items-preserved c =
-    rw c.in_ok-push.ensures.items (goes_on SideWords side_at side_words [] side_good refl c.items.read.items c.items.rest.now c.in_ok-one.after.now c.in_ok-one.one (side_list_at c.args.tokens.now) (sym c.begins_side.ensures ∙ c.items-test.true) c.in_ok-one.ensures c.items.invariant)
+    one_more_alone SideWords side_at side_words [] side_good refl
+    c.side-in-items.result c.items.read.items c.add-in-items.new.items.items c.items.rest.now c.in_ok-rest-2.rest (side_list_at c.args.tokens.now)
+    (sym c.begins_side.ensures ∙ c.items-test.true) c.in_ok-rest-2.ensures c.side-in-items.ensures c.items.invariant

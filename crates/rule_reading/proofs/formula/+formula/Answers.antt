@@ -1,17 +1,15 @@
-use Rattle.std.proofs.Common.{◌≡◌, ◌∷◌, [], ◌++◌, ◌<◌, length, sym, subst, ◌∙◌, arith, refl}
-use Rattle.std.proofs.lemmas.List.{map_push}
-use Rattle.std.proofs.lemmas.Result.{err_from_is_err_and}
+use Rattle.std.proofs.Common.{◌<◌, length, sym, subst, ◌∙◌, arith, refl}
 use Rattle.geo_tokens.specs.declared.token.Keyword.TheVariants as keywords
 use Rattle.geo_tokens.specs.Words.{word, Bind, Tok}
 use Rattle.geo_tokens.specs.Gives.{Gives}
 use Rattle.geo_tokens.specs.Reading.{Read, many_at}
-use Rattle.geo_tokens.proofs.Loop.{goes_on, found_shorter, ends, is_done}
+use Rattle.geo_tokens.proofs.Loop.{is_done}
+use Rattle.geo_tokens.proofs.Followed.{one_shorter, one_more}
 use Rattle.rule_syntax.specs.Marks.{expr_behinds, conjunction_behinds}
 use Rattle.rule_syntax.specs.Tree.{FormulaTree}
 use Rattle.rule_syntax.specs.Grammar.{Unary, Conjunction}
 use Rattle.rule_syntax.specs.Reading.{and_unary_at, or_conjunction_at}
 use Rattle.rule_syntax.specs.View.{formula_view, formula_views}
-use Rattle.rule_syntax.proofs.Stopped.{stopped, out_of_memory}
 use Rattle.rule_reading.proofs.Formulas.{and_unary_good, or_conjunction_good, unary_flat, unary_nested}
 use Rattle.rule_reading.proofs.formula.+formula.Goals as goal
 
@@ -25,50 +23,30 @@ unary-returns-else-levels-eq0 t c =
 
 pub more_unaries-items-smaller : goal.more_unaries-items-smaller
 more_unaries-items-smaller t c =
-    let lt : length c.in_ok-operand.after.now < length c.items.rest.now = found_shorter (Bind (Tok (word keywords.And)) (λ mark. Unary c.args.text.now c.args.levels)) (and_unary_at c.args.text.now c.args.levels) (word keywords.And) expr_behinds (and_unary_good c.args.text.now c.args.levels) refl c.items.rest.now c.in_ok-operand.after.now (formula_view c.in_ok-operand.operand) c.in_ok-operand.ensures in
+    let lt : length c.in_ok-rest.rest.now < length c.items.rest.now = one_shorter (Bind (Tok (word keywords.And)) (λ mark. Unary c.args.text.now c.args.levels)) (and_unary_at c.args.text.now c.args.levels) (word keywords.And) expr_behinds (and_unary_good c.args.text.now c.args.levels) refl
+    formula_view c.and_unary-operand.result c.items.operands.items c.add.new.items.items c.items.rest.now c.in_ok-rest.rest c.in_ok-rest.ensures c.and_unary-operand.ensures in
     omega arith
 
 pub more_unaries-items-preserved : goal.more_unaries-items-preserved
 more_unaries-items-preserved t c =
-    let e : formula_views c.push.new.self ≡ formula_views c.items.operands ++ formula_view c.in_ok-operand.operand ∷ [] = rw c.in_ok-push.ensures.items (map_push _ c.items.operands.items c.in_ok-operand.operand) in
-    rw e (goes_on (Bind (Tok (word keywords.And)) (λ mark. Unary c.args.text.now c.args.levels)) (and_unary_at c.args.text.now c.args.levels) (word keywords.And) expr_behinds (and_unary_good c.args.text.now c.args.levels) refl
-    (formula_views c.items.operands) c.items.rest.now c.in_ok-operand.after.now (formula_view c.in_ok-operand.operand) (many_at (word keywords.And) (and_unary_at c.args.text.now c.args.levels) c.args.tokens.now) (sym c.next_is.ensures ∙ c.items-test.true) c.in_ok-operand.ensures c.items.invariant)
+    one_more (Bind (Tok (word keywords.And)) (λ mark. Unary c.args.text.now c.args.levels)) (and_unary_at c.args.text.now c.args.levels) (word keywords.And) expr_behinds (and_unary_good c.args.text.now c.args.levels) refl
+    formula_view c.and_unary-operand.result c.items.operands.items c.add.new.items.items c.items.rest.now c.in_ok-rest.rest (many_at (word keywords.And) (and_unary_at c.args.text.now c.args.levels) c.args.tokens.now)
+    (sym c.next_is.ensures ∙ c.items-test.true) c.in_ok-rest.ensures c.and_unary-operand.ensures c.items.invariant
 
 pub more_conjunctions-items-smaller : goal.more_conjunctions-items-smaller
 more_conjunctions-items-smaller t c =
-    let lt : length c.in_ok-operand.after.now < length c.items.rest.now = found_shorter (Bind (Tok (word keywords.Or)) (λ mark. Conjunction (Unary c.args.text.now c.args.levels))) (or_conjunction_at c.args.text.now c.args.levels) (word keywords.Or) conjunction_behinds (or_conjunction_good c.args.text.now c.args.levels) refl c.items.rest.now c.in_ok-operand.after.now (formula_view c.in_ok-operand.operand) c.in_ok-operand.ensures in
+    let lt : length c.in_ok-rest.rest.now < length c.items.rest.now = one_shorter (Bind (Tok (word keywords.Or)) (λ mark. Conjunction (Unary c.args.text.now c.args.levels))) (or_conjunction_at c.args.text.now c.args.levels) (word keywords.Or) conjunction_behinds (or_conjunction_good c.args.text.now c.args.levels) refl
+    formula_view c.or_conjunction-operand.result c.items.operands.items c.add.new.items.items c.items.rest.now c.in_ok-rest.rest c.in_ok-rest.ensures c.or_conjunction-operand.ensures in
     omega arith
 
 pub more_conjunctions-items-preserved : goal.more_conjunctions-items-preserved
 more_conjunctions-items-preserved t c =
-    let e : formula_views c.push.new.self ≡ formula_views c.items.operands ++ formula_view c.in_ok-operand.operand ∷ [] = rw c.in_ok-push.ensures.items (map_push _ c.items.operands.items c.in_ok-operand.operand) in
-    rw e (goes_on (Bind (Tok (word keywords.Or)) (λ mark. Conjunction (Unary c.args.text.now c.args.levels))) (or_conjunction_at c.args.text.now c.args.levels) (word keywords.Or) conjunction_behinds (or_conjunction_good c.args.text.now c.args.levels) refl
-    (formula_views c.items.operands) c.items.rest.now c.in_ok-operand.after.now (formula_view c.in_ok-operand.operand) (many_at (word keywords.Or) (or_conjunction_at c.args.text.now c.args.levels) c.args.tokens.now) (sym c.next_is.ensures ∙ c.items-test.true) c.in_ok-operand.ensures c.items.invariant)
-
-pub more_unaries-returns-in_err-operand : goal.more_unaries-returns-in_err-operand
-more_unaries-returns-in_err-operand t c =
-    let r = err_from_is_err_and c.from_residual.result c.from_residual.ensures.1 in
-    stopped formula_views c.from_residual.result (many_at (word keywords.And) (and_unary_at c.args.text.now c.args.levels) c.args.tokens.now) _ _ r.1 r.2
-    (ends (Bind (Tok (word keywords.And)) (λ mark. Unary c.args.text.now c.args.levels)) (and_unary_at c.args.text.now c.args.levels) (word keywords.And) expr_behinds (and_unary_good c.args.text.now c.args.levels) refl c.in_err-operand.field-0.0 (formula_views c.items.operands) c.items.rest.now (many_at (word keywords.And) (and_unary_at c.args.text.now c.args.levels) c.args.tokens.now) (sym c.next_is.ensures ∙ c.items-test.true) (c.in_err-operand.ensures {u = tt}) c.items.invariant)
-
-pub more_unaries-returns-in_err-push : goal.more_unaries-returns-in_err-push
-more_unaries-returns-in_err-push t c =
-    let r = err_from_is_err_and c.from_residual-in_err-push.result c.from_residual-in_err-push.ensures.1 in
-    out_of_memory formula_views c.from_residual-in_err-push.result (many_at (word keywords.And) (and_unary_at c.args.text.now c.args.levels) c.args.tokens.now) _ r.1 r.2
+    one_more (Bind (Tok (word keywords.Or)) (λ mark. Conjunction (Unary c.args.text.now c.args.levels))) (or_conjunction_at c.args.text.now c.args.levels) (word keywords.Or) conjunction_behinds (or_conjunction_good c.args.text.now c.args.levels) refl
+    formula_view c.or_conjunction-operand.result c.items.operands.items c.add.new.items.items c.items.rest.now c.in_ok-rest.rest (many_at (word keywords.Or) (or_conjunction_at c.args.text.now c.args.levels) c.args.tokens.now)
+    (sym c.next_is.ensures ∙ c.items-test.true) c.in_ok-rest.ensures c.or_conjunction-operand.ensures c.items.invariant
 
 pub more_unaries-returns : goal.more_unaries-returns
 more_unaries-returns t c = is_done (word keywords.And) (and_unary_at c.args.text.now c.args.levels) (formula_views c.items.operands) c.items.rest.now (many_at (word keywords.And) (and_unary_at c.args.text.now c.args.levels) c.args.tokens.now) (sym c.next_is.ensures ∙ c.items-test.false) c.items.invariant
-
-pub more_conjunctions-returns-in_err-operand : goal.more_conjunctions-returns-in_err-operand
-more_conjunctions-returns-in_err-operand t c =
-    let r = err_from_is_err_and c.from_residual.result c.from_residual.ensures.1 in
-    stopped formula_views c.from_residual.result (many_at (word keywords.Or) (or_conjunction_at c.args.text.now c.args.levels) c.args.tokens.now) _ _ r.1 r.2
-    (ends (Bind (Tok (word keywords.Or)) (λ mark. Conjunction (Unary c.args.text.now c.args.levels))) (or_conjunction_at c.args.text.now c.args.levels) (word keywords.Or) conjunction_behinds (or_conjunction_good c.args.text.now c.args.levels) refl c.in_err-operand.field-0.0 (formula_views c.items.operands) c.items.rest.now (many_at (word keywords.Or) (or_conjunction_at c.args.text.now c.args.levels) c.args.tokens.now) (sym c.next_is.ensures ∙ c.items-test.true) (c.in_err-operand.ensures {u = tt}) c.items.invariant)
-
-pub more_conjunctions-returns-in_err-push : goal.more_conjunctions-returns-in_err-push
-more_conjunctions-returns-in_err-push t c =
-    let r = err_from_is_err_and c.from_residual-in_err-push.result c.from_residual-in_err-push.ensures.1 in
-    out_of_memory formula_views c.from_residual-in_err-push.result (many_at (word keywords.Or) (or_conjunction_at c.args.text.now c.args.levels) c.args.tokens.now) _ r.1 r.2
 
 pub more_conjunctions-returns : goal.more_conjunctions-returns
 more_conjunctions-returns t c = is_done (word keywords.Or) (or_conjunction_at c.args.text.now c.args.levels) (formula_views c.items.operands) c.items.rest.now (many_at (word keywords.Or) (or_conjunction_at c.args.text.now c.args.levels) c.args.tokens.now) (sym c.next_is.ensures ∙ c.items-test.false) c.items.invariant

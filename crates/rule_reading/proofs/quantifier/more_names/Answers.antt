@@ -1,16 +1,15 @@
-use Rattle.std.proofs.Common.{◌≡◌, ◌∷◌, [], ◌++◌, sym, ◌∙◌, refl}
+use Rattle.std.proofs.Common.{[], sym, ◌∙◌, refl}
 use Rattle.geo_tokens.specs.declared.token.Sym.TheVariants as syms
 use Rattle.geo_tokens.specs.Words.{symbol, Bind, Tok}
 use Rattle.geo_tokens.specs.Reading.{many_at}
-use Rattle.geo_tokens.proofs.Loop.{goes_on}
+use Rattle.geo_tokens.proofs.Followed.{one_more_alone}
 use Rattle.rule_syntax.specs.Grammar.{Named}
 use Rattle.rule_syntax.specs.Reading.{next_name_at}
-use Rattle.rule_syntax.specs.View.{names_view}
 use Rattle.rule_reading.proofs.Formulas.{next_name_good}
 use Rattle.rule_reading.proofs.quantifier.more_names.Goals as goal
 
 pub items-preserved : goal.items-preserved
 items-preserved c =
-    let e : names_view c.push.new.self ≡ names_view c.items.names ++ c.in_ok-name.name ∷ [] = c.in_ok-push.ensures.items in
-    rw e (goes_on (Bind (Tok (symbol syms.Comma)) (λ mark. Named c.args.text.now)) (next_name_at c.args.text.now) (symbol syms.Comma) [] (next_name_good c.args.text.now) refl
-    (names_view c.items.names) c.items.rest.now c.in_ok-name.after.now c.in_ok-name.name (many_at (symbol syms.Comma) (next_name_at c.args.text.now) c.args.tokens.now) (sym c.next_is.ensures ∙ c.items-test.true) c.in_ok-name.ensures c.items.invariant)
+    one_more_alone (Bind (Tok (symbol syms.Comma)) (λ mark. Named c.args.text.now)) (next_name_at c.args.text.now) (symbol syms.Comma) [] (next_name_good c.args.text.now) refl
+    c.next_name-name.result c.items.names.items c.add.new.items.items c.items.rest.now c.in_ok-rest.rest (many_at (symbol syms.Comma) (next_name_at c.args.text.now) c.args.tokens.now)
+    (sym c.next_is.ensures ∙ c.items-test.true) c.in_ok-rest.ensures c.next_name-name.ensures c.items.invariant

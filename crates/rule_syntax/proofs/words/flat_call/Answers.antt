@@ -3,4 +3,4 @@ use Rattle.rule_syntax.proofs.Refusals.{call_refused}
 use Rattle.rule_syntax.proofs.words.flat_call.Goals as goal
 
 pub returns : goal.returns
-returns c = call_refused expr_view c.refused_expression.result c.args.text.now c.args.tokens.now _ _ _ _ c.in_ok-rest.ensures c.in_ok-rest-2.ensures c.refused_expression.ensures
+returns c = call_refused expr_view c.refused_expression.result c.args.text.now c.args.tokens.now _ _ _ _ c.in-Some.ensures.2 c.in_ok-rest.ensures c.refused_expression.ensures
