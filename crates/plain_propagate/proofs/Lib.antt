@@ -4,3 +4,4 @@ pub mod Finding
 pub mod Passing
 pub mod Recorded
 pub mod Blaming
+pub mod Numbers

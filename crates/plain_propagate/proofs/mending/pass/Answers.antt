@@ -1,8 +1,8 @@
 use Rattle.std.proofs.Common.{◌≡◌, ◌+◌, ◌-◌, take, Bool, refl, ap, ◌∙◌, subst, arith, length, Option, ℕ, true}
 use Rattle.std.specs.Prelude.{MatchOption}
-use Rattle.geo_conditions.specs.Reach.{State}
+use Rattle.geo_conditions.specs.Reach.{State, Inside}
 use Rattle.geo_conditions.specs.Supported.{NoneInside, NoneRefuted}
-use Rattle.geo_conditions.proofs.Points.{inside_self}
+use Rattle.geo_conditions.proofs.Points.{inside_self, inside_trans}
 use Rattle.derivation.specs.Covers.{refutes}
 use Rattle.plain_propagate.specs.declared.mending.Outcome.{Outcome}
 use Rattle.plain_propagate.specs.Passes.{Repairs}
@@ -13,7 +13,7 @@ use Rattle.derivation.proofs.Refuting.{some_refuted}
 use Rattle.derivation.proofs.Chains.{led_same, led_on, led_closed}
 use Rattle.derivation.proofs.Continuing.{growth_none, growth_on, growth_failed}
 use Rattle.plain_propagate.proofs.Finding.{refuted_hopeless, all_supported}
-use Rattle.plain_propagate.proofs.Narrowed.{Unless, FineBelow, going_start}
+use Rattle.plain_propagate.proofs.Narrowed.{Unless, FineBelow, going_start, gone_dead}
 use Rattle.plain_propagate.proofs.Passing.{Along, along_changed, along_fine}
 use Rattle.plain_propagate.proofs.mending.pass.Goals as goal
 use Rattle.plain_propagate.proofs.mending.pass.Goals.{in-Changed, in-Fine}
@@ -128,3 +128,26 @@ pub returns-else-changed-clause-blame : goal.returns-else-changed-clause-blame
 returns-else-changed-clause-blame g c = λ kept.
     subst (NoneRefuted c.args.cs.now) c.state.ensures.value
     (subst (λ (a : Option ℕ). MatchOption a (NoneRefuted c.args.cs.now c.state.result.now) (λ n. refutes c.args.cs.now n c.state.result.now ≡ true)) c.in_default.is c.first_refuted.ensures.found)
+
+pub returns-in_err-outcome-clause-inside : goal.returns-in_err-outcome-clause-inside
+returns-in_err-outcome-clause-inside g c = inside_trans c.repair.new.t.state c.loop-o.t.state c.args.t.now.state c.repair.ensures.inside c.loop-o.invariant.going.keeps.inside
+
+pub returns-in-Dead-clause-passes : goal.returns-in-Dead-clause-passes
+returns-in-Dead-clause-passes g c =
+    let cs = c.args.cs.now in
+    let R = c.loop-o.t.state in
+    let Q = c.repair.new.t.state in
+    let r : NoneInside cs R × Inside Q R = subst (λ (a : Outcome). Repairs cs R c.loop-o.o a Q) c.in-Dead.is c.in_ok-outcome.ensures.repairs in
+    gone_dead cs c.args.t.now.state R Q c.loop-o.invariant.going r.0 r.1
+
+pub returns-in-Dead-clause-inside : goal.returns-in-Dead-clause-inside
+returns-in-Dead-clause-inside g c = inside_trans c.repair.new.t.state c.loop-o.t.state c.args.t.now.state c.repair.ensures.inside c.loop-o.invariant.going.keeps.inside
+
+pub returns-then-changed-clause-passes : goal.returns-then-changed-clause-passes
+returns-then-changed-clause-passes g c = subst (λ (b : Bool). Unless b c.args.cs.now c.args.t.now.state c.loop-o.t.state) c.if-changed.true c.loop-o.invariant.unless
+
+pub returns-then-changed-clause-inside : goal.returns-then-changed-clause-inside
+returns-then-changed-clause-inside g c = c.loop-o.invariant.going.keeps.inside
+
+pub returns-else-changed-clause-inside : goal.returns-else-changed-clause-inside
+returns-else-changed-clause-inside g c = c.loop-o.invariant.going.keeps.inside

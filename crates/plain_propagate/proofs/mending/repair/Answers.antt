@@ -1,12 +1,13 @@
-use Rattle.std.proofs.Common.{◌≡◌, Bool, refl, ◌∙◌, subst, Option}
+use Rattle.std.proofs.Common.{◌≡◌, Bool, refl, sym, ◌∙◌, subst, Option}
 use Rattle.std.specs.Prelude.{MatchBool, MatchOption}
-use Rattle.geo_conditions.specs.Reach.{State}
+use Rattle.geo_conditions.specs.Reach.{State, Inside}
+use Rattle.geo_conditions.proofs.Points.{inside_self}
 use Rattle.geo_conditions.specs.Supported.{NoneInside}
 use Rattle.plain_propagate.specs.declared.defects.Defect.{Defect}
 use Rattle.plain_propagate.specs.Defects.{ObjectFine, IsDefect}
 use Rattle.plain_propagate.specs.Passes.{IsNarrower}
 use Rattle.derivation.specs.Chains.{IsLed, IsClosed}
-use Rattle.plain_propagate.proofs.Narrowed.{Mended, Unless, going_start, going_on, unless_on}
+use Rattle.plain_propagate.proofs.Narrowed.{Mended, Unless, going_start, going_on, gone_dead, unless_on}
 use Rattle.derivation.proofs.Chains.{led_same, led_on, led_closed}
 use Rattle.derivation.proofs.Continuing.{growth_none, growth_on, growth_failed}
 use Rattle.plain_propagate.proofs.mending.repair.Goals as goal
@@ -71,3 +72,29 @@ returns-then-changed-clause-grows g c = c.loop-defect.invariant.grows
 
 pub returns-else-changed-clause-grows : goal.returns-else-changed-clause-grows
 returns-else-changed-clause-grows g c = c.loop-defect.invariant.grows
+
+pub loop-defect-smaller : goal.loop-defect-smaller
+loop-defect-smaller g c =
+    let cs = c.args.cs.now in
+    let R = c.loop-defect.t.state in
+    let Q = c.mend.new.t.state in
+    let m : Mended cs R Q = subst (λ (b : Bool). MatchBool b (IsNarrower cs R Q) (NoneInside cs R × (Q ≡ R))) c.if-not-branch.false c.in_ok-mend.ensures.mended in
+    m.1
+
+pub returns-then-not-branch-clause-repairs : goal.returns-then-not-branch-clause-repairs
+returns-then-not-branch-clause-repairs g c =
+    let cs = c.args.cs.now in
+    let S = c.args.t.now.state in
+    let R = c.loop-defect.t.state in
+    let Q = c.mend.new.t.state in
+    let n : NoneInside cs R × (Q ≡ R) = subst (λ (b : Bool). MatchBool b (IsNarrower cs R Q) (NoneInside cs R × (Q ≡ R))) c.if-not-branch.true c.in_ok-mend.ensures.mended in
+    gone_dead cs S R Q c.loop-defect.invariant.going n.0 (subst (λ (T : State). Inside T R) (sym n.1) (inside_self R))
+
+pub returns-then-changed-clause-repairs : goal.returns-then-changed-clause-repairs
+returns-then-changed-clause-repairs g c = subst (λ (b : Bool). Unless b c.args.cs.now c.args.t.now.state c.loop-defect.t.state) c.if-changed.true c.loop-defect.invariant.unless
+
+pub returns-then-changed-clause-inside : goal.returns-then-changed-clause-inside
+returns-then-changed-clause-inside g c = c.loop-defect.invariant.going.keeps.inside
+
+pub returns-else-changed-clause-inside : goal.returns-else-changed-clause-inside
+returns-else-changed-clause-inside g c = c.loop-defect.invariant.going.keeps.inside
