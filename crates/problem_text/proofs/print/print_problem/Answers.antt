@@ -23,3 +23,6 @@ returns-in_err-text-clause-read_back g c short = said_again c.args.problem.now c
 
 pub returns-clause-nothing : goal.returns-clause-nothing
 returns-clause-nothing g c quiet wants = absurd ((c.write_all_bytes.ensures.quiet quiet).1 wants)
+
+pub returns-clause-cause : goal.returns-clause-cause
+returns-clause-cause g c = c.write_all_bytes.ensures.cause
