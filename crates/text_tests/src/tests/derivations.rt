@@ -157,10 +157,7 @@ const PIECES: &[Row] = &[
 ];
 
 /// What the first row wants whose pieces are answered with something else.
-fn wrong_answer(
-    alloc: Global,
-    rows: &'static [Row],
-) -> Result<Option<&'static str>, AllocError> {
+fn wrong_answer(alloc: Global, rows: &'static [Row]) -> Result<Option<&'static str>, AllocError> {
     let names = table(alloc)?;
     for (pieces, wanted) in rows {
         let shown = answers(alloc, &names, pieces)?;

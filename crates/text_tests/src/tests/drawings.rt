@@ -210,10 +210,7 @@ fn is_answer(
 }
 
 /// The first layout text that has another drawing or fault than its row says.
-fn wrong_layout(
-    alloc: Global,
-    rows: &'static [Row],
-) -> Result<Option<&'static [u8]>, AllocError> {
+fn wrong_layout(alloc: Global, rows: &'static [Row]) -> Result<Option<&'static [u8]>, AllocError> {
     for (problem, layout, wanted) in rows {
         if !is_answer(alloc, problem, layout, wanted)? {
             return Ok(Some(layout));

@@ -109,10 +109,7 @@ fn block(alloc: Global, problem: &[u8], word: &[u8]) -> Result<Vec<u8>, TextFaul
 }
 
 /// The first word that has another block or fault than its row says.
-fn wrong_word(
-    alloc: Global,
-    rows: &'static [Row],
-) -> Result<Option<&'static [u8]>, TextFault> {
+fn wrong_word(alloc: Global, rows: &'static [Row]) -> Result<Option<&'static [u8]>, TextFault> {
     for (problem, word, wanted) in rows {
         let found = block(alloc, problem, word)?;
         if found.as_slice() != *wanted {
