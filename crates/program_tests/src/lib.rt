@@ -8,6 +8,8 @@ mod checking;
 #[cfg(test)]
 mod ends;
 #[cfg(test)]
+mod generated;
+#[cfg(test)]
 mod listing;
 #[cfg(test)]
 mod making;

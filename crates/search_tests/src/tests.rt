@@ -1,4 +1,11 @@
+mod boxes;
 mod checking;
+mod events;
+mod forbidden;
 mod lines;
+mod literals;
+mod pruning;
 mod records;
+mod sweeping;
 mod trail;
+mod trimming;

@@ -1,7 +1,9 @@
 //! Derivations, and what the check says of them.
 
-use super::lines::{A, B, C, CHAIN, FALSE, FREE, Rules, TWO_APART, conditions, line};
-use derivation::{Event, Log, Recorder};
+use super::events::{many_splits, record};
+use super::lines::{CHAIN, FALSE, FREE, Rules, TWO_APART, conditions, line};
+use super::literals::{A, B, C};
+use derivation::{Event, Log};
 use derivation_check::{Checked, all_fit as events_fit, check};
 use geo_conditions::all_fit;
 use std::alloc::{AllocError, Global};
@@ -25,15 +27,6 @@ fn checked(
         Checked::Yes => Ok(Some(0)),
         Checked::No(n) => Ok(Some(n)),
     }
-}
-
-/// A record of the events.
-fn record(alloc: Global, events: &[Event]) -> Result<Log, AllocError> {
-    let mut log = Log::new(alloc);
-    for event in events {
-        log.add(*event)?;
-    }
-    Ok(log)
 }
 
 /// Each row: the ranges of the objects, what has to hold of them, the events, and the answer.
@@ -184,24 +177,10 @@ fn the_first_node_that_fails_is_named(rt: HostRuntime) -> Result<(), Fail> {
     Ok(())
 }
 
-/// A hundred thousand splits inside each other, each with an end for its first part, and the end of the last second part.
-fn many_splits(alloc: Global, last: u32) -> Result<Log, AllocError> {
-    let mut log = Log::new(alloc);
-    for i in 0..200_000u32 {
-        log.add(if i < 100_000 {
-            Event::SplitUpto(A, 0, 9)
-        } else {
-            Event::Dead(1)
-        })?;
-    }
-    log.add(Event::Dead(last))?;
-    Ok(log)
-}
-
 #[test]
 fn a_derivation_may_be_as_deep_as_it_is_long(rt: HostRuntime) -> Result<(), Fail> {
     for (last, wanted) in [(1, 0), (2, 200_001)] {
-        let log = many_splits(rt.alloc(), last)?;
+        let log = many_splits(rt.alloc(), 9, 1, last)?;
         assert!(rt; checked(rt.alloc(), &[(0, 9)], FALSE, &log)? == Some(wanted));
     }
     Ok(())

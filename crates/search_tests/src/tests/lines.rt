@@ -1,15 +1,9 @@
-//! Objects on a line, conditions on them, and events.
+//! Objects on a line, and conditions on them.
 
-use derivation::Event;
+use super::literals::{A, B, C};
 use geo_base::{KBox, Point};
 use geo_conditions::{Cond, Conds, Form, ObjId, State};
 use std::alloc::{AllocError, Global};
-
-pub const A: ObjId = ObjId(0);
-
-pub const B: ObjId = ObjId(1);
-
-pub const C: ObjId = ObjId(2);
 
 /// An object of one shape for each of the ranges.
 pub fn line(alloc: Global, ranges: &[(i64, i64)]) -> Result<State<1>, AllocError> {
@@ -76,23 +70,4 @@ pub fn conditions(alloc: Global, rules: Rules) -> Result<Vec<Cond>, AllocError> 
         list.push(condition(alloc, literals)?)?;
     }
     Ok(list)
-}
-
-/// The kind of an event, and its numbers.
-pub fn parts(e: &Event) -> (u8, u16, usize, i64) {
-    match *e {
-        Event::SplitShape(o, s) => (0, o.0, 0, i64::from(s)),
-        Event::SplitUpto(o, d, v) => (1, o.0, d, v),
-        Event::SplitFrom(o, d, v) => (2, o.0, d, v),
-        Event::Drop(o, s) => (3, o.0, 0, i64::from(s)),
-        Event::Raise(o, d, v) => (4, o.0, d, v),
-        Event::Lower(o, d, v) => (5, o.0, d, v),
-        Event::Gone(o) => (6, o.0, 0, 0),
-        Event::Dead(i) => (7, 0, 0, i64::from(i)),
-        Event::Cover(s) => (8, 0, 0, i64::from(s)),
-        Event::EndCovers => (9, 0, 0, 0),
-        Event::By(i) => (10, 0, 0, i64::from(i)),
-        Event::Cut(d, v) => (11, 0, d, v),
-        Event::CutFrom(d, v) => (12, 0, d, v),
-    }
 }

@@ -4,7 +4,9 @@ ghost use Rattle.std.specs.Prelude.{◌≡◌, ◌≤◌, IfOk, length, map};
 ghost use Rattle.geo_conditions.specs.Conditions.{AllFit};
 ghost use Rattle.geo_state.specs.Trail.{HasSmallIntervals};
 
-use super::lines::{B, C, FALSE, Rules, THREE_APART, conditions, line, parts};
+use super::events::parts;
+use super::lines::{FALSE, Rules, THREE_APART, conditions, line};
+use super::literals::{B, C};
 use derivation::{Event, Log};
 use fixpoint::Fixpoint;
 use geo_conditions::{Cond, State, all_fit};

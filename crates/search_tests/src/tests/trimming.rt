@@ -3,29 +3,14 @@
 ghost use Rattle.std.specs.Prelude.{◌<◌};
 ghost use Rattle.geo_conditions.specs.Conditions.{AllFit};
 
-use derivation::{Event, Log, Recorder};
+use super::events::{are_same, many_splits, record};
+use super::lines::line;
+use super::literals::{A, B, C};
+use derivation::{Event, Log};
 use derivation_trim::{is_derivation, shortened};
-use geo_base::{KBox, Point};
 use geo_conditions::{Cond, Conds, Form, ObjId, State, all_fit};
 use std::alloc::{AllocError, Global};
 use std::test::Fail;
-
-const A: ObjId = ObjId(0);
-
-const B: ObjId = ObjId(1);
-
-const C: ObjId = ObjId(2);
-
-/// An object of one shape for each of the ranges, on a line.
-fn line(alloc: Global, ranges: &[(i64, i64)]) -> Result<State<1>, AllocError> {
-    let mut s = State::new(alloc);
-    for range in ranges {
-        if s.objects() < 10 {
-            s.add_object(1, KBox::new(Point::filled(range.0), Point::filled(range.1)))?;
-        }
-    }
-    Ok(s)
-}
 
 /// The object a is less than b.
 fn less(alloc: Global, a: ObjId, b: ObjId) -> Result<Cond, AllocError>
@@ -68,43 +53,6 @@ fn conditions(alloc: Global) -> Result<Vec<Cond>, AllocError> {
         list.push(condition(alloc, number)?)?;
     }
     Ok(list)
-}
-
-/// A record of the events.
-fn record(alloc: Global, events: &[Event]) -> Result<Log, AllocError> {
-    let mut log = Log::new(alloc);
-    for event in events {
-        log.add(*event)?;
-    }
-    Ok(log)
-}
-
-/// The kind of an event, and its numbers.
-fn parts(e: &Event) -> (u8, u16, usize, i64) {
-    match *e {
-        Event::SplitShape(o, s) => (0, o.0, 0, i64::from(s)),
-        Event::SplitUpto(o, d, v) => (1, o.0, d, v),
-        Event::SplitFrom(o, d, v) => (2, o.0, d, v),
-        Event::Drop(o, s) => (3, o.0, 0, i64::from(s)),
-        Event::Raise(o, d, v) => (4, o.0, d, v),
-        Event::Lower(o, d, v) => (5, o.0, d, v),
-        Event::Gone(o) => (6, o.0, 0, 0),
-        Event::Dead(i) => (7, 0, 0, i64::from(i)),
-        Event::Cover(s) => (8, 0, 0, i64::from(s)),
-        Event::EndCovers => (9, 0, 0, 0),
-        Event::By(i) => (10, 0, 0, i64::from(i)),
-        Event::Cut(d, v) => (11, 0, d, v),
-        Event::CutFrom(d, v) => (12, 0, d, v),
-    }
-}
-
-/// Whether both are the same events.
-fn are_same(events: &[Event], wanted: &[Event]) -> bool {
-    let mut same = events.len() == wanted.len();
-    for (event, other) in events.iter().zip(wanted) {
-        same &= parts(event) == parts(other);
-    }
-    same
 }
 
 /// Whether the events are shortened to those that are wanted, and are a derivation before and behind that, or neither time.
@@ -412,23 +360,9 @@ fn what_no_step_leans_on_is_left_out(rt: HostRuntime) -> Result<(), Fail> {
     Ok(())
 }
 
-/// A hundred thousand splits inside each other, each with an end for its first part, and the end of
-/// the last second part.
-fn many_splits(alloc: Global) -> Result<Log, AllocError> {
-    let mut log = Log::new(alloc);
-    for i in 0..200_001u32 {
-        log.add(if i < 100_000 {
-            Event::SplitUpto(A, 0, 0)
-        } else {
-            Event::Dead(3)
-        })?;
-    }
-    Ok(log)
-}
-
 #[test]
-fn a_derivation_may_be_as_deep_as_it_is_long(rt: HostRuntime) -> Result<(), Fail> {
-    let log = many_splits(rt.alloc())?;
+fn a_derivation_of_any_depth_is_shortened(rt: HostRuntime) -> Result<(), Fail> {
+    let log = many_splits(rt.alloc(), 0, 3, 3)?;
     assert!(rt; is_right(rt.alloc(), &[(0, 1); 3], &log, &[Event::Dead(3)], true)?);
     Ok(())
 }

@@ -3,8 +3,8 @@
 ghost use Rattle.std.specs.Prelude.{◌≡◌, ◌<◌, length};
 ghost use Rattle.geo_base.specs.Ways.{IsSmallPoint};
 
+use super::events::are_same;
 use super::literals::{A, state};
-use super::pruning::are_same;
 use derivation::{Event, Log, Recorder};
 use geo_base::{KBox, Point, Steps, Way};
 use geo_conditions::State;

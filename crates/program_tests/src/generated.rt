@@ -1,11 +1,12 @@
+// Lines of the problems that are made from a seed, against draws worked out by hand.
 use problem_generator::make_problem;
 use std::test::Fail;
 
-/// Lines of the problems of seeds, by their numbers from 0; `?` where there is no such line. The
-/// seeds are the least one, one, and the greatest, and the last line ends each text.
-///
-/// The upper bits of the first states are 16838, 5758, 10113, 17515, 31051 and 5627 from seed 1; 0,
-/// 21468 and 9988 from seed 0; and 15929, 4409 and 9862 from the greatest.
+// Lines of the problems of seeds, by their numbers from 0; `?` where there is no such line. The
+// seeds are the least one, one, and the greatest, and the last line ends each text.
+//
+// The upper bits of the first states are 16838, 5758, 10113, 17515, 31051 and 5627 from seed 1; 0,
+// 21468 and 9988 from seed 0; and 15929, 4409 and 9862 from the greatest.
 const LINES: &[(u32, usize, &[u8])] = &[
     (1, 0, b"geost 1 dims 3"),
     (1, 1, b"shape s1a box 0 0 0 size 3 2 2 ;"),
@@ -29,7 +30,7 @@ const LINES: &[(u32, usize, &[u8])] = &[
     (2_147_483_647, 125, b"?"),
 ];
 
-/// The line of that number.
+// The line of that number.
 fn line(text: &[u8], number: usize) -> &[u8] {
     let mut lines = text.split(|byte| *byte == b'\n');
     lines.nth(number).unwrap_or(b"?")

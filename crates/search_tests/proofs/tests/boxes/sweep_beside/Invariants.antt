@@ -1,4 +1,4 @@
-use Rattle.sweep_tests.proofs.tests.boxes.sweep_beside.Given as goal
+use Rattle.search_tests.proofs.tests.boxes.sweep_beside.Given as goal
 
 abbrev pub ghosts-sweep_with : goal.ghosts-sweep_with
 ghosts-sweep_with g a = record { name = a.blank.name; parts = a.blank.parts }

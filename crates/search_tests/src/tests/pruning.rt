@@ -6,6 +6,7 @@ ghost use Rattle.geo_conditions.specs.Conditions.{AllFit};
 ghost use Rattle.geo_conditions.specs.Reach.{Reach};
 ghost use Rattle.object_pruning.specs.Kept.{AllSupport};
 
+use super::events::are_same;
 use super::literals::{A, of_one, of_two, state};
 use derivation::{Event, Log};
 use geo_conditions::{Cond, Conds, State, fits};
@@ -64,36 +65,6 @@ fn conditions(alloc: Global, s: &State<1>) -> Result<Vec<AnyIndexical<1>>, Alloc
         }
     }
     Ok(list)
-}
-
-/// The kind of an event, and its numbers.
-fn parts(e: &Event) -> (u8, u16, usize, i64) {
-    match *e {
-        Event::SplitShape(o, s) => (0, o.0, 0, i64::from(s)),
-        Event::SplitUpto(o, d, v) => (1, o.0, d, v),
-        Event::SplitFrom(o, d, v) => (2, o.0, d, v),
-        Event::Drop(o, s) => (3, o.0, 0, i64::from(s)),
-        Event::Raise(o, d, v) => (4, o.0, d, v),
-        Event::Lower(o, d, v) => (5, o.0, d, v),
-        Event::Gone(o) => (6, o.0, 0, 0),
-        Event::Dead(i) => (7, 0, 0, i64::from(i)),
-        Event::Cover(s) => (8, 0, 0, i64::from(s)),
-        Event::EndCovers => (9, 0, 0, 0),
-        Event::By(i) => (10, 0, 0, i64::from(i)),
-        Event::Cut(d, v) => (11, 0, d, v),
-        Event::CutFrom(d, v) => (12, 0, d, v),
-    }
-}
-
-/// Whether both are the same events.
-pub fn are_same(events: &[Event], wanted: &[Event]) -> bool {
-    let mut same = events.len() == wanted.len();
-    for (event, other) in events.iter().zip(wanted) {
-        let (kind, o, d, v) = parts(event);
-        let (other, u, e, w) = parts(other);
-        same &= kind == other && o == u && d == e && v == w;
-    }
-    same
 }
 
 /// The short shape has its origin in 3 to 8 and the long one in 7 to 9.

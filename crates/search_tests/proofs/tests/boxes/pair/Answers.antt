@@ -4,7 +4,7 @@ use Rattle.geo_conditions.specs.declared.cond.Cond.{Cond}
 use Rattle.geo_conditions.specs.Conditions.{FitsIn}
 use Rattle.indexical.specs.declared.apart.ApartIndexical.{ApartIndexical}
 use Rattle.indexical.specs.Apart.{apart}
-use Rattle.sweep_tests.proofs.tests.boxes.pair.Goals as goal
+use Rattle.search_tests.proofs.tests.boxes.pair.Goals as goal
 
 pub returns : goal.returns
 returns c =

@@ -1,5 +1,0 @@
-mod boxes;
-mod forbidden;
-mod literals;
-mod pruning;
-mod sweeping;
