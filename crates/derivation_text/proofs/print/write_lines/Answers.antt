@@ -1,6 +1,7 @@
-use Rattle.std.proofs.Common.{◌≡◌, ◌+◌, ◌++◌, ℕ, List, drop, get_or, ap, sym, subst, ◌∙◌, arith, append_assoc}
+use Rattle.std.proofs.Common.{◌≡◌, ◌+◌, ◌++◌, ℕ, List, [], drop, get_or, ap, sym, subst, ◌∙◌, arith, append_assoc, append-nil}
+use Rattle.std.proofs.lemmas.List.{drop_all}
 use Rattle.std.proofs.lemmas.Result.{err_from_is_err_and}
-use Rattle.geo_chan.proofs.Appending.{wrote_err}
+use Rattle.geo_chan.proofs.Appending.{wrote_err, wrote_then}
 use Rattle.derivation.specs.declared.event.Event.{Event}
 use Rattle.derivation.specs.declared.event.Event.TheVariants.{SplitShape}
 use Rattle.derivation_text.specs.Lines.{line_of, lines_of, listed, AreNamed}
@@ -38,3 +39,13 @@ loop-e-preserved g c =
         wrote_both _ _ _ _ _ _ _ _ _ _ _ done.2 now.2,
       );
     }
+
+pub returns : goal.returns
+returns g c =
+    let done = c.loop-e.invariant.done in
+    let page = c.loop-e.page in
+    let n = c.args.names.now in
+    let o = c.loop-e.o.0 in
+    let none : drop c.loop-e.e-index c.args.events.now ≡ [] = drop_all c.loop-e.e-index c.args.events.now c.loop-e-test.false in
+    wrote_then _ _ _ _ _ _ _ _ _ c.write_all_bytes.result done.0 c.bytes.result.now (lines_of n 0 c.args.events.now) done.2 c.write_all_bytes.ensures
+    (done.1 ∙ ap (λ (z : List ℕ). done.0 ++ z) (ap (λ (es : List Event). page ++ lines_of n o es) none ∙ append-nil page ∙ sym c.bytes.ensures))

@@ -35,3 +35,6 @@ fronts-preserved c =
       at = rw c.after-rest-in-Token.ensures (omega (arith, length-drop c.in-Token.n c.fronts.rest.now));
       so_far = subst (λ (ts : List Token). Cut (c.fronts.place + c.in-Token.n) c.after-rest-in-Token.result.now 0 c.args.text.now ts) (sym pushed.items) one;
     }
+
+pub returns-in-Bad : goal.returns-in-Bad
+returns-in-Bad c = record { tokens = c.fronts.found.items; rest = c.fronts.rest.now; before = c.fronts.invariant.so_far; bad = (c.in-Bad.ensures {u = tt}).front }

@@ -11,15 +11,15 @@ use Rattle.rule_reading.proofs.Outcomes.{value_in, has_value, stop_inside, stop_
 use Rattle.rule_reading.proofs.read.read_formula.Goals as goal
 
 pub overflow_sub-result : goal.overflow_sub-result
-overflow_sub-result c = value_in (FormulaWords c.args.text.now) 64 _ _ (formula_good c.args.text.now 64).facts (formula_at c.args.text.now 64) (formula_good c.args.text.now 64).reads (formula_reading c.args.text.now 64) c.args.list.now c.args.from c.requires c.left_from.result.now c.left_from.ensures (formula_view c.in-Ok.tree) c.in-Ok.rest.now c.in-Ok.ensures
+overflow_sub-result c = value_in (FormulaWords c.args.text.now) _ _ _ (formula_good c.args.text.now _).facts (formula_at c.args.text.now _) (formula_good c.args.text.now _).reads (formula_reading c.args.text.now _) c.args.list.now c.args.from c.requires c.left_from.result.now c.left_from.ensures (formula_view c.in-Ok.tree) c.in-Ok.rest.now c.in-Ok.ensures
 
 pub fault_of-requires : goal.fault_of-requires
-fault_of-requires c = stop_inside (FormulaWords c.args.text.now) 64 _ _ (formula_good c.args.text.now 64).facts (formula_at c.args.text.now 64) (formula_good c.args.text.now 64).reads (formula_reading c.args.text.now 64) c.args.list.now c.args.from c.requires c.left_from.result.now c.left_from.ensures c.in-Err.stop c.in-Err.ensures
+fault_of-requires c = stop_inside (FormulaWords c.args.text.now) _ _ _ (formula_good c.args.text.now _).facts (formula_at c.args.text.now _) (formula_good c.args.text.now _).reads (formula_reading c.args.text.now _) c.args.list.now c.args.from c.requires c.left_from.result.now c.left_from.ensures c.in-Err.stop c.in-Err.ensures
 
 pub returns-in-Ok : goal.returns-in-Ok
-returns-in-Ok c = has_value (FormulaWords c.args.text.now) 64 _ _ (formula_good c.args.text.now 64).facts (formula_at c.args.text.now 64) (formula_good c.args.text.now 64).reads (formula_reading c.args.text.now 64) c.args.list.now c.args.from c.requires c.left_from.result.now c.left_from.ensures (formula_view c.in-Ok.tree) c.in-Ok.rest.now c.in-Ok.ensures
+returns-in-Ok c = has_value (FormulaWords c.args.text.now) _ _ _ (formula_good c.args.text.now _).facts (formula_at c.args.text.now _) (formula_good c.args.text.now _).reads (formula_reading c.args.text.now _) c.args.list.now c.args.from c.requires c.left_from.result.now c.left_from.ensures (formula_view c.in-Ok.tree) c.in-Ok.rest.now c.in-Ok.ensures
 
 pub returns-in-Err : goal.returns-in-Err
 returns-in-Err c =
-    subst (λ (e : TextFault). Refuses e (FormulaWords c.args.text.now) 64 (length c.args.text.now) c.args.list.now c.args.from) (sym c.fault_of.ensures)
-    (stop_refuses (FormulaWords c.args.text.now) 64 _ _ (formula_good c.args.text.now 64).facts (formula_at c.args.text.now 64) (formula_good c.args.text.now 64).reads (formula_reading c.args.text.now 64) c.args.list.now c.args.from c.requires c.left_from.result.now c.left_from.ensures (length c.args.text.now) c.in-Err.stop c.in-Err.ensures)
+    subst (λ (e : TextFault). Refuses e (FormulaWords c.args.text.now) _ (length c.args.text.now) c.args.list.now c.args.from) (sym c.fault_of.ensures)
+    (stop_refuses (FormulaWords c.args.text.now) _ _ _ (formula_good c.args.text.now _).facts (formula_at c.args.text.now _) (formula_good c.args.text.now _).reads (formula_reading c.args.text.now _) c.args.list.now c.args.from c.requires c.left_from.result.now c.left_from.ensures (length c.args.text.now) c.in-Err.stop c.in-Err.ensures)
