@@ -28,8 +28,7 @@ module _ {X : Type 0} where
   popped [] free used' xs len n x h long fits some e = absurd some
   popped (p ∷ ps) free [] xs len n x h long fits some e = absurd e
   popped (p ∷ ps) free (q ∷ qs) xs len n x h long fits some e =
-      let items : xs ≡ (stacked qs ++ q.items) ++ x ∷ [] = sym h.items ∙ ap (λ (l : List X). stacked ps ++ l) e.0 ∙ ap (λ (l : List (Pile X)). stacked l ++ (q.items ++ x ∷ [])) (sym e.2) ∙ sym (append_assoc (stacked qs) q.items (x ∷ [])) in
-      (
+      let items : xs ≡ (stacked qs ++ q.items) ++ x ∷ [] = sym h.items ∙ ap (λ (l : List X). stacked ps ++ l) e.0 ∙ ap (λ (l : List (Pile X)). stacked l ++ (q.items ++ x ∷ [])) (sym e.2) ∙ sym (append_assoc (stacked qs) q.items (x ∷ [])) in (
         record {
           piles = record {
             stack = (omega (arith, e.1), subst (All (λ r. (r.spare ≡ 0) × (0 < length r.items))) (sym e.2) h.piles.stack.1);
