@@ -1,7 +1,8 @@
 //! Whether events are a valid derivation.
 
-ghost use Rattle.std.specs.Prelude.{◌≤◌, ◌↔◌, IsTrue, IfOk};
+ghost use Rattle.std.specs.Prelude.{◌≡◌, ◌≤◌, ◌↔◌, IsTrue, IfOk};
 ghost use Rattle.geo_conditions.specs.Conditions.{AllFit};
+ghost use Rattle.derivation_check.specs.declared.progress.Checked.TheVariants as answers;
 ghost use Rattle.derivation_trim.specs.Trees.{IsValidTree};
 
 use crate::tree::is_one_tree;
@@ -28,8 +29,16 @@ pub fn is_derivation<const K: usize>(
     if !all_fit::<K>(events, first.objects()) || !is_one_tree(alloc, events)? {
         return Ok(false);
     }
-    match check(alloc, conditions, first, log)? {
-        Checked::Yes => Ok(true),
-        Checked::No(_) => Ok(false),
+    let answer = check(alloc, conditions, first, log)?;
+    Ok(is_yes(answer))
+}
+
+// Whether the answer is yes.
+fn is_yes(answer: Checked) -> bool
+    ensures { IsTrue result ↔ answer ≡ answers.Yes }
+{
+    match answer {
+        Checked::Yes => true,
+        Checked::No(_) => false,
     }
 }

@@ -1,5 +1,6 @@
 -- Lemmas about ways, over plain numbers and functions.
-use Rattle.std.proofs.Common.{◌≡◌, ◌≢◌, ℕ, ◌-◌, ◌<◌, ◌≤◌, ℤ, ◌<ℤ◌, ◌↔◌, Bool, true, false, IsTrue, List, arith}
+use Rattle.std.proofs.Common.{◌≡◌, ◌≢◌, ℕ, ◌-◌, ◌<◌, ◌≤◌, ℤ, ◌<ℤ◌, ◌↔◌, Bool, true, false, IsTrue, List, rules, arith}
+use Rattle.std.specs.Prelude.{int_lt}
 use Rattle.std.proofs.lemmas.Int.{ints}
 use Rattle.std.proofs.lemmas.Bool.{cases_lt}
 use Rattle.geo_base.specs.Ways.{toward, key, Before, Advances}
@@ -7,6 +8,15 @@ use Rattle.geo_base.specs.Ways.{toward, key, Before, Advances}
 pub toward_injective : (up : Bool) (a b : ℤ) → toward up a ≡ toward up b → a ≡ b
 toward_injective true a b e = e
 toward_injective false a b e = omega (arith, ints)
+
+-- which of two numbers comes first, upwards and downwards
+pub sooner_up : (up : Bool) (a b u v : ℤ) → up ≡ true → a ≡ u → b ≡ v → IsTrue (int_lt a b) ↔ (toward up u <ℤ toward up v)
+sooner_up true a b u v is x y = search (arith, ints, rules)
+sooner_up false a b u v is x y = absurd (cc)
+
+pub sooner_down : (up : Bool) (a b u v : ℤ) → up ≡ false → a ≡ u → b ≡ v → IsTrue (int_lt b a) ↔ (toward up u <ℤ toward up v)
+sooner_down true a b u v is x y = absurd (cc)
+sooner_down false a b u v is x y = search (arith, ints, rules)
 
 less_here : (k l : ℕ → ℤ) (i j : ℕ) → ((d : ℕ) → d < j → k d ≡ l d) → k j ≢ l j → k i <ℤ l i → ((d : ℕ) → d < i → k d ≡ l d) → k j <ℤ l j
 less_here k l i j same ne less same_i = grind (arith, ints, cases_lt i j, cases_lt j i)

@@ -1,10 +1,10 @@
 -- A state in which one object was changed.
-use Rattle.std.proofs.Common.{◌≡◌, ℕ, ◌<◌, ◌≤◌, length, get_or, sym, ap, ◌∙◌, subst}
+use Rattle.std.proofs.Common.{◌≡◌, ℕ, ◌-◌, ◌<◌, ◌≤◌, Bool, List, length, get_or, sym, ap, ◌∙◌, subst}
 use Rattle.std.proofs.lemmas.List.{length-set}
 use Rattle.std.proofs.lemmas.List.Elements.{All-get_or, All-set}
 use Rattle.std.specs.Prelude.{slice_set}
 use Rattle.geo_conditions.specs.declared.object.TheConstants.{MAX_OBJECTS, MAX_SHAPES}
-use Rattle.geo_conditions.specs.Reach.{Reach, State, reach, nowhere, IsState}
+use Rattle.geo_conditions.specs.Reach.{Reach, Region, State, reach, nowhere, with_place, IsState}
 use Rattle.geo_conditions.proofs.Defaults.{any_default}
 
 -- what was made of the object by f stands in its place
@@ -35,3 +35,8 @@ changed_state k items o was none new state there at same =
       dims = All-set (HasSides k) items o new (same.lo ∙ sides.0, same.hi ∙ sides.1) state.dims;
       places = All-set HasAllPlaces items o new (same.places ∙ held) state.places;
     }
+
+-- what is open to an object, with one place put in or taken out
+pub placed : (p q : List Bool) (region : Region) (old : Reach) (k : ℕ) (there : Bool) → q ≡ slice_set p (k - 1) there → record { places = p; region = region } ≡ old
+    → record { places = q; region = region } ≡ with_place old k there
+placed p q region old k there e v = ap (λ (ps : List Bool). record { places = ps; region = region }) e ∙ ap (λ (r : Reach). with_place r k there) v

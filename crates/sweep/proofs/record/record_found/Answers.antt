@@ -1,6 +1,7 @@
-use Rattle.std.proofs.Common.{ap, length, arith}
+use Rattle.std.proofs.Common.{List, [], ◌∷◌, ◌++◌, ap, ◌∙◌, append_assoc, length, arith}
 use Rattle.std.proofs.lemmas.List.{length-append}
 use Rattle.derivation.specs.declared.event.Event.{Event}
+use Rattle.derivation.specs.declared.event.Event.TheVariants.{By}
 use Rattle.derivation.proofs.Continuing.{growth_added, growth_refused, growth_on, growth_failed}
 use Rattle.sweep.proofs.record.record_found.Goals as goal
 
@@ -22,3 +23,12 @@ returns-clause-few g c = λ kept. omega (arith, ap length (c.in_ok-add.ensures.o
 
 pub returns-clause-grows : goal.returns-clause-grows
 returns-clause-grows g c = growth_on (growth_added _ c.in_ok-add.ensures.ok c.add.ensures.refusals) (growth_added _ c.in_ok-add-2.ensures.ok c.add-2.ensures.refusals)
+
+pub returns-clause-ok : goal.returns-clause-ok
+returns-clause-ok g c = λ kept.
+    let cut = c.cut_before.result in (
+      cut,
+      c.cut_before.ensures,
+      c.in_ok-add-2.ensures.ok kept
+          ∙ ap (λ (es : List Event). es ++ By c.args.number ∷ []) (c.in_ok-add.ensures.ok kept) ∙ append_assoc (g.R.Recorder.list c.args.rec.now) (cut ∷ []) (By c.args.number ∷ []),
+    )

@@ -1,4 +1,4 @@
-use Rattle.std.proofs.Common.{arith}
+use Rattle.std.proofs.Common.{refl, arith}
 use Rattle.std.proofs.lemmas.Int.{ints}
 use Rattle.geo_base.proofs.kbox.KBox.is_empty.Goals as goal
 
@@ -11,3 +11,9 @@ returns-clause-points g c = (
 
 pub returns-then-get-clause-ends : goal.returns-then-get-clause-ends
 returns-then-get-clause-ends g c = (c.loop-d.d, omega arith, omega (arith, ints))
+
+pub returns-then-get-clause-points : goal.returns-then-get-clause-points
+returns-then-get-clause-points g c = (
+  λ _. λ p has. let at = has c.loop-d.d (omega arith) in omega (arith, ints, at.0, at.1),
+  λ _. refl,
+)
