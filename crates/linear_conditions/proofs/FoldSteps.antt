@@ -1,6 +1,7 @@
 -- Steps of the program's folding.
 use Rattle.std.proofs.Common.{◌≡◌, ◌≢◌, ℕ, ◌+◌, eqb, Bool, true, false, cond, List, [], ◌∷◌, ◌++◌, length, map, ℤ, pos, ◌-ℤ◌, ◌≤ℤ◌, ◌<ℤ◌, sym, ap, ◌∙◌, refl, arith, subst, append-nil}
-use Rattle.std.specs.Prelude.{int_lt}
+use Rattle.std.specs.Prelude.{int_lt, if◌then◌else◌}
+use lib.Signed.{le_z}
 use Rattle.std.proofs.lemmas.Bool.Decides.{nat_tests}
 use Rattle.std.proofs.lemmas.Int.{ints}
 use Rattle.std.proofs.lemmas.List.{map-append}
@@ -9,7 +10,7 @@ use Rattle.geo_conditions.specs.declared.cond.Conds.{Conds}
 use Rattle.linear_conditions.specs.declared.verdict.Verdict.{Verdict}
 use Rattle.linear_conditions.specs.declared.verdict.Verdict.TheVariants.{Holds, Fails, Open}
 use Rattle.linear_conditions.specs.CondTree.{CondTree, at_least, no_conds, conds, cond_view}
-use Rattle.linear_conditions.specs.Folding.{bare_verdict, certain, verdict, count_holding, still_open, one_or_node}
+use Rattle.linear_conditions.specs.Folding.{always, never, bare_verdict, certain, verdict, count_holding, still_open, one_or_node, fold_open, fold_count}
 use Rattle.linear_conditions.proofs.CondViews.{view-at_least}
 
 pub made-certain : (n : ℤ) (children : Conds) (b holds : Bool) → children.items.items ≡ [] → holds ≡ b → n ≡ cond b (pos 0) (pos 1) → cond_view (AtLeast n children) ≡ certain holds
@@ -119,3 +120,24 @@ kept-at left next n m kept ys e h k = subst (λ z. Kept z m kept ys) e (subst (�
 
 pub lowers : (left next : ℤ) → (left ≤ℤ pos 0 → next ≡ left) → left ≤ℤ pos 0 → next ≤ℤ pos 0
 lowers left next h l = let e = h l in omega (arith, ints)
+
+-- nothing is kept yet
+pub kept-none : (n : ℤ) → Kept n n [] []
+kept-none n = record { some = λ p. omega (arith, ints); none = λ l. omega (arith, ints, l); open_ones = refl }
+
+none-wanted : (z : ℤ) (cs : List CondTree) → le_z z (pos 0) ≡ true → fold_open z cs ≡ always
+none-wanted z cs e = ap (λ b. if b then always else if int_lt (pos (length cs)) z then never else one_or_node z cs) e
+
+-- what is kept of all conditions, folded
+pub kept-folded : (left n : ℤ) (kept ys : List Cond) → Kept left n kept ys → fold_open left (map cond_view kept) ≡ fold_count n (map cond_view ys)
+kept-folded left n kept ys k = by_sign (le_z left (pos 0)) refl
+  where
+    by_sign : (s : Bool) → le_z left (pos 0) ≡ s → fold_open left (map cond_view kept) ≡ fold_count n (map cond_view ys)
+    by_sign true q =
+        let l : left ≤ℤ pos 0 = grind (arith, ints) in
+        let h = k.none l in
+        let e : le_z (n -ℤ pos (count_holding (map cond_view ys))) (pos 0) ≡ true = grind (arith, ints) in
+        none-wanted left (map cond_view kept) q ∙ sym (none-wanted (n -ℤ pos (count_holding (map cond_view ys))) (still_open (map cond_view ys)) e)
+    by_sign false q =
+        let p : pos 0 <ℤ left = grind (arith, ints) in
+        ap (λ z. fold_open z (map cond_view kept)) (k.some p) ∙ ap (fold_open (n -ℤ pos (count_holding (map cond_view ys)))) k.open_ones

@@ -1,17 +1,17 @@
 -- Steps of the program's loops over the terms of sums.
-use Rattle.std.proofs.Common.{◌≡◌, ℕ, zero, suc, ◌<◌, ◌≤◌, ltb, ◌&&◌, Bool, true, false, cond, not, List, [], ◌∷◌, ◌++◌, length, get_or, take, drop, ℤ, pos, ◌+ℤ◌, sym, ap, ◌∙◌, refl, arith, subst, FitsSigned, to_z, of_z, to_z-of_z, append-nil}
+use Rattle.std.proofs.Common.{◌≡◌, ℕ, zero, suc, ◌<◌, ◌≤◌, ltb, ◌&&◌, Bool, true, false, cond, not, List, [], ◌∷◌, ◌++◌, length, get_or, take, drop, ℤ, pos, ◌+◌, ◌+ℤ◌, ◌*ℤ◌, sym, ap, ◌∙◌, refl, arith, subst, FitsSigned, to_z, of_z, to_z-of_z, append-nil, append_assoc}
 use Rattle.std.specs.Prelude.{slice_set, insert, remove}
 use Rattle.std.specs.Int.{w64, w128}
 use Rattle.std.specs.List.{All, list_all}
 use Rattle.std.proofs.lemmas.Bool.Decides.{nat_tests}
 use Rattle.std.proofs.lemmas.Int.{ints}
-use Rattle.std.proofs.lemmas.List.{take-append-drop, length-map, get_or-map}
+use Rattle.std.proofs.lemmas.List.{drop_more, take-append-drop, length-map, get_or-map}
 use Rattle.std.proofs.lemmas.List.Sums.{position_or_len_is, prefix_len-le-length}
 use Rattle.std.proofs.Math.ListN.{drop_of_length-le}
 use Rattle.geo_conditions.specs.declared.form.Term.{Term}
 use Rattle.geo_conditions.specs.Form.{IsBounded, IsForm}
 use Rattle.linear_conditions.specs.declared.wide.WideTerm.{WideTerm}
-use Rattle.linear_conditions.specs.Sums.{is_zero, term, unless_zero, same_coordinate, add_at, place_among, raised, is_bounded}
+use Rattle.linear_conditions.specs.Sums.{is_zero, scale_terms, term, unless_zero, same_coordinate, add_at, place_among, raised, is_bounded}
 use Rattle.linear_conditions.specs.Room.{HasRoom}
 use Rattle.linear_conditions.specs.Views.{wide_term, wide_terms}
 use Rattle.linear_conditions.proofs.Places.{belongs, none, added-raised, added-new}
@@ -144,3 +144,19 @@ narrow-is z h =
 
 pub form-at : (ts us : List Term) (z y : ℤ) → us ≡ ts → y ≡ z → IsForm ts z → IsForm us y
 form-at ts us z y e h f = subst (λ x. IsForm us x) (sym h) (subst (λ xs. IsForm xs z) (sym e) f)
+
+unless-append : (t : Term) (ts : List Term) → unless_zero t [] ++ ts ≡ unless_zero t ts
+unless-append t ts = by_test (is_zero t.factor)
+  where
+    by_test : (b : Bool) → cond b [] (t ∷ []) ++ ts ≡ cond b ts (t ∷ ts)
+    by_test true = refl
+    by_test false = refl
+
+-- one more term multiplied
+pub scaled-more : (z : ℤ) (done next : List Term) (ws : List WideTerm) (i : ℕ) (w : WideTerm) (total : List Term) → i < length ws → next ≡ done ++ unless_zero (wide_term w) [] →
+    wide_term w ≡ term (get_or ws i nothing).object.0 (get_or ws i nothing).dimension (z *ℤ (get_or ws i nothing).factor) →
+    done ++ scale_terms z (wide_terms (drop i ws)) ≡ total → next ++ scale_terms z (wide_terms (drop (i + 1) ws)) ≡ total
+scaled-more z done next ws i w total l n s inv =
+    let rest = scale_terms z (wide_terms (drop (i + 1) ws)) in
+    ap (λ ts. ts ++ rest) n ∙ append_assoc done (unless_zero (wide_term w) []) rest ∙ ap (λ ts. done ++ ts) (unless-append (wide_term w) rest ∙ ap (λ (t : Term). unless_zero t rest) s)
+    ∙ sym (ap (λ (vs : List WideTerm). done ++ scale_terms z (wide_terms vs)) (drop_more ws i nothing l)) ∙ inv

@@ -2,7 +2,7 @@
 
 ghost use Rattle.std.specs.Prelude.{◌≡◌, ◌++◌, ◌+◌, ◌^◌, ◌<◌, IfOk, OnOk, string_bytes};
 ghost use Rattle.problem_generator.specs.Draws.{state_behind, draw};
-ghost use Rattle.problem_generator.specs.Made.{shape_lines, object_line, all_shapes, all_objects, made_text};
+ghost use Rattle.problem_generator.specs.Made.{shape_line, shape_lines, object_line, all_shapes, all_objects, made_text};
 
 use crate::draws::Draws;
 use std::alloc::{AllocError, Global};
@@ -33,10 +33,10 @@ fn draw_size(draws: &mut Draws) -> Size
     }
 }
 
-// Writes the two shapes of an object: as its size was drawn, and turned by a quarter.
-fn write_shapes(text: &mut String, number: u32, size: Size) -> Result<(), AllocError>
+// Writes a shape of an object, by its letter.
+fn write_shape(text: &mut String, number: u32, letter: &str, size: Size) -> Result<(), AllocError>
     ensures { OnOk result (string_bytes text.new ≡ string_bytes text.old
-        ++ shape_lines number size.width size.depth size.height) }
+        ++ shape_line number letter.now size.width size.depth size.height) }
 {
     let Size {
         width,
@@ -45,12 +45,22 @@ fn write_shapes(text: &mut String, number: u32, size: Size) -> Result<(), AllocE
     } = size;
     writeln!(
         text,
-        "shape s{number}a box 0 0 0 size {width} {depth} {height} ;"
-    )?;
-    writeln!(
-        text,
-        "shape s{number}b box 0 0 0 size {depth} {width} {height} ;"
+        "shape s{number}{letter} box 0 0 0 size {width} {depth} {height} ;"
     )
+}
+
+// Writes the two shapes of an object: as its size was drawn, and turned by a quarter.
+fn write_shapes(text: &mut String, number: u32, size: Size) -> Result<(), AllocError>
+    ensures { OnOk result (string_bytes text.new ≡ string_bytes text.old
+        ++ shape_lines number size.width size.depth size.height) }
+{
+    let turned = Size {
+        width: size.depth,
+        depth: size.width,
+        height: size.height,
+    };
+    write_shape(text, number, "a", size)?;
+    write_shape(text, number, "b", turned)
 }
 
 fn write_all_shapes(text: &mut String, mut draws: Draws) -> Result<(), AllocError>

@@ -1,2 +1,3 @@
 pub mod Attributes
 pub mod Boxes
+pub mod Seen
