@@ -1,6 +1,6 @@
 //! The tuple that the groups of a token give.
 
-ghost use Rattle.std.specs.Prelude.{◌≡◌, ◌↔◌, IsTrue, IfOk, length, map};
+ghost use Rattle.std.specs.Prelude.{◌≡◌, ◌≤◌, ◌↔◌, IsTrue, IfOk, length, map};
 ghost use Rattle.problem_data.specs.Cells.{IsInRanges, IsSpotOf, IsTuple};
 ghost use Rattle.problem_data.specs.Meaning.{number_of};
 ghost use Rattle.problem_data.specs.ProblemView.{range_data};
@@ -37,15 +37,20 @@ fn are_in_ranges(ranges: &[RangeDef], origin: &[Int]) -> bool
     true
 }
 
+// Whether the object's list of shapes has this place. Places count from 1.
+fn has_place(object: &ObjectDef, place: usize) -> bool
+    ensures { IsTrue result ↔ (1 ≤ place) × (place ≤ length object.now.shapes) }
+{
+    1 <= place && place <= object.shapes().len()
+}
+
 // Whether the group has a place of the object's list, and an origin in the object's ranges.
 fn is_spot(problem: &Problem, object: &ObjectDef, group: &GroupText) -> bool
     requires { IsObject problem.now object.now }
     ensures { IsTrue result ↔ IsSpotOf problem.now object.now (spot_in (group_view group.now)) }
 {
     let origin = group.origin.as_slice();
-    let place = group.shape as usize;
-    1 <= place
-        && place <= object.shapes().len()
+    has_place(object, group.shape as usize)
         && origin.len() == problem.dims()
         && are_in_ranges(object.ranges(), origin)
 }
