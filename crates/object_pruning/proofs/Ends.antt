@@ -18,7 +18,7 @@ use Rattle.geo_state.specs.Trail.{HasSmallIntervals, IsSmallEnd}
 use Rattle.geo_state.proofs.Fits.{all_fit}
 use Rattle.geo_state.proofs.Narrower.{low_within, high_within, without_within}
 use Rattle.geo_state.proofs.Shapes.{lo_long, hi_long}
-use Rattle.object_pruning.specs.Pruning.{CanBe, HasSamePoints, IsTight, PrunesTo}
+use Rattle.object_pruning.specs.Pruning.{outcome, CanBe, HasSamePoints, IsTight, PrunesTo}
 use Rattle.object_pruning.specs.declared.prune.Pruned.TheVariants.{Empty, Changed, Same}
 use Rattle.object_pruning.specs.declared.kept.Placed.{Placed}
 use Rattle.object_pruning.specs.Ends.{CanMove, IsSooner, IsFirstAt, IsOutermostPoint, IsOutermost, HasSome, Shrinks, DropsPlaces, end, IsTightEnd, MovesEnd, MovesEnds}
@@ -385,3 +385,11 @@ pub prunes_same : (cs : List Cond) (o : ℕ) (S T U : State) (some dropped moved
 prunes_same cs o S T U some dropped moved k m e =
     let q : U ≡ S = subst (λ (b : Bool). Shrinks b S U) e (shrinks_or dropped moved S T U k.shrinks m.shrinks) in
     (q, subst (λ (X : State). IsTight cs X o) q (tight_of cs o S T U some dropped moved k m))
+
+-- whether something moved or not
+pub prunes_as : (cs : List Cond) (o : ℕ) (S T U : State) (some dropped moved : Bool) → DropsPlaces cs o S some dropped T → MovesEnds cs o T moved U → PrunesTo cs o S (outcome (dropped || moved)) U
+prunes_as cs o S T U some dropped moved k m = by (dropped || moved) refl
+  where
+    by : (b : Bool) → (dropped || moved) ≡ b → PrunesTo cs o S (outcome b) U
+    by true e = prunes_changed cs o S T U some dropped moved k m e
+    by false e = prunes_same cs o S T U some dropped moved k m e

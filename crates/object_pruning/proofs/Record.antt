@@ -28,8 +28,9 @@ use Rattle.sweep.specs.Picks.{ArePicks}
 use Rattle.sweep.specs.Sweep.{IsCovered, part_before}
 use Rattle.object_pruning.specs.declared.kept.Placed.{Placed}
 use Rattle.object_pruning.specs.Ends.{IsSooner}
+use Rattle.object_pruning.specs.Pruning.{outcome}
 use Rattle.derivation.specs.Chains.{IsLed, IsClosed}
-use Rattle.object_pruning.specs.Record.{end_side, with_end, IsNotBeyond, ListsPlace, AreListed, AreListedBelow}
+use Rattle.object_pruning.specs.Record.{AreEventsOfPruning, end_side, with_end, IsNotBeyond, ListsPlace, AreListed, AreListedBelow}
 
 -- ---- lists of events
 
@@ -162,3 +163,8 @@ listed_on cs S o d up v n (suc m) old new some few k =
     let absent : has S o (n + m) ≡ false = false_of (has S o (n + m)) (λ t. absurd (omega (arith, few (n + m) t))) in
     let e : n + m + 1 ≡ n + suc m = omega arith in
     subst (λ (j : ℕ). AreListedBelow cs S o d up v j old new) e (lists_absent cs S o d up v (n + m) new (omega (arith, some)) absent old (listed_on cs S o d up v n m old new some few k))
+
+-- what led to a state is a pruning that left a point
+pub recorded_as : (cs : List Cond) (S T : State) (b : Bool) (old new : List Event) → IsLed cs S T old new → (es : List Event) × (new ≡ old ++ es) × AreEventsOfPruning cs S (outcome b) T es
+recorded_as cs S T true old new led = led
+recorded_as cs S T false old new led = led

@@ -1,5 +1,5 @@
 -- What the pruning of one object leaves.
-use Rattle.std.specs.Prelude.{◌≡◌, ℕ, ◌<◌, ◌↔◌, true, List, ℤ}
+use Rattle.std.specs.Prelude.{◌≡◌, ℕ, ◌<◌, ◌↔◌, Bool, true, false, List, ℤ}
 use Rattle.geo_base.specs.Boxes.{coordinate}
 use Rattle.geo_base.specs.Ways.{IsSmallPoint}
 use Rattle.geo_base.specs.declared.kbox.KBox.{KBox}
@@ -32,6 +32,11 @@ abbrev pub PrunesTo : List Cond → ℕ → State → Pruned → State → Type 
 PrunesTo cs o S Same T = (T ≡ S) × IsTight cs S o
 PrunesTo cs o S Changed T = HasSamePoints cs o S T × IsTight cs T o × Inside T S × (size T < size S)
 PrunesTo cs o S Empty T = ((s : ℕ) (p : List ℤ) → CanBe cs S o s p → ⊥) × Inside T S
+
+-- what a pruning gives that left a point, where something moved or nothing did
+abbrev pub outcome : Bool → Pruned
+outcome true = Changed
+outcome false = Same
 
 -- the coordinates of both corners lie within the limits
 abbrev pub IsSmallBox : {K : ℕ} → KBox K → Type 0

@@ -1,6 +1,6 @@
 //! The pruning of one object by sweeps.
 
-ghost use Rattle.std.specs.Prelude.{◌≡◌, ◌+◌, ◌-◌, ◌^◌, ◌<◌, ◌≤◌, ◌++◌, ℕ, false, true, List, length, map, min, IfOk, IsOk, OnErr, OnOk, IfSome};
+ghost use Rattle.std.specs.Prelude.{◌≡◌, ◌+◌, ◌-◌, ◌^◌, ◌<◌, ◌≤◌, ◌++◌, ◌||◌, ℕ, false, true, List, length, map, min, IfOk, IsOk, OnErr, OnOk, IfSome};
 ghost use Rattle.geo_conditions.specs.Conditions.{AllFit};
 ghost use Rattle.geo_conditions.specs.declared.cond.Cond.{Cond};
 ghost use Rattle.geo_conditions.specs.Reach.{State, Inside, has};
@@ -8,7 +8,7 @@ ghost use Rattle.derivation.specs.declared.event.Event.{Event};
 ghost use Rattle.derivation.specs.Events.{Grows};
 ghost use Rattle.sweep.specs.Picks.{ArePicks, picked};
 ghost use Rattle.object_pruning.specs.Kept.{AllSupport};
-ghost use Rattle.object_pruning.specs.Pruning.{PrunesTo};
+ghost use Rattle.object_pruning.specs.Pruning.{PrunesTo, outcome};
 ghost use Rattle.derivation.specs.Chains.{IsClosed};
 ghost use Rattle.object_pruning.specs.Record.{AreEventsOfPruning};
 ghost use Rattle.object_pruning.specs.Same.{SameBut};
@@ -91,10 +91,17 @@ pub fn prune_kept<const K: usize, I: Indexical<K>, R: Recorder>(
         return Ok(Pruned::Empty);
     }
     let moved = move_ends(t, o, list, picks, rows, kept, hints, rec)?;
-    if places.dropped || moved {
-        Ok(Pruned::Changed)
+    Ok(changed_or_same(places.dropped, moved))
+}
+
+// What a pruning gives that left a point.
+fn changed_or_same(dropped: bool, moved: bool) -> Pruned
+    ensures { result ≡ outcome (dropped || moved) }
+{
+    if dropped | moved {
+        Pruned::Changed
     } else {
-        Ok(Pruned::Same)
+        Pruned::Same
     }
 }
 

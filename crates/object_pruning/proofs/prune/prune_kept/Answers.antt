@@ -1,10 +1,15 @@
-use Rattle.std.proofs.Common.{◌≡◌, ◌<◌, Bool, true, false, map, length, ap, ◌∙◌, subst, arith, rules, inl, inr, ◌||◌}
+use Rattle.std.proofs.Common.{◌≡◌, ◌<◌, ◌++◌, ◌||◌, Bool, true, false, List, map, length, sym, subst, arith, rules}
 use Rattle.std.proofs.lemmas.Bool.{not-true, not-false}
 use Rattle.geo_conditions.specs.Conditions.{AllFit}
 use Rattle.geo_state.proofs.Fits.{all_fit}
 use Rattle.sweep.specs.Picks.{picked}
 use Rattle.object_pruning.specs.Ends.{HasSome, DropsPlaces}
-use Rattle.object_pruning.proofs.Ends.{prunes_empty, prunes_changed, prunes_same, none_left}
+use Rattle.object_pruning.proofs.Ends.{prunes_empty, prunes_as, none_left}
+use Rattle.object_pruning.specs.Pruning.{PrunesTo}
+use Rattle.object_pruning.specs.Record.{AreEventsOfPruning}
+use Rattle.object_pruning.specs.declared.prune.Pruned.{Pruned}
+use Rattle.derivation.specs.declared.event.Event.{Event}
+use Rattle.object_pruning.proofs.Record.{recorded_as}
 use Rattle.object_pruning.proofs.Narrowing.{alone_on}
 use Rattle.derivation.proofs.Chains.{led_on, led_closed}
 use Rattle.derivation.proofs.Continuing.{growth_on, growth_failed}
@@ -47,32 +52,25 @@ move_ends-requires g c =
 pub returns-in_err-moved-clause-alone : goal.returns-in_err-moved-clause-alone
 returns-in_err-moved-clause-alone g c = alone_on c.args.o.0 c.args.t.now.state c.drop_places.new.t.state c.move_ends.new.t.state c.drop_places.ensures.alone c.move_ends.ensures.alone
 
-pub returns-then-moved-clause-pruned : goal.returns-then-moved-clause-pruned
-returns-then-moved-clause-pruned g c =
+pub returns-clause-pruned : goal.returns-clause-pruned
+returns-clause-pruned g c =
+    let cs = picked (map g.I.Indexical.cond c.args.list.now) c.args.picks.now in
     let a = c.in_ok-places.places in
-    let moved = c.in_ok-moved.moved in
-    let e : (a.dropped || moved) ≡ true = elim c.if-moved.either [ inl h ↦ ap (λ (b : Bool). b || moved) h | inr h ↦ ap (λ (b : Bool). b || moved) h.0 ∙ h.1 ] in
-    prunes_changed _ c.args.o.0 c.args.t.now.state c.drop_places.new.t.state c.move_ends.new.t.state a.some a.dropped moved c.in_ok-places.ensures.drops c.in_ok-moved.ensures.moves e
+    subst (λ (p : Pruned). PrunesTo cs c.args.o.0 c.args.t.now.state p c.move_ends.new.t.state) (sym c.changed_or_same.ensures)
+    (prunes_as cs c.args.o.0 c.args.t.now.state c.drop_places.new.t.state c.move_ends.new.t.state a.some a.dropped c.in_ok-moved.moved c.in_ok-places.ensures.drops c.in_ok-moved.ensures.moves)
 
-pub returns-then-moved-clause-alone : goal.returns-then-moved-clause-alone
-returns-then-moved-clause-alone g c = alone_on c.args.o.0 c.args.t.now.state c.drop_places.new.t.state c.move_ends.new.t.state c.drop_places.ensures.alone c.move_ends.ensures.alone
+pub returns-clause-alone : goal.returns-clause-alone
+returns-clause-alone g c = alone_on c.args.o.0 c.args.t.now.state c.drop_places.new.t.state c.move_ends.new.t.state c.drop_places.ensures.alone c.move_ends.ensures.alone
 
-pub returns-then-moved-clause-record : goal.returns-then-moved-clause-record
-returns-then-moved-clause-record g c = λ kept.
+pub returns-clause-record : goal.returns-clause-record
+returns-clause-record g c = λ kept.
     let list = g.R.Recorder.list in
-    led_on (map g.I.Indexical.cond c.args.list.now) c.args.t.now.state c.drop_places.new.t.state c.move_ends.new.t.state (list c.args.rec.now) (list c.drop_places.new.rec) (list c.move_ends.new.rec) (c.in_ok-places.ensures.led kept) (c.in_ok-moved.ensures.led kept)
-
-pub returns-else-moved-clause-pruned : goal.returns-else-moved-clause-pruned
-returns-else-moved-clause-pruned g c =
-    let a = c.in_ok-places.places in
-    let moved = c.in_ok-moved.moved in
-    let e : (a.dropped || moved) ≡ false = ap (λ (b : Bool). b || moved) c.if-moved.false.0 ∙ c.if-moved.false.1 in
-    prunes_same _ c.args.o.0 c.args.t.now.state c.drop_places.new.t.state c.move_ends.new.t.state a.some a.dropped moved c.in_ok-places.ensures.drops c.in_ok-moved.ensures.moves e
-
-pub returns-else-moved-clause-record : goal.returns-else-moved-clause-record
-returns-else-moved-clause-record g c = λ kept.
-    let list = g.R.Recorder.list in
-    led_on (map g.I.Indexical.cond c.args.list.now) c.args.t.now.state c.drop_places.new.t.state c.move_ends.new.t.state (list c.args.rec.now) (list c.drop_places.new.rec) (list c.move_ends.new.rec) (c.in_ok-places.ensures.led kept) (c.in_ok-moved.ensures.led kept)
+    let all = map g.I.Indexical.cond c.args.list.now in
+    let old = list c.args.rec.now in
+    let new = list c.move_ends.new.rec in
+    subst (λ (p : Pruned). (es : List Event) × (new ≡ old ++ es) × AreEventsOfPruning all c.args.t.now.state p c.move_ends.new.t.state es) (sym c.changed_or_same.ensures)
+    (recorded_as all c.args.t.now.state c.move_ends.new.t.state (c.in_ok-places.places.dropped || c.in_ok-moved.moved) old new
+    (led_on all c.args.t.now.state c.drop_places.new.t.state c.move_ends.new.t.state old (list c.drop_places.new.rec) new (c.in_ok-places.ensures.led kept) (c.in_ok-moved.ensures.led kept)))
 
 pub returns-in_err-places-clause-grows : goal.returns-in_err-places-clause-grows
 returns-in_err-places-clause-grows g c = growth_failed (c.in_err-places.ensures.grows) _ c.from_residual.ensures.0
@@ -86,8 +84,5 @@ returns-then-not-places-clause-grows g c = growth_on c.in_ok-places.ensures.grow
 pub returns-in_err-moved-clause-grows : goal.returns-in_err-moved-clause-grows
 returns-in_err-moved-clause-grows g c = growth_failed (growth_on c.in_ok-places.ensures.grows c.in_err-moved.ensures.grows) _ c.from_residual-in_err-moved.ensures.0
 
-pub returns-then-moved-clause-grows : goal.returns-then-moved-clause-grows
-returns-then-moved-clause-grows g c = growth_on c.in_ok-places.ensures.grows c.in_ok-moved.ensures.grows
-
-pub returns-else-moved-clause-grows : goal.returns-else-moved-clause-grows
-returns-else-moved-clause-grows g c = growth_on c.in_ok-places.ensures.grows c.in_ok-moved.ensures.grows
+pub returns-clause-grows : goal.returns-clause-grows
+returns-clause-grows g c = growth_on c.in_ok-places.ensures.grows c.in_ok-moved.ensures.grows

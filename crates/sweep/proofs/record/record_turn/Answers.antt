@@ -34,6 +34,9 @@ returns-in_err-record_found-clause-grows g c = λ T base h.
     let none : g.R.Recorder.refusals c.args.rec.now ≤ g.R.Recorder.refusals c.args.rec.now = omega arith in
     growth_failed (growth_on (growth_done was none) c.in_err-record_found.ensures.grows) _ c.from_residual.ensures.0
 
+pub returns-in-Err-clause-few : goal.returns-in-Err-clause-few
+returns-in-Err-clause-few g c = λ kept. omega (arith, c.in_ok-record_found.ensures.few kept, c.in-Err.ensures.few kept, c.args.way.now.lead_in)
+
 pub returns-in-Err-clause-grows : goal.returns-in-Err-clause-grows
 returns-in-Err-clause-grows g c = λ T base h.
     growth_later c.in_ok-record_found.ensures.grows.refusals (c.in-Err.ensures.grows T base (key g.row.K c.args.way.now.lead c.args.way.now.up c.args.c.now.coordinates) (λ kept. at_jump g (goal.at.returns-in-Err-clause-grows g c).In_ok-record_found kept T base (h kept).0 (h kept).1))
