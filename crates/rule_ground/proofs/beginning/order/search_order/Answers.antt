@@ -1,4 +1,5 @@
-use Rattle.std.proofs.Common.{ℕ, Bool, List, [], ◌∷◌, ◌++◌, map, take, get_or, sym, ap, subst, ◌∙◌}
+use Rattle.std.proofs.Common.{◌≡◌, ℕ, Bool, List, [], ◌∷◌, ◌++◌, map, take, get_or, sym, ap, subst, ◌∙◌}
+use Rattle.std.specs.Prelude.{IfOk}
 use Rattle.std.proofs.lemmas.List.{map-append, take_more}
 use Rattle.std.proofs.lemmas.Result.{IfOk-weaker}
 use Rattle.geo_conditions.specs.declared.object.ObjId.{ObjId}
@@ -26,3 +27,7 @@ loop-side-preserved c =
     let all = c.sides-side-items.result.now in
     c.in_ok-push-2.ensures.items ∙ ap (λ (bs : List Bool). bs ++ c.runs_down.result ∷ []) c.loop-side.invariant
     ∙ ap (λ (b : Bool). map runs_down (take i all) ++ b ∷ []) c.runs_down.ensures ∙ sym (map-append runs_down (take i all) (_ ∷ [])) ∙ ap (map runs_down) (sym (take_more all i _ c.loop-side-test.true))
+
+pub returns-clause-value : goal.returns-clause-value
+returns-clause-value c =
+    subst (λ (o : Order). IfOk c.new.result (λ order. order ≡ o)) (order-is c.args.problem.now _ _ _ _ _ _ c.as_slice.ensures.value c.as_slice-2.ensures.value c.loop-o.invariant c.loop-side.invariant c.search_order-o-items.ensures c.sides-side-items.ensures c.loop-o-test.false c.loop-side-test.false) c.new.ensures

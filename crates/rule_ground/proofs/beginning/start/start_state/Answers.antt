@@ -21,3 +21,6 @@ loop-object-preserved g c =
     let r : Region = region_of c.region.result in
     state-more c.objects-object-items.result.now c.loop-object.object-index c.object-item.result c.loop-object.state c.add_object.new.self r c.loop-object-test.true c.object-item.is c.loop-object.invariant c.region.ensures
     (c.in_ok-add_object.ensures.ok ∙ ap (λ (ss : List ℕ). c.loop-object.state ++ record { places = first_places (length ss); region = r } ∷ []) c.shapes.ensures)
+
+pub returns-clause-value : goal.returns-clause-value
+returns-clause-value g c = state-end c.args.problem.now _ _ c.loop-object.state c.objects-object-items.ensures c.loop-object.invariant c.loop-object-test.false
