@@ -1,0 +1,8 @@
+use Rattle.std.proofs.Common.{refl}
+use Rattle.geost_cli.proofs.words.answer.Goals as goal
+
+pub returns-in-Err-Memory-clause-memory : goal.returns-in-Err-Memory-clause-memory
+returns-in-Err-Memory-clause-memory g c = λ _. (refl, refl, refl)
+
+pub returns-in-Err-NoText-clause-no_text : goal.returns-in-Err-NoText-clause-no_text
+returns-in-Err-NoText-clause-no_text g c = λ _. (refl, c.refuse_words.ensures.ends)
