@@ -1,24 +1,11 @@
-//! The words behind the program's name, and what is answered where they cannot be read.
+//! The words behind the program's name.
 
-ghost use Rattle.std.specs.Prelude.{◌≡◌, ◌↔◌, true, map, string_bytes};
+ghost use Rattle.std.specs.Prelude.{◌≡◌, ◌↔◌};
 ghost use Rattle.std.specs.IoError.{error_kind};
-ghost use Rattle.geost_run.specs.Answer.{Answer, Begins};
-ghost use Rattle.geost_run.specs.Ends.{Ends, EndsUnread};
 
-use geo_chan::{Sink, Source};
-use geost_run::{Status, refuse_words, run};
-use std::alloc::Global;
+use geost_run::Unread;
 use std::env;
 use std::io::{self, ErrorKind};
-
-/// Why the words could not be read.
-#[derive(Clone, Copy)]
-pub enum Unread {
-    /// There was no memory for them.
-    Memory,
-    /// One of them is no text.
-    NoText,
-}
 
 /// The words behind the program's name.
 pub fn arguments(rt: &HostRuntime) -> Result<Vec<String>, Unread> {
@@ -44,32 +31,5 @@ fn why_unread(fault: &io::Error) -> Unread
         Unread::Memory
     } else {
         Unread::NoText
-    }
-}
-
-/// What the words are answered with. Where there was no memory for them, that is the status, and nothing is read or written. Words
-/// that are no text have no form.
-pub fn answer<S: Source, W: Sink>(
-    alloc: Global,
-    words: Result<Vec<String>, Unread>,
-    source: &mut S,
-    sink: &mut W,
-) -> Status
-    ensures read { (given : _) → words ≡ Ok given
-        → Ends (Answer (map string_bytes given.items)) (Begins (map string_bytes given.items))
-        (S.left source.old) (S.faults source.old) (S.faults source.new)
-        (W.written sink.old) (W.written sink.new) (W.faults sink.old) (W.faults sink.new) result }
-    ensures memory { words ≡ Err Unread.Memory
-        → (result ≡ Status.Memory) × (source.new ≡ source.old) × (sink.new ≡ sink.old) }
-    ensures no_text { words ≡ Err Unread.NoText → (source.new ≡ source.old)
-        × EndsUnread (W.written sink.old) (W.written sink.new)
-        (W.faults sink.old) (W.faults sink.new) result }
-    ensures quiet { words ≡ Err Unread.NoText → W.quiet sink.old ≡ true
-        → result ≡ Status.Memory → ⊥ }
-{
-    match words {
-        Ok(words) => run(alloc, &words, source, sink),
-        Err(Unread::Memory) => Status::Memory,
-        Err(Unread::NoText) => refuse_words(sink),
     }
 }

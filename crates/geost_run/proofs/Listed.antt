@@ -10,9 +10,9 @@ use Rattle.geo_chan.proofs.Appending.{err_same, err_stays, wrote_then}
 use Rattle.geo_chan.specs.Causes.{PutCause}
 use Rattle.geo_conditions.specs.Walk.{Tree, EndWord}
 use Rattle.geo_conditions.specs.Walk as walks
-use Rattle.layout_listing.specs.declared.listing.Ending.{Ending}
-use Rattle.layout_listing.specs.declared.listing.Ending.TheVariants.{More, End, OutOfBudget}
-use Rattle.layout_listing.specs.Page.{IsPage, WritesPage, blocks_of, word_of}
+use Rattle.layout_search.specs.declared.listing.Ending.{Ending}
+use Rattle.layout_search.specs.declared.listing.Ending.TheVariants.{More, End, OutOfBudget}
+use Rattle.layout_search.specs.Page.{IsPage, WritesPage, blocks_of, word_of}
 use Rattle.layout_search.specs.FirstLayout.{walk_after}
 use Rattle.problem_data.specs.Problem.{ProblemData}
 use Rattle.problem_data.specs.Cells.{IsTuple}

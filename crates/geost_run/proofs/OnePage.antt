@@ -9,7 +9,7 @@ use Rattle.geo_conditions.specs.Walk as walks
 use Rattle.geo_conditions.specs.Walk.{EndWord, IsListing, IsWalk, Lists, values}
 use Rattle.geo_conditions.proofs.Beginnings.{listing_follows}
 use Rattle.geo_conditions.proofs.Tokens.{every_walk}
-use Rattle.layout_listing.specs.Page.{IsPage, blocks_of}
+use Rattle.layout_search.specs.Page.{IsPage, blocks_of}
 use Rattle.layout_search.specs.FirstLayout.{walk_after}
 use Rattle.layout_search.proofs.Alike as alike
 use Rattle.layout_search.proofs.Members.{values-tell}

@@ -6,8 +6,8 @@ use Rattle.geo_chan.specs.declared.outside.PutFault.{PutFault}
 use Rattle.geo_chan.specs.Causes.{PutCause, Rose}
 use Rattle.geo_chan.specs.Written.{AppendsFront, WantsUnwritten}
 use Rattle.geo_conditions.specs.Walk.{Tree, EndWord}
-use Rattle.layout_listing.specs.declared.listing.Ending.{Ending}
-use Rattle.layout_listing.specs.Page.{IsPage, blocks_of, word_of}
+use Rattle.layout_search.specs.declared.listing.Ending.{Ending}
+use Rattle.layout_search.specs.Page.{IsPage, blocks_of, word_of}
 use Rattle.layout_search.specs.FirstLayout.{AreConditionsOf}
 use Rattle.problem_data.specs.Problem.{ProblemData}
 use Rattle.geost_run.specs.declared.all.Start.{Start}

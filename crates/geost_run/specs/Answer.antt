@@ -14,7 +14,7 @@ use Rattle.layout_drawing.specs.Drawing.{IsDrawing, IsLarge}
 use Rattle.layout_text.specs.Block.{block_of, token_line}
 use Rattle.layout_text.specs.FirstFault as layouts
 use Rattle.layout_text.specs.Token.{IsTokenOf}
-use Rattle.layout_listing.specs.Page.{IsPage, blocks_of}
+use Rattle.layout_search.specs.Page.{IsPage, blocks_of}
 use Rattle.geo_meaning.specs.Judged.{IsFirstBroken, rule_at}
 use Rattle.problem_generator.specs.Made.{made_text}
 use Rattle.problem_summary.specs.Summary.{counts}

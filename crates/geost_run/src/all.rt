@@ -3,7 +3,7 @@
 ghost use Rattle.std.specs.Prelude.{◌≡◌, ◌⊎◌, ◌≤◌, ◌^◌, ℕ, List, IfOk, IfSome, length};
 ghost use Rattle.std.specs.Option.{option_copied};
 ghost use Rattle.geo_chan.specs.Written.{Prints};
-ghost use Rattle.layout_listing.specs.Page.{word_of};
+ghost use Rattle.layout_search.specs.Page.{word_of};
 ghost use Rattle.layout_search.specs.FirstLayout.{AreConditionsOf, walk_after};
 ghost use Rattle.problem_data.specs.Cells.{IsTuple};
 ghost use Rattle.geost_run.specs.declared.command.Command.TheVariants.{All};
@@ -19,7 +19,7 @@ use crate::print::write_budget;
 use crate::{Decision, Page, ReadFault, Status, read_first_text};
 use geo_chan::{PutFault, Sink, Source, write_all_bytes};
 use geo_conditions::Layout;
-use layout_listing::{Ending, write_listing};
+use layout_search::{Ending, write_listing};
 use layout_text::{TokenFault, read_token};
 use std::alloc::{AllocError, Global};
 

@@ -14,7 +14,7 @@ use derivation_text::print_derivation;
 use geo_chan::{Piece, PutFault, Sink, write_all_bytes, write_pieces};
 use geo_tokens::fault::{FaultWord, fault_text};
 use geo_tokens::names::Names;
-use layout_listing::write_block;
+use layout_search::write_block;
 use problem_data::problem::Problem;
 use problem_summary::print_summary;
 use problem_text::print::print_problem;

@@ -4,4 +4,8 @@ pub mod AlikeRows
 pub mod States
 pub mod Members
 pub mod Outcomes
+pub mod Layouts
+pub mod Listed
+pub mod Pages
+pub mod Stated
 mod Spots

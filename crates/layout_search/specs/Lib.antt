@@ -1,2 +1,4 @@
 pub mod FirstLayout
 pub mod Found
+pub mod Page
+pub mod Laws

@@ -1,8 +1,13 @@
-//! Searches for layouts of a problem over its conditions, within a budget, and the first layout.
+//! Searches for layouts of a problem over its conditions, within a budget: the first layout, and a listing that is written while
+//! its layouts are found.
 #![tactic(auto)]
 
 mod first;
+mod laws;
+mod listing;
 mod start;
 
 pub use first::{Outcome, search_first, search_first_unrecorded};
+pub use laws::listings_are_of_layouts;
+pub use listing::{Ending, write_block, write_listing};
 pub use start::{found_layout, room_for_layout, start_search, take_layout};

@@ -1,7 +1,7 @@
 use Rattle.std.proofs.Common.{Err, Ok, Option, subst}
 use Rattle.std.proofs.lemmas.Result.{err_from_is_err_and}
 use Rattle.geo_base.specs.Tuple.{Tuple}
-use Rattle.layout_listing.specs.Page.{WritesPage}
+use Rattle.layout_search.specs.Page.{WritesPage}
 use Rattle.layout_search.specs.FirstLayout.{walk_after}
 use Rattle.geost_run.proofs.Listed.{page_cut, line_written, line_cut}
 use Rattle.geost_run.proofs.all.write_layouts.Goals as goal

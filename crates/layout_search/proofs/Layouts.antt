@@ -14,7 +14,7 @@ use Rattle.problem_data.specs.WellFormed.{IsWellFormed}
 use Rattle.rule_ground.specs.Order.{order_of}
 use Rattle.rule_ground.specs.Start.{first_state}
 use Rattle.rule_ground.proofs.Starts.{names-each}
-use Rattle.layout_listing.specs.Page.{IsWalkOf}
+use Rattle.layout_search.specs.Page.{IsWalkOf}
 
 -- a tuple has the form of one
 pub shaped-tuple : (p : ProblemData) (t : Tuple) → IsTuple p t → IsShaped p t

@@ -9,8 +9,8 @@ use Rattle.geo_chan.proofs.Appending.{appends_none, wants_nothing, wrote_all, wr
 use Rattle.geo_conditions.specs.Walk.{Tree, EndWord}
 use Rattle.layout_text.specs.Block.{block_of}
 use Rattle.problem_data.specs.Problem.{ProblemData}
-use Rattle.layout_listing.specs.declared.listing.Ending.{Ending}
-use Rattle.layout_listing.specs.Page.{IsPage, WritesPage, blocks_of, word_of}
+use Rattle.layout_search.specs.declared.listing.Ending.{Ending}
+use Rattle.layout_search.specs.Page.{IsPage, WritesPage, blocks_of, word_of}
 
 -- a listing that wants memory before its first block
 pub page-unbegun : (p : ProblemData) (W : Tree) (most n : ℕ) (w : Option (List ℕ)) (f : ℕ) (q : Bool) (ts : List Tuple) (word : EndWord) → IsPage p W most n ts word → WritesPage p W most n w w f f q q (Err Memory)

@@ -6,14 +6,14 @@ ghost use Rattle.geo_chan.specs.Written.{Prints};
 ghost use Rattle.layout_text.specs.Block.{block_of};
 ghost use Rattle.problem_data.specs.Cells.{IsShaped, IsTuple};
 ghost use Rattle.layout_search.specs.FirstLayout.{AreConditionsOf, walk_after};
-ghost use Rattle.layout_listing.specs.Page.{IsWalkOf, WritesPage};
+ghost use Rattle.layout_search.specs.Page.{IsWalkOf, WritesPage};
 
+use crate::start::{room_for_layout, start_search, take_layout};
 use derivation::NoRecord;
 use fixpoint::Fixpoint;
 use geo_base::MAX_DIMS;
 use geo_chan::{Page, PutFault, Sink, write_all_bytes};
 use geo_conditions::{Cond, Layout};
-use layout_search::{room_for_layout, start_search, take_layout};
 use layout_text::print_layout;
 use problem_data::problem::Problem;
 use std::alloc::Global;

@@ -1,5 +1,5 @@
 use Rattle.std.proofs.Common.{refl}
-use Rattle.geost_cli.proofs.words.answer.Goals as goal
+use Rattle.geost_run.proofs.unread.answer_words.Goals as goal
 
 pub returns-in-Err-Memory-clause-memory : goal.returns-in-Err-Memory-clause-memory
 returns-in-Err-Memory-clause-memory g c = λ _. (refl, refl, refl)

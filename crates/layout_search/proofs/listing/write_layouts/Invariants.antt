@@ -2,9 +2,9 @@ use Rattle.std.proofs.Common.{◌≡◌, List, length}
 use Rattle.geo_base.specs.Tuple.{Tuple}
 use Rattle.geo_chan.specs.Written.{Wrote}
 use Rattle.problem_data.specs.Cells.{IsShaped}
-use Rattle.layout_listing.specs.Page.{blocks_of}
-use Rattle.layout_listing.proofs.Listed.{HasListed}
-use Rattle.layout_listing.proofs.listing.write_layouts.Given as goal
+use Rattle.layout_search.specs.Page.{blocks_of}
+use Rattle.layout_search.proofs.Listed.{HasListed}
+use Rattle.layout_search.proofs.listing.write_layouts.Given as goal
 
 -- the layouts that were found are written
 abbrev pub invariant-listing : goal.invariant-listing

@@ -11,10 +11,10 @@ use Rattle.problem_data.specs.Problem.{ProblemData}
 use Rattle.problem_data.specs.WellFormed.{IsWellFormed}
 use Rattle.problem_data.specs.Layouts.{IsLayout}
 use Rattle.rule_ground.specs.Order.{variables_for}
-use Rattle.layout_listing.specs.Page.{IsPage, WritesPage}
-use Rattle.layout_listing.proofs.Listed.{goes-on}
-use Rattle.layout_listing.proofs.Pages.{page-unbegun}
-use Rattle.layout_listing.proofs.listing.write_in.Goals as goal
+use Rattle.layout_search.specs.Page.{IsPage, WritesPage}
+use Rattle.layout_search.proofs.Listed.{goes-on}
+use Rattle.layout_search.proofs.Pages.{page-unbegun}
+use Rattle.layout_search.proofs.listing.write_in.Goals as goal
 
 pub write_layouts-requires : goal.write_layouts-requires
 write_layouts-requires g c = (

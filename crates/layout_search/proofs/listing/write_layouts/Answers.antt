@@ -8,12 +8,12 @@ use Rattle.geo_conditions.specs.Walk.{Tree}
 use Rattle.layout_search.proofs.Members.{found-tuple}
 use Rattle.layout_search.proofs.Outcomes.{answered}
 use Rattle.layout_text.specs.Block.{block_of}
-use Rattle.layout_listing.specs.declared.listing.Ending.TheVariants.{More, End, OutOfBudget}
-use Rattle.layout_listing.specs.Page.{IsPage, blocks_of}
-use Rattle.layout_listing.proofs.Layouts.{shaped-tuple}
-use Rattle.layout_listing.proofs.Listed.{none-listed, one-more, more-page, end-page, spent-page, listed-on}
-use Rattle.layout_listing.proofs.Pages.{page-written, page-cut}
-use Rattle.layout_listing.proofs.listing.write_layouts.Goals as goal
+use Rattle.layout_search.specs.declared.listing.Ending.TheVariants.{More, End, OutOfBudget}
+use Rattle.layout_search.specs.Page.{IsPage, blocks_of}
+use Rattle.layout_search.proofs.Layouts.{shaped-tuple}
+use Rattle.layout_search.proofs.Listed.{none-listed, one-more, more-page, end-page, spent-page, listed-on}
+use Rattle.layout_search.proofs.Pages.{page-written, page-cut}
+use Rattle.layout_search.proofs.listing.write_layouts.Goals as goal
 
 pub listing-init : goal.listing-init
 listing-init g c =

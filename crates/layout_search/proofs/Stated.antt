@@ -17,9 +17,9 @@ use Rattle.problem_data.specs.WellFormed.{IsWellFormed}
 use Rattle.rule_ground.specs.Order.{ComesBefore, order_of, variables_for}
 use Rattle.rule_ground.specs.Start.{first_state}
 use Rattle.rule_ground.proofs.Starts.{names-each, tuples-are}
-use Rattle.layout_listing.specs.Laws.{FullMembersAreLayouts, ListsLayouts}
-use Rattle.layout_listing.specs.Page.{IsWalkOf}
-use Rattle.layout_listing.proofs.Layouts.{full-members, layouts-of}
+use Rattle.layout_search.specs.Laws.{FullMembersAreLayouts, ListsLayouts}
+use Rattle.layout_search.specs.Page.{IsWalkOf}
+use Rattle.layout_search.proofs.Layouts.{full-members, layouts-of}
 
 -- what holds of the images of elements
 all-of : {X Y : Type 0} (P : Y → Type 0) (f : X → Y) (xs : List X) → All P (map f xs) → All (λ x. P (f x)) xs

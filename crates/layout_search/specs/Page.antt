@@ -12,8 +12,8 @@ use Rattle.layout_search.specs.FirstLayout.{AreConditionsOf, walk_past}
 use Rattle.layout_text.specs.Block.{block_of}
 use Rattle.problem_data.specs.Problem.{ProblemData}
 use Rattle.problem_data.specs.Layouts.{IsLayout}
-use Rattle.layout_listing.specs.declared.listing.Ending.{Ending}
-use Rattle.layout_listing.specs.declared.listing.Ending.TheVariants.{More, End, OutOfBudget}
+use Rattle.layout_search.specs.declared.listing.Ending.{Ending}
+use Rattle.layout_search.specs.declared.listing.Ending.TheVariants.{More, End, OutOfBudget}
 
 -- a walk of the problem under its conditions, past the values of a tuple where they are given
 abbrev pub IsWalkOf : ProblemData → Tree → Type 0

@@ -18,8 +18,8 @@ use Rattle.problem_data.specs.WellFormed.{IsWellFormed}
 use Rattle.trail_search.specs.Next.{SearchView, Answers, HasFound}
 use Rattle.trail_search.specs.declared.step.Step.TheVariants.{Found, Ended, Budget}
 use Rattle.walk_listings.proofs.Listings.{goes_on_from}
-use Rattle.layout_listing.specs.Page.{IsWalkOf, IsPage}
-use Rattle.layout_listing.proofs.Layouts.{all-back, full-members, one-layout, tell, layouts-of, the-walk}
+use Rattle.layout_search.specs.Page.{IsWalkOf, IsPage}
+use Rattle.layout_search.proofs.Layouts.{all-back, full-members, one-layout, tell, layouts-of, the-walk}
 
 -- a search of the walk within that budget that is not over, and has found the layouts
 pub record HasListed (p : ProblemData) (W : Tree) (n : ℕ) (a : SearchView) (ts : List Tuple) : Type 0 where

@@ -1,4 +1,0 @@
-pub mod Layouts
-pub mod Listed
-pub mod Pages
-pub mod Stated
