@@ -3,7 +3,8 @@ ghost use Rattle.std.specs.Prelude.{◌≡◌, true, map, string_bytes};
 ghost use Rattle.geost_run.specs.Answer.{Answer, Begins};
 ghost use Rattle.geost_run.specs.Ends.{Ends, EndsUnread};
 
-use crate::{Status, refuse_words, run};
+use crate::top::refuse_words;
+use crate::{Status, run};
 use geo_chan::{Sink, Source};
 use std::alloc::Global;
 

@@ -10,4 +10,3 @@ mod start;
 pub use first::{Outcome, search_first, search_first_unrecorded};
 pub use laws::listings_are_of_layouts;
 pub use listing::{Ending, write_block, write_listing};
-pub use start::{found_layout, room_for_layout, start_search, take_layout};

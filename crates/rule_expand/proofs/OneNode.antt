@@ -100,11 +100,8 @@ quantified-made kind elements t next room rest deep next' left coll f r k c m h 
     gives-formula next room deep next' left r (ap (λ y. plain.quantified kind next y (plain_formula_view f)) c ∙ ap (plain.quantified kind next elements) m.view) (let x = m.taken in let z = k.0 in omega arith) (let x = m.numbered in omega arith)
     (let x = m.shallow in let z = k.1 in omega arith) h
 
-pub comparison-made : (a : PlainExprTree) (rel : Rel) (b : PlainExprTree) (next room rest between deep left : ℕ) (x y : PlainExpr) (q : PlainFormula) → (rest + 1 ≡ room) × (0 < deep) → ExprMade a rest (deep - 1) between x → ExprMade b between (deep - 1) left y →
-    plain_formula_view q ≡ plain.comparison (plain_expr_view x) rel (plain_expr_view y) → FormulaMade (plain.comparison a rel b) next room deep next left q
-comparison-made a rel b next room rest between deep left x y q k m n h = record {
-  view = h ∙ ap (λ z. plain.comparison z rel (plain_expr_view y)) m.view ∙ ap (plain.comparison a rel) n.view;
-  taken = (let i = m.taken in let j = n.taken in let z = k.0 in omega arith);
-  numbered = omega arith;
-  shallow = (let i = m.shallow in let j = n.shallow in let z = k.1 in omega arith);
-}
+pub comparison-made : (a : PlainExprTree) (rel : Rel) (b : PlainExprTree) (next room rest between deep left : ℕ) (x y : PlainExpr) (r : Result PlainFormula ExpandFault) → (rest + 1 ≡ room) × (0 < deep) → ExprMade a rest (deep - 1) between x →
+    ExprMade b between (deep - 1) left y → MatchResult r (λ q. plain_formula_view q ≡ plain.comparison (plain_expr_view x) rel (plain_expr_view y)) (λ e. e ≡ Memory) → GivesFormula (plain.comparison a rel b) next room deep next left r
+comparison-made a rel b next room rest between deep left x y r k m n h =
+    gives-formula next room deep next left r (ap (λ z. plain.comparison z rel (plain_expr_view y)) m.view ∙ ap (plain.comparison a rel) n.view) (let i = m.taken in let j = n.taken in let z = k.0 in omega arith) (omega arith)
+    (let i = m.shallow in let j = n.shallow in let z = k.1 in omega arith) h

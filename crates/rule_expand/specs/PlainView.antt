@@ -58,7 +58,7 @@ plain_formula_step (PlainFormula-F.And fs) = all_of (formulas fs.items)
 plain_formula_step (PlainFormula-F.Or fs) = any_of (formulas fs.items)
 plain_formula_step (PlainFormula-F.Implies f g) = implication f.value g.value
 plain_formula_step (PlainFormula-F.Iff f g) = equivalence f.value g.value
-plain_formula_step (PlainFormula-F.Compare a rel b) = comparison (plain_expr_view a) rel (plain_expr_view b)
+plain_formula_step (PlainFormula-F.Compare a rel b) = comparison (plain_expr_view a.value) rel (plain_expr_view b.value)
 plain_formula_step (PlainFormula-F.Quant kind v coll f) = quantified kind v (plain_coll_view coll) f.value
 
 abbrev pub plain_formula_view : PlainFormula → PlainFormulaTree

@@ -100,7 +100,7 @@ fn expand_comparison(
     }
     let left = expand_expr(source, in_sight, a, scope, room, deep - 1)?;
     let right = expand_expr(source, in_sight, b, scope, room, deep - 1)?;
-    Ok(comparison(left, rel, right))
+    comparison(source.alloc, left, rel, right)
 }
 
 /// A formula without its macros, where the first macros are in sight, with numbers from `next` on for its variables, within

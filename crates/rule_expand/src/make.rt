@@ -147,11 +147,17 @@ pub fn falsehood(room: &mut u32, deep: u32) -> Result<PlainFormula, ExpandFault>
 }
 
 /// A comparison.
-pub fn comparison(a: PlainExpr, rel: Rel, b: PlainExpr) -> PlainFormula
-    ensures { plain_formula_view result
-        ≡ plain.comparison (plain_expr_view a) rel (plain_expr_view b) }
+pub fn comparison(
+    alloc: Global,
+    a: PlainExpr,
+    rel: Rel,
+    b: PlainExpr,
+) -> Result<PlainFormula, ExpandFault>
+    ensures { MatchResult result (λ q. plain_formula_view q
+        ≡ plain.comparison (plain_expr_view a) rel (plain_expr_view b))
+        (λ e. e ≡ ExpandFault.Memory) }
 {
-    PlainFormula::Compare(a, rel, b)
+    Ok(PlainFormula::Compare(Box::new(alloc, a)?, rel, Box::new(alloc, b)?))
 }
 
 /// A `not`.

@@ -80,7 +80,7 @@ pub enum PlainFormula {
     Or(Vec<PlainFormula>),
     Implies(Box<PlainFormula>, Box<PlainFormula>),
     Iff(Box<PlainFormula>, Box<PlainFormula>),
-    Compare(PlainExpr, Rel, PlainExpr),
+    Compare(Box<PlainExpr>, Rel, Box<PlainExpr>),
     Quant(QuantKind, u32, PlainColl, Box<PlainFormula>),
 }
 

@@ -10,14 +10,15 @@ ghost use Rattle.geo_tokens.specs.declared.token.Sym.TheVariants as syms;
 ghost use Rattle.rule_syntax.specs.Marks.{quantifiers, rels};
 ghost use Rattle.rule_syntax.specs.Grammar.{rel_in, and_of, or_of, implication_of, equivalence_of};
 ghost use Rattle.rule_syntax.specs.Reading.{true_at, false_at, not_at, brackets_at, args_at, formula_call_at, comparison_at, unary_over_at, unary_at, and_unary_at, conjunction_at, or_conjunction_at, disjunction_at, behind_at, implication_at, formula_at, expr_at};
-ghost use Rattle.rule_syntax.specs.View.{argument_views, formula_view, formula_views, behind_view};
+ghost use Rattle.rule_syntax.specs.Tree.{comparison};
+ghost use Rattle.rule_syntax.specs.View.{argument_views, expr_view, formula_view, formula_views, behind_view};
 ghost use Rattle.rule_reading.specs.Bound.{quantified_over_at};
 
 use crate::quantifier::{QUANTIFIERS, begins_quantifier, bound};
 use geo_tokens::stop::{Stop, add, behind, followed_by, next_is, one_of, refusal, start_of, token};
 use geo_tokens::token::{Keyword, Kind, Sym, Token};
 use rule_syntax::expression::{arguments, expression};
-use rule_syntax::tree::{Argument, Formula, Rel};
+use rule_syntax::tree::{Argument, Expr, Formula, Rel};
 use rule_syntax::words::{placed_name, refused_arguments};
 use std::alloc::{AllocError, Global};
 
@@ -84,6 +85,22 @@ fn relation_of(mark: Kind) -> Rel
     }
 }
 
+/// Two expressions that are compared.
+fn compared(
+    alloc: Global,
+    place: u64,
+    left: Expr,
+    relation: Rel,
+    right: Expr,
+) -> Result<Formula, AllocError>
+    ensures { IfOk result (λ f. formula_view f
+        ≡ comparison place (expr_view left) relation (expr_view right)) }
+{
+    let left = Box::new(alloc, left)?;
+    let right = Box::new(alloc, right)?;
+    Ok(Formula::Compare(place, left, relation, right))
+}
+
 /// Two expressions with a mark between them.
 fn comparison<'a>(
     alloc: Global,
@@ -96,8 +113,9 @@ fn comparison<'a>(
     let (left, rest) = expression(alloc, text, levels, tokens)?;
     let (mark, rest) = relation_mark(rest)?;
     let (right, rest) = expression(alloc, text, levels, rest)?;
+    let place = start_of(tokens);
     Ok((
-        Formula::Compare(start_of(tokens), left, relation_of(mark.kind), right),
+        compared(alloc, place, left, relation_of(mark.kind), right)?,
         rest,
     ))
 }

@@ -81,8 +81,8 @@ implication-seen place a b h i j = rw (h, i, j) (ap formula_view (sym (formulas.
 pub equivalence-seen : {f : Formula} {g k : Formula} (place : ℕ) (a b : Box Formula Global) → f ≡ formulas.Iff place a b → g ≡ a.value → k ≡ b.value → formula_view f ≡ tree.equivalence place (formula_view g) (formula_view k)
 equivalence-seen place a b h i j = rw (h, i, j) (ap formula_view (sym (formulas.rolls-Iff place a b)) ∙ fold-roll-Formula FormulaTree formula_step (Formula-F.Iff place a b))
 
-pub comparison-seen : {f : Formula} (place : ℕ) (a : Expr) (rel : Rel) (b : Expr) → f ≡ formulas.Compare place a rel b → formula_view f ≡ tree.comparison place (expr_view a) rel (expr_view b)
-comparison-seen place a rel b h = rw h (ap formula_view (sym (formulas.rolls-Compare place a rel b)) ∙ fold-roll-Formula FormulaTree formula_step (Formula-F.Compare place a rel b))
+pub comparison-seen : {f : Formula} {d e : Expr} (place : ℕ) (a : Box Expr Global) (rel : Rel) (b : Box Expr Global) → f ≡ formulas.Compare place a rel b → d ≡ a.value → e ≡ b.value → formula_view f ≡ tree.comparison place (expr_view d) rel (expr_view e)
+comparison-seen place a rel b h i j = rw (h, i, j) (ap formula_view (sym (formulas.rolls-Compare place a rel b)) ∙ fold-roll-Formula FormulaTree formula_step (Formula-F.Compare place a rel b))
 
 pub quantified-seen : {f : Formula} {g : Formula} (place : ℕ) (kind : QuantKind) (v : PlacedName) (coll : Coll) (a : Box Formula Global) → f ≡ formulas.Quant place kind v coll a → g ≡ a.value → formula_view f ≡ tree.quantified place kind v (coll_view coll) (formula_view g)
 quantified-seen place kind v coll a h i = rw (h, i) (ap formula_view (sym (formulas.rolls-Quant place kind v coll a)) ∙ fold-roll-Formula FormulaTree formula_step (Formula-F.Quant place kind v coll a))

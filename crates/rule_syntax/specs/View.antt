@@ -72,7 +72,7 @@ formula_step (Formula-F.And p fs) = all_of p (formulas fs.items)
 formula_step (Formula-F.Or p fs) = any_of p (formulas fs.items)
 formula_step (Formula-F.Implies p f g) = implication p f.value g.value
 formula_step (Formula-F.Iff p f g) = equivalence p f.value g.value
-formula_step (Formula-F.Compare p a r b) = comparison p (expr_view a) r (expr_view b)
+formula_step (Formula-F.Compare p a r b) = comparison p (expr_view a.value) r (expr_view b.value)
 formula_step (Formula-F.Quant p k v c f) = quantified p k v (coll_view c) f.value
 formula_step (Formula-F.Call p a es) = formula_call p a (arguments (argument_views es))
 

@@ -131,7 +131,7 @@ pub enum Formula {
     Or(u64, Vec<Formula>),
     Implies(u64, Box<Formula>, Box<Formula>),
     Iff(u64, Box<Formula>, Box<Formula>),
-    Compare(u64, Expr, Rel, Expr),
+    Compare(u64, Box<Expr>, Rel, Box<Expr>),
     Quant(u64, QuantKind, PlacedName, Coll, Box<Formula>),
     /// A call of a macro that gives a formula.
     Call(u64, PlacedName, Vec<Argument>),

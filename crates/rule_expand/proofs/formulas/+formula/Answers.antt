@@ -46,7 +46,7 @@ expand_each-loop-f-preserved t c =
 pub expand_formula-returns-in-Compare : goal.expand_formula-returns-in-Compare
 expand_formula-returns-in-Compare t c =
     let p = c.args.source.now.problem.now in
-    let v = comparison-seen c.in-Compare.field-0 c.in-Compare.a c.in-Compare.rel c.in-Compare.b c.in-Compare.is in
+    let v = comparison-seen c.in-Compare.field-0 c.in-Compare.a c.in-Compare.rel c.in-Compare.b c.in-Compare.is c.deref-in-Compare.ensures c.deref-in-Compare-2.ensures in
     let P : PlainFormulaTree → Type 0 = λ f. GivesFormula f c.args.next.now c.args.room.now c.args.deep c.args.next.now c.expand_comparison.new.room c.expand_comparison.result in
     subst P (sym (ap (λ f. formula_expanded (expansions_of p c.args.in_sight) p f (scope_view p c.args.scope.now) c.args.next.now) v)) (c.expand_comparison.ensures c.args.next.now)
 

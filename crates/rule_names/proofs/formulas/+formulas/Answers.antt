@@ -42,7 +42,7 @@ pub formula_mistake-returns-in-Not : goal.formula_mistake-returns-in-Not
 formula_mistake-returns-in-Not t c = answered-as c.args.problem.now c.args.statement (scope_view c.args.scope.now) c.formula_mistake.result (negation-seen c.in-Not.field-0 c.in-Not.inner c.in-Not.is c.deref.ensures) c.formula_mistake.ensures
 
 pub formula_mistake-returns-in-Compare : goal.formula_mistake-returns-in-Compare
-formula_mistake-returns-in-Compare t c = given-as c.args.problem.now c.args.statement (scope_view c.args.scope.now) c.comparison_mistake.result (comparison-seen c.in-Compare.field-0 c.in-Compare.left c.in-Compare.field-2 c.in-Compare.right c.in-Compare.is) c.comparison_mistake.ensures
+formula_mistake-returns-in-Compare t c = given-as c.args.problem.now c.args.statement (scope_view c.args.scope.now) c.comparison_mistake.result (comparison-seen c.in-Compare.field-0 c.in-Compare.left c.in-Compare.field-2 c.in-Compare.right c.in-Compare.is c.deref-in-Compare.ensures c.deref-in-Compare-2.ensures) c.comparison_mistake.ensures
 
 pub formula_mistake-returns-in-Quant : goal.formula_mistake-returns-in-Quant
 formula_mistake-returns-in-Quant t c = answered-as c.args.problem.now c.args.statement (scope_view c.args.scope.now) c.quantified_mistake.result (quantified-seen c.in-Quant.field-0 c.in-Quant.field-1 c.in-Quant.v c.in-Quant.coll c.in-Quant.body c.in-Quant.is c.deref-in-Quant.ensures) c.quantified_mistake.ensures

@@ -41,7 +41,7 @@ spell_formula-returns-in-Or t c =
 
 pub spell_formula-returns-in-Compare : goal.spell_formula-returns-in-Compare
 spell_formula-returns-in-Compare t c =
-    spelled_behind c.spell_comparison.result _ _ _ _ _ (ap (formula_spelling c.args.rank) (comparison-seen c.in-Compare.field-0 c.in-Compare.left c.in-Compare.rel c.in-Compare.right c.in-Compare.is)) c.spell_comparison.ensures
+    spelled_behind c.spell_comparison.result _ _ _ _ _ (ap (formula_spelling c.args.rank) (comparison-seen c.in-Compare.field-0 c.in-Compare.left c.in-Compare.rel c.in-Compare.right c.in-Compare.is c.deref-in-Compare.ensures c.deref-in-Compare-2.ensures)) c.spell_comparison.ensures
 
 pub spell_formula-returns-in-Call : goal.spell_formula-returns-in-Call
 spell_formula-returns-in-Call t c =
