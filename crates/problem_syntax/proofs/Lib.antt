@@ -1,4 +1,3 @@
-pub mod Ended
 pub mod Right
 pub mod Levels
 pub mod WholeText
