@@ -1,10 +1,12 @@
-// What the words are answered with, also where they could not be read.
+//! What the words are answered with, also where they could not be read.
+
 ghost use Rattle.std.specs.Prelude.{◌≡◌, true, map, string_bytes};
 ghost use Rattle.geost_run.specs.Answer.{Answer, Begins};
-ghost use Rattle.geost_run.specs.Ends.{Ends, EndsUnread};
+ghost use Rattle.command_reply.specs.Ends.{Ends, EndsUnread};
 
+use crate::run;
 use crate::top::refuse_words;
-use crate::{Status, run};
+use command_input::Status;
 use geo_chan::{Sink, Source};
 use std::alloc::Global;
 

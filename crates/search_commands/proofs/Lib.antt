@@ -1,0 +1,5 @@
+pub mod Shown
+pub mod Found
+pub mod OneFirst
+pub mod OnePage
+pub mod Listed

@@ -1,0 +1,13 @@
+//! The commands that search: `first`, `make` and `all`.
+#![tactic(auto)]
+
+mod all;
+mod budget;
+mod first;
+mod make;
+mod refutation;
+mod shorter;
+
+pub use all::All;
+pub use first::First;
+pub use make::Make;
