@@ -47,6 +47,7 @@ pub fn carry_out<C: Deciding, S: Source, W: Sink>(
         (S.left source.old) (S.left source.new) }
     ensures unread { (C.question command.now).most ≡ 0
         → (source.new ≡ source.old) × (result ≡ Status.ReadFault → ⊥) }
+    ensures kept { result ≡ Status.ReadFault → sink.new ≡ sink.old }
     ensures quiet { WantsFirst (W.quiet sink.old) (W.written sink.old) (W.written sink.new)
         result }
     ensures sound { IsSound (C.question command.now) }

@@ -30,6 +30,7 @@ pub fn carry_out<S: Source, W: Sink>(
         (S.left source.old) (S.left source.new) }
     ensures unread { most_taken command.entry ≡ 0
         → (source.new ≡ source.old) × (result ≡ Status.ReadFault → ⊥) }
+    ensures kept { result ≡ Status.ReadFault → sink.new ≡ sink.old }
     ensures quiet { WantsFirst (W.quiet sink.old) (W.written sink.old) (W.written sink.new)
         result }
     ensures sound { IsSound (question_of command.entry) }
