@@ -3,7 +3,6 @@
 ghost use Rattle.std.specs.Prelude.{◌≡◌, IfOk, codes};
 ghost use Rattle.check_commands.specs.Check.{check_question};
 ghost use Rattle.check_commands.specs.Checks.{IsReplyTo};
-ghost use Rattle.check_commands.proofs.OneCheck.{check_sound};
 
 use crate::pieces::take_checked;
 use command_input::{ReadFault, Status};
@@ -27,7 +26,7 @@ impl Deciding for Check {
         Ok(reply_to(alloc, found)?)
     }
 
-    ghost sound = { λ _. check_sound };
+    fn sound(&self) {}
 }
 
 // What is replied to what was found.

@@ -29,8 +29,9 @@ pub trait Deciding {
         ensures unread { (question self.now).most ≡ 0
             → (source.new ≡ source.old) × (result ≡ Err ReadFault.Failed → ⊥) };
 
-    /// An input has one answer.
-    ghost sound: { (command : Self) → IsSound (question command) };
+    /// An input has one answer. It does nothing, and its contract is what is known behind it.
+    fn sound(&self)
+        ensures { IsSound (question self.now) };
 }
 
 /// Carries a command out, and says how that ended.
@@ -52,6 +53,7 @@ pub fn carry_out<C: Deciding, S: Source, W: Sink>(
         result }
     ensures sound { IsSound (C.question command.now) }
 {
+    command.sound();
     match command.decide(alloc, source) {
         Ok(reply) => status_of(reply.write(alloc, sink)),
         Err(ReadFault::Failed) => Status::ReadFault,

@@ -5,7 +5,6 @@ ghost use Rattle.command_reply.specs.Given.{IsGiven};
 ghost use Rattle.command_reply.specs.Question.{AnswersInput};
 ghost use Rattle.command_reply.specs.Reply.{IsSaid};
 ghost use Rattle.layout_commands.specs.Judge.{JudgeAnswer, judge_question};
-ghost use Rattle.layout_commands.proofs.Judges.{judge_sound};
 
 use command_input::{ReadFault, Status};
 use command_reply::{Deciding, Given, TextReply, refuse, reply_of, take_given};
@@ -29,7 +28,7 @@ impl Deciding for Judge {
         }
     }
 
-    ghost sound = { λ _. judge_sound };
+    fn sound(&self) {}
 }
 
 // What is replied to a problem and a layout of it.

@@ -10,7 +10,6 @@ ghost use Rattle.problem_data.specs.Cells.{IsShaped};
 ghost use Rattle.rule_ground.specs.Start.{first_state};
 ghost use Rattle.search_commands.specs.First.{FirstAnswer, SaysNone, ShowsNone, first_question, out_of_budget};
 ghost use Rattle.search_commands.specs.Refuted.{search_says};
-ghost use Rattle.search_commands.proofs.OneFirst.{first_sound};
 
 use crate::budget::write_budget;
 use crate::refutation::{Refutation, SearchReply};
@@ -49,7 +48,7 @@ impl Deciding for First {
         }
     }
 
-    ghost sound = { λ f. first_sound f.most };
+    fn sound(&self) {}
 }
 
 // What is replied to a problem.

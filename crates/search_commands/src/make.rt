@@ -9,7 +9,6 @@ ghost use Rattle.command_reply.specs.Question.{AnswersInput};
 ghost use Rattle.command_reply.specs.Reply.{IsSaid};
 ghost use Rattle.search_commands.specs.Make.{MakeAnswer, counts, make_question};
 ghost use Rattle.search_commands.specs.Summed.{IsShapedFor, answer_lines, outcome_status};
-ghost use Rattle.search_commands.proofs.OneFirst.{make_sound};
 
 use command_input::{ReadFault, Status};
 use command_reply::{Accepted, Deciding, TextReply, TextSink, read_accepted, refuse, spelled};
@@ -49,7 +48,7 @@ impl Deciding for Make {
         Ok(made(alloc, self.seed, self.most)?)
     }
 
-    ghost sound = { λ m. make_sound m.seed m.most };
+    fn sound(&self) {}
 }
 
 // What is replied to a seed.
