@@ -1,6 +1,6 @@
 -- How a run ends, from what its parts did.
 use Rattle.std.proofs.Common.{◌≡◌, inl, inr, ℕ, Bool, List, [], refl, sym, subst, ap, ◌∙◌}
-use Rattle.std.specs.Prelude.{Option, None, Some, Result, Ok, Err}
+use Rattle.std.specs.Prelude.{Option, None, Some, Result, Ok, Err, IfOk}
 use Rattle.std.specs.Io.KnownBytes.{Appends}
 use Rattle.geo_chan.specs.declared.outside.PutFault.{PutFault}
 use Rattle.geo_chan.specs.declared.outside.PutFault.TheVariants.{Failed as PutFailed, Memory as PutMemory}
@@ -10,8 +10,11 @@ use Rattle.command_input.specs.declared.command.Status.{Status}
 use Rattle.command_input.specs.declared.command.Status.TheVariants.{Refused, ReadFault, WriteFault, Memory}
 use Rattle.command_reply.specs.Ends.{Gave, WroteFront, Ends}
 use Rattle.command_reply.specs.Question.{Question, AnswersInput, Decides, FrontOf}
-use Rattle.command_reply.specs.Accepted.{AnswersAccepted}
-use Rattle.command_reply.specs.Given.{AnswersGiven}
+use Rattle.command_reply.specs.Accepted.{AnswersAccepted, HasRead}
+use Rattle.command_reply.specs.declared.accepted.Accepted.{Accepted}
+use Rattle.command_reply.specs.Given.{AnswersGiven, IsGiven}
+use Rattle.command_reply.specs.declared.given.Given.{Given}
+use Rattle.command_reply.specs.declared.reply.TextReply.{TextReply}
 use Rattle.command_reply.specs.Refusal.{refusal, RefusedAnswer, RefusedPairAnswer}
 use Rattle.geo_tokens.specs.declared.fault.FaultWord.{FaultWord}
 use Rattle.geo_tokens.specs.declared.fault.TextFault.{TextFault}
@@ -77,11 +80,6 @@ answers_text answer input own mine a i = λ text status. said (answer input) own
 pub answers_told : (answer : List ℕ → List ℕ → Status → Type 0) (input own text : List ℕ) (mine status : Status) → text ≡ own → status ≡ mine → answer input own mine → IsAnswered mine → AnswersInput answer input (IsSaid text status)
 answers_told answer input own text mine status e s a i = let x = said (answer input) own text mine status a i (e, s) in answers_text answer input text status x.0 x.1
 
--- a reply that answers what was read of the input
-pub decides_read : (q : Question) (left : Option (List ℕ)) (says : List ℕ → Status → Type 0) (Read : List ℕ → Type 0) → (input : List ℕ) × Tells left input × Read input
-    → ((input : List ℕ) → Read input → AnswersInput q.answer input says) → Decides q left says
-decides_read q left says Read (input, told, r) f = record { input = input; told = told; answers = f input r }
-
 -- ---- the reply to a fault
 
 -- the text and the status of a refusal
@@ -96,3 +94,37 @@ module _ (answer : List ℕ → List ℕ → Status → Type 0) (input : List �
   pub answers_refused_pair : Refuses fault own mine → AnswersGiven (Err fault) input → ((text : List ℕ) → RefusedPairAnswer layouts.HasFaultFrom input text → answer input text Refused) → AnswersInput answer input (IsSaid own mine)
   answers_refused_pair (place, word, e, o, m) h f =
       answers_told answer input (refusal place word) own Refused mine o m (f (refusal place word) (place, word, subst (λ (x : TextFault). AnswersGiven (Err x) input) e h, refl)) tt
+
+-- ---- what a command decides
+
+module _ (q : Question) (left : Option (List ℕ)) (own : List ℕ) (mine : Status) where
+  pub decides_refused : (r : Result Accepted TextFault) (fault : TextFault) → (input : List ℕ) × Tells left input × AnswersAccepted r input → r ≡ Err fault → Refuses fault own mine
+      → ((input text : List ℕ) → RefusedAnswer input text → q.answer input text Refused) → Decides q left (IsSaid own mine)
+  decides_refused r fault (input, told, a) e h f = record {
+    input = input;
+    told = told;
+    answers = answers_refused q.answer input fault own mine h (subst (λ (x : Result Accepted TextFault). AnswersAccepted x input) e a) (f input);
+  }
+
+  pub decides_refused_pair : (r : Result Given TextFault) (fault : TextFault) → (input : List ℕ) × Tells left input × AnswersGiven r input → r ≡ Err fault → Refuses fault own mine
+      → ((input text : List ℕ) → RefusedPairAnswer layouts.HasFaultFrom input text → q.answer input text Refused) → Decides q left (IsSaid own mine)
+  decides_refused_pair r fault (input, told, a) e h f = record {
+    input = input;
+    told = told;
+    answers = answers_refused_pair q.answer input fault own mine h (subst (λ (x : Result Given TextFault). AnswersGiven x input) e a) (f input);
+  }
+
+module _ (q : Question) (left : Option (List ℕ)) (says : List ℕ → Status → Type 0) where
+  pub decides_accepted : (r : Result Accepted TextFault) (a : Accepted) → (input : List ℕ) × Tells left input × AnswersAccepted r input → r ≡ Ok a
+      → ((input : List ℕ) → HasRead input a → AnswersInput q.answer input says) → Decides q left says
+  decides_accepted r a (input, told, h) e f = record { input = input; told = told; answers = f input (subst (λ (x : Result Accepted TextFault). AnswersAccepted x input) e h) }
+
+  pub decides_given : (r : Result Given TextFault) (g : Given) → (input : List ℕ) × Tells left input × AnswersGiven r input → r ≡ Ok g
+      → ((input : List ℕ) → IsGiven input g → AnswersInput q.answer input says) → Decides q left says
+  decides_given r g (input, told, h) e f = record { input = input; told = told; answers = f input (subst (λ (x : Result Given TextFault). AnswersGiven x input) e h) }
+
+-- a reply that is told by its text and its status
+pub replied : {E : Type 0} (r : Result TextReply E) (own : List ℕ) (mine : Status) (P : TextReply → Type 0) → IfOk r (λ x. x.text.items ≡ own) → IfOk r (λ x. x.status ≡ mine)
+    → ((x : TextReply) → x.text.items ≡ own → x.status ≡ mine → P x) → IfOk r P
+replied (Ok x) own mine P e s f = f x e s
+replied (Err e) own mine P t s f = tt
