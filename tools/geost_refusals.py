@@ -15,7 +15,6 @@ from geost_text import (
     LARGEST_NUMBER,
     LONGEST_NAME,
     RESERVED,
-    Call,
     Chain,
     Expr,
     Extreme,

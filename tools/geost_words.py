@@ -43,7 +43,8 @@ def meant(words: list[str]) -> list[str]:
 def in_place_of_files(words: list[str], files: list[str]) -> str:
     plain, named = " ".join(words), " ".join(files)
     piped = f"geost {plain} < {named}" if len(files) == 1 else f"cat {named} | geost {plain}"
-    return f"texts are read from standard input: write `{piped}`, or `tools/explain {plain} {named}`"
+    explained = f"tools/explain {plain} {named}"
+    return f"texts are read from standard input: write `{piped}`, or `{explained}`"
 
 
 def in_place_of_command(command: str) -> list[str]:
@@ -68,9 +69,11 @@ def in_place_of_numbers(command: str, given: list[str]) -> list[str]:
     told = [line for word in given[: len(wanted)] for line in in_place_of_number(word, command)]
     if len(given) < len(wanted):
         usual = {"first": "1000", "all": "10 1000", "make": "1 160"}[command]
-        told.append(f"a number is missing: write `{command} {usual}` for `{' '.join([command, *wanted])}`")
+        form = " ".join([command, *wanted])
+        told.append(f"a number is missing: write `{command} {usual}` for `{form}`")
     elif len(given) > len(wanted) + (command == "all"):
-        told.append(f"there is a word too many: write `{' '.join([command, *given[: len(wanted)]])}`")
+        fewer = " ".join([command, *given[: len(wanted)]])
+        told.append(f"there is a word too many: write `{fewer}`")
     return told
 
 

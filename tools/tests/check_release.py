@@ -78,7 +78,7 @@ def check_archive(setting: Setting, folder: Path) -> None:
     summed = re.findall(r"  (.*)$", (release.folder / "SHA256SUMS").read_text(), re.MULTILINE)
     files = [path for path in release.folder.rglob("*") if path.is_file()]
     want(len(summed), len(files) - 1, "files with a sum")
-    wanted = ["KIT", "VERSION", "NOTICES.md", "docs/TUTORIAL.md", "tools/explain", "tools/man/geost.1"]
+    wanted = ["KIT", "VERSION", "NOTICES.md", "docs/TUTORIAL.md", "tools/explain", "tools/lint"]
     missing = [name for name in wanted if not (release.folder / name).is_file()]
     want(missing, [], "files that are not in the archive")
     check_answers(release)

@@ -26,13 +26,13 @@ rule free : apart ;
 RULES = {
     "0 < one.x1 < 4": "write `a < b and b < c`",
     "one.x1 >= two.x1 >= 1": "write `a >= b and b >= c`",
-    "exists p, q in objects : p.x1 = q.x1": "write `exists p in objects : exists q in objects : [ .. ]`",
+    "exists p, q in objects : p.x1 = q.x1": "write `exists p in objects : exists q in objects",
     "forall p : p.x1 = 0": "write `forall p in objects : ..`",
-    "forall p in objects where p.weight > 3 : p.x2 = 0": "write `forall p in objects : [ A implies B ]`",
+    "forall p in objects where p.weight > 3 : p.x2 = 0": "[ A implies B ]",
     "forall p in objects such that p.weight > 3 : p.x2 = 0": "[ A implies B ]",
     "forall p in objects p.x1 = 0": "write `.. in objects : p",
     "forall p in (one, two) : p.x1 = 0": "write `forall p in objects (a , b) : ..`",
-    "forall p in tile : p.x1 = 0": "write `forall p in objects : [ p.sid = shape tile implies .. ]`",
+    "forall p in tile : p.x1 = 0": "write `forall p in objects : [ p.sid = shape tile",
     "forall i in 1..3 : one.x1 = i": "write `forall i in objects : ..`",
     "forall s in boxes : s.l1 = 1": "write `boxes of p`",
     "for all p in objects : p.x1 = 0": "write `forall p in objects : ..`",
@@ -172,19 +172,21 @@ STATEMENTS = {
 }
 
 WHOLE = FRONT + "end\n"
+HARD_SPACE = WHOLE.replace("object one", "object\u00a0one")
+ENDED_HEAD = WHOLE.replace("dims 2", "dims 2 ;")
 TEXTS: dict[str, tuple[bytes, str]] = {
     "a byte order mark": (b"\xef\xbb\xbf" + WHOLE.encode(), "write it as UTF-8 without one"),
     "UTF-16": (WHOLE.encode("utf-16"), "the file is UTF-16: write it as UTF-8"),
     "UTF-16 without a mark": (WHOLE.encode("utf-16-be"), "the file is UTF-16"),
     "Latin-1": (WHOLE.replace("one", "öne").encode("latin-1"), "the file is not UTF-8"),
-    "a no-break space": (WHOLE.replace("object one", "object\u00a0one").encode(), "write a plain space"),
+    "a no-break space": (HARD_SPACE.encode(), "write a plain space"),
     "quotes": (WHOLE.replace(" one", " “one”").encode(), "names stand without quotes: write"),
     "no end": (FRONT.encode(), "write `end` behind the last statement"),
     "a large END": ((FRONT + "END\n").encode(), "write `end`"),
     "something behind the end": ((FRONT + "end ;\n").encode(), "write `end` alone"),
     "no first line": (WHOLE.partition("\n")[2].encode(), "write `geost 1 dims 2`"),
     "dims alone": (WHOLE.replace("geost 1 ", "").encode(), "write `geost 1 dims 2`"),
-    "a semicolon in front": (WHOLE.replace("dims 2", "dims 2 ;").encode(), "none behind the first line"),
+    "a semicolon in front": (ENDED_HEAD.encode(), "none behind the first line"),
     "five dimensions": (b"geost 1 dims 7\nend\n", "write `geost 1 dims K`"),
 }
 
@@ -194,7 +196,7 @@ PLANS = {
     "layout\none as tile 0 0\ntwo as tile at 2 0\n": "write `as tile at 0 0`",
     "layout\none as tile at 0, 0\ntwo as tile at 2 0\n": "write `at 0 0`",
     "layout\none as tile at 0..0 0\ntwo as tile at 2 0\n": "write one number for each coordinate",
-    "layout\none as tile at 0 0\ntwo as tile at 2 0\nend\n": "leave it out; write one line for each",
+    "layout\none as tile at 0 0\ntwo as tile at 2 0\nend\n": "leave it out; write one line for",
 }
 
 WORDS = {
@@ -256,7 +258,8 @@ def check_long_line(setting: Setting) -> None:
     """Of a very long line what stands around the fault is shown, and the mark stands under it."""
     for before, behind in ((400, 400), (10, 400), (400, 0)):
         line = f"rule r : {'true and ' * (before // 9)}nobody.x1 = 0 {'and true ' * (behind // 9)};"
-        printed = explained(setting, (FRONT + line + "\nend\n").encode(), None, ["show"]).split("\n")
+        text = f"{FRONT}{line}\nend\n".encode()
+        printed = explained(setting, text, None, ["show"]).split("\n")
         want(len(printed[1]) <= 160, True, f"a line of {len(printed[1])} columns is shown")
         column = printed[2].index("^")
         want(printed[1][column : column + 6], "nobody", "what stands over the mark")
@@ -291,17 +294,18 @@ def check_statement() -> None:
 
 
 def cases(setting: Setting, folder: Path) -> Cases:
-    told = [Told(rule, f"{FRONT}rule r : {rule} ;\nend\n".encode(), wanted) for rule, wanted in RULES.items()]
-    told += [Told(line, f"{FRONT}{line}\nend\n".encode(), wanted) for line, wanted in STATEMENTS.items()]
+    lines = [(f"rule r : {rule} ;", wanted) for rule, wanted in RULES.items()]
+    lines += STATEMENTS.items()
+    told = [Told(line, f"{FRONT}{line}\nend\n".encode(), wanted) for line, wanted in lines]
     told += [Told(name, text, wanted) for name, (text, wanted) in TEXTS.items()]
     for slip in told:
         yield Case(f"slip: {slip.name}", lambda slip=slip: check_told(setting, slip))
     for plan, wanted in PLANS.items():
         name = plan.replace("\n", " ")
-        yield Case(f"slip: {name}", lambda plan=plan, wanted=wanted: check_plan(setting, plan, wanted))
+        yield Case(f"slip: {name}", lambda p=plan, w=wanted: check_plan(setting, p, w))
     for words, wanted in WORDS.items():
-        lines = "\n".join(meant(words.split()))
-        yield Case(f"slip: the words {words!r}", lambda w=wanted, lines=lines: want_in(w, lines))
+        said = "\n".join(meant(words.split()))
+        yield Case(f"slip: the words {words!r}", lambda w=wanted, said=said: want_in(w, said))
     yield Case("slip: a derivation", lambda: check_derivation(setting))
     yield Case("slip: a very long line", lambda: check_long_line(setting))
     yield Case("slip: the patterns", check_patterns)
