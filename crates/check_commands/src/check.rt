@@ -4,7 +4,7 @@ ghost use Rattle.std.specs.Prelude.{◌≡◌, IfOk, codes};
 ghost use Rattle.check_commands.specs.Check.{check_question};
 ghost use Rattle.check_commands.specs.Checks.{IsReplyTo};
 
-use crate::pieces::take_checked;
+use crate::second::take_checked;
 use command_input::{ReadFault, Status};
 use command_reply::{Deciding, TextReply, refuse, reply_of};
 use derivation_check::Checked;

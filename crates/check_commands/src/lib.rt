@@ -2,6 +2,6 @@
 #![tactic(auto)]
 
 mod check;
-mod pieces;
+mod second;
 
 pub use check::Check;

@@ -11,6 +11,7 @@ use derivation::Log;
 use derivation_trim::{is_derivation, shortened};
 use geo_conditions::Cond;
 use geo_tokens::names::Names;
+use layout_search::in_dimensions;
 use printed_derivation::is_printable;
 use problem_data::problem::Problem;
 use rule_ground::start::start_state;
@@ -31,13 +32,10 @@ pub fn shorter(
     ensures { IfOk result (λ other. ShowsNone problem.now conditions.now other.events) }
 {
     problem.is_said();
-    match problem.dims() {
-        1 => shorter_in::<1>(alloc, problem, conditions, names, log),
-        2 => shorter_in::<2>(alloc, problem, conditions, names, log),
-        3 => shorter_in::<3>(alloc, problem, conditions, names, log),
-        4 => shorter_in::<4>(alloc, problem, conditions, names, log),
-        _ => unreachable!(),
-    }
+    in_dimensions!(
+        problem.dims(),
+        shorter_in::<>(alloc, problem, conditions, names, log)
+    )
 }
 
 // The same, where K is the number of dimensions.

@@ -2,8 +2,8 @@ use Rattle.std.proofs.Common.{rules, ◌≡◌, ◌≤◌, ℕ, [], length, take
 use Rattle.std.proofs.lemmas.Grind.{common_steps}
 use Rattle.command_input.specs.Reading.{TakesAtMost}
 use Rattle.check_commands.proofs.Pieces.{first_given, piece_taken, next_given, most_given, all_checked, fault_found, ok_or_err}
-use Rattle.check_commands.proofs.pieces.give_text.Goals as goal
-use Rattle.check_commands.proofs.pieces.give_text.Goals.{in_default, in_default-2}
+use Rattle.check_commands.proofs.second.give_text.Goals as goal
+use Rattle.check_commands.proofs.second.give_text.Goals.{in_default, in_default-2}
 
 pub giving-init : goal.giving-init
 giving-init g c = record {

@@ -2,7 +2,7 @@ use Rattle.std.proofs.Common.{◌≡◌, [], List, length}
 use Rattle.geo_conditions.specs.Reach.{Reach}
 use Rattle.stream_check.specs.Streaming.{IsChecking}
 use Rattle.check_commands.proofs.Pieces.{HasGiven, still}
-use Rattle.check_commands.proofs.pieces.give_text.Given as goal
+use Rattle.check_commands.proofs.second.give_text.Given as goal
 
 -- the check was given the first bytes and then those of the source that were taken
 abbrev pub invariant-giving : goal.invariant-giving

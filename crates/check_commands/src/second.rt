@@ -15,6 +15,7 @@ use geo_base::MAX_DIMS;
 use geo_chan::Source;
 use geo_tokens::fault::TextFault;
 use geo_tokens::first_end::first_text_end;
+use layout_search::in_dimensions;
 use problem_text::names::names;
 use rule_ground::start::start_state;
 use std::alloc::Global;
@@ -79,13 +80,10 @@ fn check_second<S: Source>(
     ensures cause { ReadCause (S.faults source.old) (S.faults source.new) result }
 {
     accepted.problem.is_said();
-    match accepted.problem.dims() {
-        1 => check_in::<1, S>(alloc, accepted, second, source),
-        2 => check_in::<2, S>(alloc, accepted, second, source),
-        3 => check_in::<3, S>(alloc, accepted, second, source),
-        4 => check_in::<4, S>(alloc, accepted, second, source),
-        _ => unreachable!(),
-    }
+    in_dimensions!(
+        accepted.problem.dims(),
+        check_in::<S>(alloc, accepted, second, source)
+    )
 }
 
 // The same, where K is the number of dimensions.

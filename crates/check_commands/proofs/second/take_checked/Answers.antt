@@ -10,7 +10,7 @@ use Rattle.command_reply.specs.Texts.{AreTextsOf}
 use Rattle.check_commands.proofs.Behind.{finds_behind, refused_before}
 use Rattle.command_input.proofs.Taking.{sum_most}
 use Rattle.command_reply.proofs.TwoTexts.{cut-at}
-use Rattle.check_commands.proofs.pieces.take_checked.Goals as goal
+use Rattle.check_commands.proofs.second.take_checked.Goals as goal
 
 pub returns-in-Err-clause-answer : goal.returns-in-Err-clause-answer
 returns-in-Err-clause-answer g c =
