@@ -3,26 +3,25 @@
 from __future__ import annotations
 
 import itertools
-import random
 from collections.abc import Callable, Iterator
-from dataclasses import dataclass, replace
+from dataclasses import dataclass
 
-from geost_text import Bare, Call, Compare, Expr, FieldOf, Formula, Joined, Macro, Object, Problem, Quantified, all_parts
-
-
-@dataclass(frozen=True)
-class Candidate:
-    """An order of all objects and a side for each dimension, with the name of the way in which they were chosen."""
-
-    name: str
-    order: tuple[str, ...]
-    sides: tuple[str, ...]
-
-    def of(self, problem: Problem) -> Problem:
-        return replace(problem, order=self.order, sides=self.sides)
-
-    def statements(self) -> str:
-        return f"order {', '.join(self.order)} ;\nsides {' '.join(self.sides)} ;\n"
+from geost_text import (
+    Apart,
+    Bare,
+    Call,
+    Compare,
+    Expr,
+    FieldOf,
+    Formula,
+    Joined,
+    Macro,
+    Object,
+    Problem,
+    Quantified,
+    Within,
+    all_parts,
+)
 
 
 @dataclass(frozen=True)
@@ -172,21 +171,66 @@ def all_sides(problem: Problem) -> list[tuple[str, ...]]:
     return sorted(others, key=lambda sides: sum(a != b for a, b in zip(sides, stated)))
 
 
-def shuffled(problem: Problem, seed: int) -> tuple[str, ...]:
-    """The objects from large to small, each volume taken up to twice as large or small by chance; the same for the same seed."""
-    chance = random.Random(seed)
-    weights = {thing.name: least_volume(problem, thing) * 2 ** chance.uniform(-1, 1) for thing in problem.objects}
-    return tuple(sorted(weights, key=lambda name: -weights[name]))
+# Objects that belong together, one behind the other
 
 
-def candidates(problem: Problem) -> Iterator[Candidate]:
-    """All orders with the stated sides, then with each of the other sides, then shuffled ones without end."""
-    orders = stated_orders(problem)
-    for sides in all_sides(problem):
-        for name, order in orders:
-            yield Candidate(name, order, sides)
-    if len(problem.objects) < 2:
-        return
-    for seed in itertools.count(1):
-        sides = all_sides(problem)[seed % 2**problem.dims]
-        yield Candidate(f"shuffled {seed}", shuffled(problem, seed), sides)
+def ties(problem: Problem) -> dict[str, list[str]]:
+    """The objects with which each one stands alone in a rule, or in a part of it that is joined to others by `and`."""
+    names = {thing.name for thing in problem.objects}
+    found: dict[str, list[str]] = {name: [] for name in names}
+    for rule in problem.rules:
+        if not isinstance(rule.body, (Apart, Within)):
+            for part in rule.body.parts if is_and(rule.body) else (rule.body,):
+                said = list(dict.fromkeys(name for name in names_said(part) if name in names))
+                if len(said) == 2:
+                    found[said[0]].append(said[1])
+                    found[said[1]].append(said[0])
+    return found
+
+
+def is_and(formula: Formula) -> bool:
+    return isinstance(formula, Joined) and formula.word == "and"
+
+
+def names_said(formula: Formula) -> Iterator[str]:
+    """The names that a formula says itself, without those that quantifiers list."""
+    for part in all_parts(formula):
+        match part:
+            case FieldOf(owner, _):
+                yield owner
+            case Bare(name):
+                yield name
+
+
+def with_partners(problem: Problem, order: tuple[str, ...]) -> tuple[str, ...]:
+    """The order in which right behind each object those stand that it is tied to."""
+    tied = ties(problem)
+    found: dict[str, None] = {}
+    for name in order:
+        waiting = [name]
+        while waiting:
+            taken = waiting.pop()
+            if taken not in found:
+                found[taken] = None
+                waiting.extend(other for other in reversed(tied[taken]) if other not in found)
+    return tuple(found)
+
+
+def in_turns(problem: Problem, order: tuple[str, ...]) -> tuple[str, ...]:
+    """The order in which the objects of each list of shapes take turns."""
+    groups: dict[tuple[str, ...], list[str]] = {}
+    for name in order:
+        groups.setdefault(problem.object(name).shapes, []).append(name)
+    rounds = itertools.zip_longest(*groups.values())
+    return tuple(name for names in rounds for name in names if name is not None)
+
+
+def interleaved_orders(problem: Problem) -> list[tuple[str, tuple[str, ...]]]:
+    """Further orders: each stated one with partners behind each other, and with the shapes in turns."""
+    stated = stated_orders(problem)
+    found: dict[tuple[str, ...], str] = {}
+    for name, order in stated:
+        found.setdefault(with_partners(problem, order), f"{name}, partners behind each other")
+        found.setdefault(in_turns(problem, order), f"{name}, shapes in turns")
+    known = {order for _, order in stated}
+    return [(name, order) for order, name in found.items() if order not in known]
