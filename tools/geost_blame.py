@@ -1,6 +1,8 @@
-"""Which objects break a rule: found by asking the program whether parts of the rule hold, for single objects.
+"""Which objects break a rule: the program is asked whether parts of the rule hold for single
+objects.
 
-A part is asked under quantifiers over single objects, and all parts that are to be asked at one time go to the program together.
+A part is asked under quantifiers over single objects, and all parts that are to be asked at one
+time go to the program together.
 """
 
 from __future__ import annotations
@@ -8,6 +10,7 @@ from __future__ import annotations
 from collections.abc import Generator
 from dataclasses import dataclass, replace
 from itertools import combinations, islice
+from typing import cast
 
 from geost_program import Program
 from geost_questions import Questions
@@ -38,7 +41,7 @@ OPPOSITES = {"<": ">=", "<=": ">", "=": "!=", "!=": "=", ">=": "<", ">": "<="}
 
 @dataclass(frozen=True)
 class Blame:
-    """Objects that break a rule together, the part of it that they break, and what more is to be said."""
+    """Objects that break a rule together, the part that they break, and what more is to be said."""
 
     objects: tuple[str, ...]
     part: Formula
@@ -56,7 +59,7 @@ class Fixed:
 Prefix = tuple[Fixed, ...]
 
 
-# What is to be found: it yields formulas, is sent whether each of them holds, and returns the blames
+# It yields formulas, is sent whether each of them holds, and returns the blames
 Inquiry = Generator[list[Formula], list[bool], list[Blame]]
 Inquiries = Generator[list[Formula], list[bool], list[list[Blame]]]
 
@@ -74,8 +77,12 @@ def side_by_side(inquiries: list[Inquiry]) -> Inquiries:
                 found[number] = ended.value
         answers = {}
         if asked:
-            together = iter((yield [formula for formulas in asked.values() for formula in formulas]))
-            answers = {number: list(islice(together, len(formulas))) for number, formulas in asked.items()}
+            together = iter(
+                (yield [formula for formulas in asked.values() for formula in formulas])
+            )
+            answers = {
+                number: list(islice(together, len(formulas))) for number, formulas in asked.items()
+            }
     return [found[number] for number in range(len(inquiries))]
 
 
@@ -93,7 +100,7 @@ def carried_out(inquiries: list[Inquiry], questions: Questions) -> list[list[Bla
         try:
             answers = questions.ask(asking.send(answers))  # type: ignore[arg-type]
         except StopIteration as ended:
-            return ended.value
+            return cast(list[list[Blame]], ended.value)
 
 
 def under(prefix: Prefix, formula: Formula) -> Formula:
@@ -124,7 +131,8 @@ class Judge:
         return [] if holds else (yield from self.blames(prefix, formula))
 
     def blames(self, prefix: Prefix, formula: Formula) -> Inquiry:
-        """Why a formula that does not hold does not; nothing where it is a `forall` or joined by `and`, and holds."""
+        """Why a formula that does not hold does not; of a `forall` and of parts joined by `and`,
+        nothing where they hold."""
         match formula:
             case Joined("and", parts):
                 return self.blames_of_parts(prefix, parts)
@@ -132,7 +140,9 @@ class Judge:
                 return self.blames(prefix, then)
             case Not():
                 turned = pushed_in(formula)
-                return self.leaf(prefix, formula) if turned == formula else self.blames(prefix, turned)
+                return (
+                    self.leaf(prefix, formula) if turned == formula else self.blames(prefix, turned)
+                )
             case Quantified(boxes_of=None, kind="forall"):
                 return self.blames_of_each(prefix, formula)
             case Quantified(boxes_of=None, kind="atmost"):
@@ -149,7 +159,11 @@ class Judge:
     def blames_of_each(self, prefix: Prefix, formula: Quantified) -> Inquiry:
         names = self.elements(formula)
         answers = yield self.of_each(prefix, formula, formula.body)
-        broken = [(*prefix, Fixed(formula.variable, name)) for name, holds in zip(names, answers) if not holds]
+        broken = [
+            (*prefix, Fixed(formula.variable, name))
+            for name, holds in zip(names, answers)
+            if not holds
+        ]
         return (yield from joined([self.blames(each, formula.body) for each in broken]))
 
     def elements(self, formula: Quantified) -> list[str]:
@@ -157,7 +171,9 @@ class Judge:
 
     def of_each(self, prefix: Prefix, formula: Quantified, body: Formula) -> list[Formula]:
         """A body with each of a quantifier's objects for its variable."""
-        return [under((*prefix, Fixed(formula.variable, name)), body) for name in self.elements(formula)]
+        return [
+            under((*prefix, Fixed(formula.variable, name)), body) for name in self.elements(formula)
+        ]
 
     def too_many(self, prefix: Prefix, formula: Quantified) -> Inquiry:
         answers = yield self.of_each(prefix, formula, formula.body)
@@ -174,12 +190,14 @@ class Judge:
         return [Blame(names_of(prefix), formula, note)]
 
     def blames_of_pairs(self, pairs: list[tuple[str, str]], formula: Formula) -> Inquiry:
-        """The pairs among these for which the body of two `forall` over all objects does not hold."""
+        """The pairs among these for which the body of two `forall` does not hold."""
         assert isinstance(formula, Quantified) and isinstance(formula.body, Quantified)
         first, second, body = formula.variable, formula.body.variable, formula.body.body
         prefixes = [(Fixed(first, one), Fixed(second, other)) for one, other in pairs]
         answers = yield [under(prefix, body) for prefix in prefixes]
-        return [Blame(names_of(prefix), body) for prefix, holds in zip(prefixes, answers) if not holds]
+        return [
+            Blame(names_of(prefix), body) for prefix, holds in zip(prefixes, answers) if not holds
+        ]
 
     def leaf(self, prefix: Prefix, formula: Formula) -> Inquiry:
         bound = {fixed.variable for fixed in prefix}
@@ -203,7 +221,9 @@ def mentioned(formula: Formula) -> list[str]:
                 hidden.add(part.variable)
                 found.extend((*(part.listed or ()), part.boxes_of or ""))
             case Call():
-                found.extend(argument.name for argument in part.arguments if isinstance(argument, Bare))
+                found.extend(
+                    argument.name for argument in part.arguments if isinstance(argument, Bare)
+                )
     return [name for name in dict.fromkeys(found) if name not in hidden]
 
 
@@ -238,8 +258,12 @@ def end_of(owner: str, box: str, dimension: int, far: bool) -> Expr:
 def apart_formula(dims: int) -> Formula:
     parts: list[Formula] = []
     for dimension in range(1, dims + 1):
-        parts.append(Compare(end_of("p", "s", dimension, True), "<=", end_of("q", "t", dimension, False)))
-        parts.append(Compare(end_of("q", "t", dimension, True), "<=", end_of("p", "s", dimension, False)))
+        parts.append(
+            Compare(end_of("p", "s", dimension, True), "<=", end_of("q", "t", dimension, False))
+        )
+        parts.append(
+            Compare(end_of("q", "t", dimension, True), "<=", end_of("p", "s", dimension, False))
+        )
     body: Formula = Joined("or", (Compare(FieldOf("p", "id"), ">=", FieldOf("q", "id")), *parts))
     for variable, owner in (("t", "q"), ("s", "p")):
         body = Quantified("forall", 0, variable, None, owner, body)
@@ -281,12 +305,17 @@ def explain_broken(program: Program, problem: Problem, layout: list[Placed]) -> 
     lines = [f"the plan breaks {len(broken)} of {len(problem.rules)} rules"]
     for rule, blames in broken:
         lines.append(f"rule {rule.name}:")
-        lines.extend(line for blame in without_twins(blames) for line in blame_lines(rule, blame, problem, layout))
+        lines.extend(
+            line
+            for blame in without_twins(blames)
+            for line in blame_lines(rule, blame, problem, layout)
+        )
     return lines
 
 
 def inquiry_of(rule: Rule, problem: Problem, layout: list[Placed]) -> Inquiry:
-    """Why a rule does not hold on a layout, or nothing. Of `apart` only pairs are asked whose least boxes meet."""
+    """Why a rule does not hold on a layout, or nothing. Of `apart` only those pairs are asked whose
+    least boxes meet."""
     judge = Judge([thing.name for thing in problem.objects])
     formula = as_formula(rule.body, problem.dims)
     if isinstance(rule.body, Apart):
@@ -310,12 +339,24 @@ def without_twins(blames: list[Blame]) -> list[Blame]:
 
 
 def blame_lines(rule: Rule, blame: Blame, problem: Problem, layout: list[Placed]) -> list[str]:
-    lines = ["  " + (" and ".join(blame.objects) if blame.objects else "no single objects: the rule speaks of all of them")]
-    lines.extend("    " + where(problem, next(placed for placed in layout if placed.name == name)) for name in blame.objects)
+    lines = [
+        "  "
+        + (
+            " and ".join(blame.objects)
+            if blame.objects
+            else "no single objects: the rule speaks of all of them"
+        )
+    ]
+    lines.extend(
+        "    " + where(problem, next(placed for placed in layout if placed.name == name))
+        for name in blame.objects
+    )
     if isinstance(rule.body, Apart):
         lines.append("    share a cell")
     elif isinstance(rule.body, Within):
-        lines.append(f"    reaches out of {' '.join(f'{low}..{high}' for low, high in rule.body.ranges)}")
+        lines.append(
+            f"    reaches out of {' '.join(f'{low}..{high}' for low, high in rule.body.ranges)}"
+        )
     else:
         lines.append(f"    does not hold: {print_formula(blame.part)}")
     return lines + ([f"    {blame.note}"] if blame.note else [])
@@ -336,4 +377,5 @@ def spans_of(problem: Problem, placed: Placed) -> list[tuple[int, int]]:
 def where(problem: Problem, placed: Placed) -> str:
     """An object's line of the layout, with the least box that has its cells."""
     spans = " ".join(f"{low}..{high}" for low, high in spans_of(problem, placed))
-    return f"{placed.name} as {placed.shape} at {' '.join(map(str, placed.origin))}, with cells in {spans}"
+    origin = " ".join(map(str, placed.origin))
+    return f"{placed.name} as {placed.shape} at {origin}, with cells in {spans}"

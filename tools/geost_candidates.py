@@ -1,4 +1,5 @@
-"""Ways in which a problem may be searched: orders, sides, sequences of shapes, and narrower problems."""
+"""Ways in which a problem may be searched: orders, sides, sequences of shapes, narrower
+problems."""
 
 from __future__ import annotations
 
@@ -6,12 +7,14 @@ import itertools
 import random
 from collections.abc import Iterator
 from dataclasses import dataclass, replace
+from typing import TypeVar
 
 from geost_narrowing import all_zones, by_earlier, rules_with_support_by_any
 from geost_orders import all_sides, interleaved_orders, least_volume, stated_orders
 from geost_text import Object, Problem, print_object, print_rule
 
 FEW = 6
+Item = TypeVar("Item")
 Order = tuple[str, ...]
 Sides = tuple[str, ...]
 
@@ -32,18 +35,23 @@ class Candidate:
     only_earlier: bool = False
 
     def of(self, problem: Problem) -> Problem:
-        """The problem to be searched. Where it is narrower, its layouts are layouts of the problem."""
+        """The problem to be searched. Where it is narrower, its layouts are those of the
+        problem."""
         changed = {thing.name: thing for thing in self.things}
         objects = tuple(changed.get(thing.name, thing) for thing in problem.objects)
         made = replace(problem, objects=objects, order=self.order, sides=self.sides)
         return by_earlier(made, self.order) if self.only_earlier else made
 
     def statements(self, problem: Problem) -> list[str]:
-        """The order, the sides, and the objects and rules that are others than those of the problem."""
+        """The order, the sides, and the objects and rules that differ from those of the problem."""
         made = self.of(problem)
         found = [f"order {', '.join(self.order)} ;", f"sides {' '.join(self.sides)} ;"]
-        found += [print_object(new) for old, new in zip(problem.objects, made.objects) if old != new]
-        return found + [print_rule(new) for old, new in zip(problem.rules, made.rules) if old != new]
+        found += [
+            print_object(new) for old, new in zip(problem.objects, made.objects) if old != new
+        ]
+        return found + [
+            print_rule(new) for old, new in zip(problem.rules, made.rules) if old != new
+        ]
 
 
 def plain(problem: Problem) -> Iterator[Candidate]:
@@ -99,15 +107,20 @@ def by_extent(problem: Problem, thing: Object, dimension: int, sign: int) -> Obj
 
 
 def other_shapes(problem: Problem) -> Iterator[Candidate]:
-    for (name, order), (way, things) in itertools.product(stated_orders(problem)[:FEW], shape_sequences(problem)):
+    for (name, order), (way, things) in itertools.product(
+        stated_orders(problem)[:FEW], shape_sequences(problem)
+    ):
         yield Candidate(f"{name}, {way}", order, problem.search_sides(), things)
 
 
 def shuffled(problem: Problem, seed: int) -> Candidate:
-    """The objects from large to small, each volume taken up to twice as large or small by chance, and
-    their shapes in a sequence by chance; the same for the same seed."""
+    """The objects from large to small, each volume taken up to twice as large or small by chance,
+    and their shapes in a sequence by chance; the same for the same seed."""
     chance = random.Random(seed)
-    weights = {thing.name: least_volume(problem, thing) * 2 ** chance.uniform(-1, 1) for thing in problem.objects}
+    weights = {
+        thing.name: least_volume(problem, thing) * 2 ** chance.uniform(-1, 1)
+        for thing in problem.objects
+    }
     order = tuple(sorted(weights, key=lambda name: -weights[name]))
     sides = all_sides(problem)[seed % 2**problem.dims]
     things = tuple(
@@ -118,10 +131,10 @@ def shuffled(problem: Problem, seed: int) -> Candidate:
     return Candidate(f"shuffled {seed}", order, sides, things if seed % 2 else ())
 
 
-def in_turn(families: list[Iterator[Candidate]]) -> Iterator[Candidate]:
+def in_turn(families: list[Iterator[Item]]) -> Iterator[Item]:
     """The first of each family, then the second of each, and so on."""
     for round_of in itertools.zip_longest(*families):
-        yield from (candidate for candidate in round_of if candidate is not None)
+        yield from (item for item in round_of if item is not None)
 
 
 def candidates(problem: Problem) -> Iterator[Candidate]:

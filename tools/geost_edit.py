@@ -13,7 +13,8 @@ NAMED = ("shape", "object", "macro", "rule")
 
 @dataclass(frozen=True)
 class Statement:
-    """A statement's keyword, its name (empty for `order` and `sides`) and its bytes from `start` to `end`."""
+    """A statement: its keyword, its name (empty for `order` and `sides`), and its first byte and
+    the one behind it."""
 
     keyword: str
     name: str
@@ -22,7 +23,7 @@ class Statement:
 
 
 def statements_of(text: bytes) -> Iterator[Statement]:
-    """The statements of a problem that the program accepts, and the word `end` as one without a name."""
+    """The statements of a problem that the program accepts, and the word `end` as one of them."""
     tokens = read_tokens(text)
     at = 4
     while tokens[at].text != "end":
@@ -37,8 +38,8 @@ def statements_of(text: bytes) -> Iterator[Statement]:
 
 
 def with_statements(text: bytes, changed: list[str], reason: str) -> bytes:
-    """The text with each of these statements in place of the one of its keyword and name, which stays as
-    a comment with the reason; one that the text does not have stands before `end`."""
+    """The text with each of these statements in place of the one of its keyword and name, which
+    stays as a comment with the reason; one that the text does not have stands before `end`."""
     new = {key_of(statement): statement for statement in changed}
     pieces: list[bytes] = []
     at = 0

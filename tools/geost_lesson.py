@@ -61,13 +61,18 @@ class Lesson:
         yield from self.rules_in_the_way(reached)
         yield from self.better_way()
 
-    def searched(self, what: str, share: float, problems: dict[What, Problem]) -> dict[What, Outcome]:
-        """The outcomes of searches by a share of all seconds, without those that did not come in time."""
+    def searched(
+        self, what: str, share: float, problems: dict[What, Problem]
+    ) -> dict[What, Outcome]:
+        """The outcomes of searches within a share of all seconds, but for those that come too
+        late."""
         left = self.began + self.bounds.seconds - time.monotonic()
         until = time.monotonic() + max(0.0, min(left, share * self.bounds.seconds))
         limits = Limits(self.bounds.steps, self.bounds.seconds / RUNS_IN_A_ROW, until)
         found: dict[What, Outcome] = {}
-        for key, outcome in search_each(self.program, self.bounds.processors, limits, problems.items()):
+        for key, outcome in search_each(
+            self.program, self.bounds.processors, limits, problems.items()
+        ):
             found[key] = outcome
             self.progress.show(f"{what}: {len(found)} of {len(problems)}")
         self.progress.end()
@@ -109,15 +114,18 @@ class Lesson:
 
     def said_how_far(self, reached: Reached) -> Iterator[str]:
         names = self.names()
-        yield f"the first {reached.found} of the {len(names)} objects of the order {self.have_a_layout()}"
+        who = f"the first {reached.found} of the {len(names)} objects of the order"
+        yield f"{who} {self.have_a_layout()}"
         if reached.failed > reached.found + 1:
             yield f"for the first {reached.failed} none was found in time"
-        elif reached.outcome.verdict is Verdict.NONE:
-            yield f"with `{names[reached.found]}`, the next one, there is none at all"
+            return
+        with_next = f"with `{names[reached.found]}`, the next one,"
+        if reached.outcome.verdict is Verdict.NONE:
+            yield f"{with_next} there is none at all"
         elif reached.outcome.verdict is Verdict.TIME:
-            yield f"with `{names[reached.found]}`, the next one, none is found in {reached.outcome.seconds:.0f} s"
+            yield f"{with_next} none is found in {reached.outcome.seconds:.0f} s"
         else:
-            yield f"with `{names[reached.found]}`, the next one, none is found within them"
+            yield f"{with_next} none is found within them"
 
     def have_a_layout(self) -> str:
         return f"have a layout within {self.bounds.steps} steps"
@@ -125,7 +133,7 @@ class Lesson:
     # Which rules stand in the way
 
     def rules_in_the_way(self, reached: Reached) -> Iterator[str]:
-        """Without which single rule there is a layout: of all objects, else of the first that fail."""
+        """Without which rule there is a layout: of all objects, else of the first that fail."""
         helpful = self.helpful_rules(self.problem)
         for name in helpful:
             yield f"without the rule `{name}` all objects {self.have_a_layout()}"
@@ -133,14 +141,19 @@ class Lesson:
             return
         yield "whichever single rule is left out, no layout of all objects is found within them"
         if reached.failed < len(self.names()):
+            who = f"the first {reached.failed} objects"
             for name in self.helpful_rules(self.first(reached.failed)):
-                yield f"without the rule `{name}` the first {reached.failed} objects {self.have_a_layout()}"
+                yield f"without the rule `{name}` {who} {self.have_a_layout()}"
 
     def helpful_rules(self, problem: Problem) -> list[str]:
         """The rules without which a layout is found, one at a time."""
         shorter = {rule.name: without_rule(problem, rule.name) for rule in problem.rules}
         outcomes = self.searched("without a rule", 0.2, shorter)
-        return [name for name in shorter if name in outcomes and outcomes[name].verdict is Verdict.LAYOUT]
+        return [
+            name
+            for name in shorter
+            if name in outcomes and outcomes[name].verdict is Verdict.LAYOUT
+        ]
 
     # Which way does better, and what to try next
 
@@ -152,7 +165,7 @@ class Lesson:
         if found:
             yield from self.said_way(min(found, key=lambda way: way.is_narrower))
             return
-        yield f"in {len(outcomes)} other orders and ways no layout is found within {self.bounds.steps} steps"
+        yield f"in {len(outcomes)} other orders and ways none is found within them"
         yield f"next: tools/portfolio --seconds 60 {self.file} tries more ways, and for longer;"
         yield "docs/SPEED.md says what makes such problems easy"
 
@@ -162,7 +175,7 @@ class Lesson:
 
     def said_way(self, way: Candidate) -> Iterator[str]:
         yield f"a layout is found within them, and judged good, in another way: {way.name}"
-        yield f"next: tools/portfolio --write {self.file} writes such a way into the file; this one says"
+        yield f"next: tools/portfolio --write {self.file} writes such a way into the file:"
         statements = way.statements(self.problem)
         yield from (f"    {line}" for line in statements[:MOST_STATEMENTS])
         if len(statements) > MOST_STATEMENTS:

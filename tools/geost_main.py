@@ -12,8 +12,8 @@ CANNOT, STOPPED = 70, 130
 
 
 def status_of(name: str, main: Callable[[], int]) -> int:
-    """The status of a script's `main`. A fault of a file or of the program is said in a line; Ctrl-C
-    leaves what was printed so far, says that it was stopped, and gives 130."""
+    """The status of a script's `main`. A fault of a file or of the program is said in a line;
+    Ctrl-C leaves what was printed so far, says that it was stopped, and gives 130."""
     try:
         status = main()
         sys.stdout.flush()

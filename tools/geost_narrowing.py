@@ -1,4 +1,5 @@
-"""Narrower problems, whose layouts are layouts of the problem itself: with zones, and with support by what is placed before.
+"""Narrower problems, whose layouts are layouts of the problem itself: with zones, and with support
+by what is placed before.
 
 Rules that see only whole layouts rule out little until most objects stand. Where each class of
 objects has its own part of the room, and each object may only be borne by earlier ones, the search
@@ -9,8 +10,9 @@ from __future__ import annotations
 
 from collections.abc import Iterator
 from dataclasses import dataclass, replace
+from typing import cast
 
-from geost_orders import least_volume
+from geost_orders import least_volume, value_of
 from geost_parts import is_fixed
 from geost_text import (
     Apart,
@@ -36,14 +38,14 @@ MOST_ZONES = 6
 
 @dataclass(frozen=True)
 class Zones:
-    """Objects with narrower ranges, so that each value of an attribute has its part of one coordinate."""
+    """Objects with narrower ranges: each value of an attribute has its part of one coordinate."""
 
     name: str
     things: tuple[Object, ...]
 
 
 def all_zones(problem: Problem) -> Iterator[Zones]:
-    """Zones by each attribute that rules compare between objects, along each coordinate, both ways."""
+    """Zones by each attribute that rules compare between objects, on each coordinate, both ways."""
     for attribute in compared_attributes(problem):
         for dimension in range(problem.dims):
             for is_rising in (False, True):
@@ -60,14 +62,15 @@ def compared_attributes(problem: Problem) -> list[str]:
     for body in [*bodies, *(macro.body for macro in problem.macros)]:
         for part in all_parts(body):
             match part:
-                case Compare(FieldOf(one, name), _, FieldOf(other, same)) if one != other and name == same:
+                case Compare(
+                    FieldOf(one, name), _, FieldOf(other, same)
+                ) if one != other and name == same:
                     found.append(name)
-    values = {name: {value_of(thing, name) for thing in movable(problem)} for name in problem.attribute_names()}
+    values = {
+        name: {value_of(thing, name) for thing in movable(problem)}
+        for name in problem.attribute_names()
+    }
     return [name for name in dict.fromkeys(found) if 1 < len(values.get(name, ())) <= MOST_ZONES]
-
-
-def value_of(thing: Object, attribute: str) -> int:
-    return dict(thing.attributes).get(attribute, 0)
 
 
 def movable(problem: Problem) -> list[Object]:
@@ -75,8 +78,8 @@ def movable(problem: Problem) -> list[Object]:
 
 
 def zoned(problem: Problem, attribute: str, dimension: int, is_rising: bool) -> tuple[Object, ...]:
-    """The movable objects, each within the zone of its value, which is as wide as its objects are large;
-    none where a zone leaves an object no place."""
+    """The movable objects, each within the zone of its value, which is as wide as its objects are
+    large; none where a zone leaves an object no place."""
     things = movable(problem)
     values = sorted({value_of(thing, attribute) for thing in things}, reverse=not is_rising)
     low = min(thing.ranges[dimension][0] for thing in things)
@@ -122,7 +125,8 @@ def rules_with_support_by_any(problem: Problem) -> list[str]:
     return [
         rule.name
         for rule in problem.rules
-        if not isinstance(rule.body, (Apart, Within)) and earlier_only(rule.body, "turn", ()) != rule.body
+        if not isinstance(rule.body, (Apart, Within))
+        and earlier_only(rule.body, "turn") != rule.body
     ]
 
 
@@ -135,27 +139,33 @@ def by_earlier(problem: Problem, order: tuple[str, ...]) -> Problem:
     turns = {name: number for number, name in enumerate(order, 1)}
     turns |= {thing.name: 0 for thing in problem.objects if is_fixed(thing)}
     things = tuple(
-        replace(thing, attributes=(*thing.attributes, (turn, turns[thing.name]))) for thing in problem.objects
+        replace(thing, attributes=(*thing.attributes, (turn, turns[thing.name])))
+        for thing in problem.objects
     )
     rules = tuple(
-        rule if isinstance(rule.body, (Apart, Within)) else Rule(rule.name, earlier_only(rule.body, turn, ()))
+        rule
+        if isinstance(rule.body, (Apart, Within))
+        else Rule(rule.name, earlier_only(rule.body, turn))
         for rule in problem.rules
     )
     return replace(problem, objects=things, rules=rules)
 
 
-def earlier_only(node: Formula, turn: str, holders: tuple[str, ...]) -> Formula:
+def earlier_only(formula: Formula, turn: str) -> Formula:
     """The formula with each `exists` under a `forall` narrowed to objects of a lesser turn."""
+    return cast(Formula, narrowed_part(formula, turn, ()))
+
+
+def narrowed_part(node: Node, turn: str, holders: tuple[str, ...]) -> Node:
+    """A part of it, which stands under `forall` with these variables; not where it is negated."""
     match node:
-        case Not():
-            return node
-        case Joined("iff", _):
+        case Not() | Joined("iff", _):
             return node
         case Joined("implies", (given, then)):
-            return replace(node, parts=(given, earlier_only(then, turn, holders)))
-        case Quantified(kind="forall", variable=variable) if is_over_objects(node):
-            return replace(node, body=earlier_only(node.body, turn, (*holders, variable)))
+            return replace(node, parts=(given, cast(Formula, narrowed_part(then, turn, holders))))
         case Quantified(variable=variable) if is_support_by_any(node) and holders:
             before = Compare(FieldOf(variable, turn), "<", FieldOf(holders[-1], turn))
             return replace(node, body=Joined("and", (before, node.body)))
-    return rebuilt(node, lambda part: earlier_only(part, turn, holders) if isinstance(part, Formula) else part)
+        case Quantified(kind="forall", variable=variable) if is_over_objects(node):
+            holders = (*holders, variable)
+    return rebuilt(node, lambda part: narrowed_part(part, turn, holders))

@@ -5,6 +5,7 @@ from __future__ import annotations
 import itertools
 from collections.abc import Callable, Iterator
 from dataclasses import dataclass
+from typing import cast
 
 from geost_text import (
     Apart,
@@ -50,7 +51,9 @@ def count_of_places(thing: Object) -> int:
 def names_in_rules(problem: Problem) -> dict[str, int]:
     """How many rules and macros say each object's name themselves."""
     counts = dict.fromkeys((thing.name for thing in problem.objects), 0)
-    bodies = [rule.body for rule in problem.rules if hasattr(rule.body, "__match_args__")] + [macro.body for macro in problem.macros]
+    bodies = [rule.body for rule in problem.rules if hasattr(rule.body, "__match_args__")] + [
+        macro.body for macro in problem.macros
+    ]
     for body in bodies:
         said: set[str] = set()
         for part in all_parts(body):  # type: ignore[arg-type]
@@ -73,14 +76,17 @@ Names = dict[str, str]
 
 
 def precedences(problem: Problem) -> set[tuple[str, str]]:
-    """The pairs of objects of which rules say that the first has a lesser coordinate than the second, as far as it is seen in
-    comparisons that stand alone, joined by `and`, or in a macro that is called so."""
+    """The pairs of objects of which rules say that the first has a lesser coordinate than the
+    second, as far as it is seen in comparisons that stand alone, joined by `and`, or in a macro
+    that is called so."""
     macros = {macro.name: macro for macro in problem.macros}
     objects = {thing.name for thing in problem.objects}
     pairs: set[tuple[str, str]] = set()
     for rule in problem.rules:
         pairs |= pairs_of(rule.body, {}, macros)  # type: ignore[arg-type]
-    return {(one, other) for one, other in pairs if one in objects and other in objects and one != other}
+    return {
+        (one, other) for one, other in pairs if one in objects and other in objects and one != other
+    }
 
 
 def pairs_of(formula: Formula, known: Names, macros: dict[str, Macro]) -> set[tuple[str, str]]:
@@ -89,7 +95,10 @@ def pairs_of(formula: Formula, known: Names, macros: dict[str, Macro]) -> set[tu
         case Joined("and", parts):
             return set().union(*(pairs_of(part, known, macros) for part in parts))
         case Call("@", name, arguments) if name in macros:
-            given = [known.get(part.name, part.name) if isinstance(part, Bare) else "" for part in arguments]
+            given = [
+                known.get(part.name, part.name) if isinstance(part, Bare) else ""
+                for part in arguments
+            ]
             inside = dict(zip((parameter for parameter, _ in macros[name].parameters), given))
             return pairs_of(macros[name].body, inside, macros)  # type: ignore[arg-type]
         case Compare(left, relation, right) if relation in ("<", "<=", ">", ">="):
@@ -103,7 +112,9 @@ def pairs_of(formula: Formula, known: Names, macros: dict[str, Macro]) -> set[tu
     return set()
 
 
-def owners_of_coordinates(expr: Expr, known: Names, macros: dict[str, Macro]) -> set[tuple[str, str]]:
+def owners_of_coordinates(
+    expr: Expr, known: Names, macros: dict[str, Macro]
+) -> set[tuple[str, str]]:
     """The objects whose coordinates an expression has, each with the coordinate."""
     found: set[tuple[str, str]] = set()
     for part in all_parts(expr):
@@ -111,14 +122,19 @@ def owners_of_coordinates(expr: Expr, known: Names, macros: dict[str, Macro]) ->
             case FieldOf(owner, name) if len(name) == 2 and name[0] == "x" and name[1].isdigit():
                 found.add((known.get(owner, owner), name))
             case Call("$", name, arguments) if name in macros:
-                given = [known.get(argument.name, argument.name) if isinstance(argument, Bare) else "" for argument in arguments]
+                given = [
+                    known.get(argument.name, argument.name) if isinstance(argument, Bare) else ""
+                    for argument in arguments
+                ]
                 inside = dict(zip((parameter for parameter, _ in macros[name].parameters), given))
-                found |= owners_of_coordinates(macros[name].body, inside, macros)  # type: ignore[arg-type]
+                body = cast(Expr, macros[name].body)
+                found |= owners_of_coordinates(body, inside, macros)
     return found
 
 
 def depths(problem: Problem) -> dict[str, int]:
-    """How many objects stand before each one at least, by the precedences; chains that run in a ring are cut off."""
+    """How many objects stand before each one at least, by the precedences; chains that run in a
+    ring are cut off."""
     found = dict.fromkeys((thing.name for thing in problem.objects), 0)
     pairs = precedences(problem)
     for _ in found:
@@ -127,36 +143,54 @@ def depths(problem: Problem) -> dict[str, int]:
     return found
 
 
-def measures(problem: Problem) -> list[Measure]:
+def value_of(thing: Object, attribute: str) -> int:
+    """An object's attribute, which is 0 where it does not list it."""
+    return dict(thing.attributes).get(attribute, 0)
+
+
+def by_attribute(attribute: str, sign: int) -> Callable[[Object], int]:
+    return lambda thing: sign * value_of(thing, attribute)
+
+
+def by_range(dimension: int, sign: int) -> Callable[[Object], int]:
+    return lambda thing: sign * sum(thing.ranges[dimension])
+
+
+def measures(problem: Problem) -> Iterator[Measure]:
     """What objects are ordered by, those that help most often first."""
     named = names_in_rules(problem)
     depth = depths(problem)
-    found = [Measure("largest first", lambda thing: -least_volume(problem, thing))]
-    found.append(Measure("what comes before first", lambda thing: depth[thing.name]))
-    found.append(Measure("what comes behind first", lambda thing: -depth[thing.name]))
+    yield Measure("largest first", lambda thing: -least_volume(problem, thing))
+    yield Measure("what comes before first", lambda thing: depth[thing.name])
+    yield Measure("what comes behind first", lambda thing: -depth[thing.name])
     for attribute in problem.attribute_names():
-        found.append(Measure(f"greatest {attribute} first", lambda thing, a=attribute: -dict(thing.attributes).get(a, 0)))
-        found.append(Measure(f"least {attribute} first", lambda thing, a=attribute: dict(thing.attributes).get(a, 0)))
-    found.append(Measure("named by most rules first", lambda thing: -named[thing.name]))
-    found.append(Measure("fewest places first", count_of_places))
+        yield Measure(f"greatest {attribute} first", by_attribute(attribute, -1))
+        yield Measure(f"least {attribute} first", by_attribute(attribute, 1))
+    yield Measure("named by most rules first", lambda thing: -named[thing.name])
+    yield Measure("fewest places first", count_of_places)
     for dimension in range(problem.dims):
-        found.append(Measure(f"least x{dimension + 1} first", lambda thing, d=dimension: sum(thing.ranges[d])))
-        found.append(Measure(f"greatest x{dimension + 1} first", lambda thing, d=dimension: -sum(thing.ranges[d])))
-    found.append(Measure("longest first", lambda thing: -longest_side(problem, thing)))
-    found.append(Measure("smallest first", lambda thing: least_volume(problem, thing)))
-    return found
+        yield Measure(f"least x{dimension + 1} first", by_range(dimension, 1))
+        yield Measure(f"greatest x{dimension + 1} first", by_range(dimension, -1))
+    yield Measure("longest first", lambda thing: -longest_side(problem, thing))
+    yield Measure("smallest first", lambda thing: least_volume(problem, thing))
 
 
 def ordered(problem: Problem, measure: Measure) -> tuple[str, ...]:
-    """The objects by a measure, equal ones from the largest on, then in the sequence of the text."""
-    things = sorted(problem.objects, key=lambda thing: (measure.of(thing), -least_volume(problem, thing)))
+    """The objects by a measure, equal ones from the largest on, then as they stand in the text."""
+    things = sorted(
+        problem.objects, key=lambda thing: (measure.of(thing), -least_volume(problem, thing))
+    )
     return tuple(thing.name for thing in things)
 
 
 def stated_orders(problem: Problem) -> list[tuple[str, tuple[str, ...]]]:
     """The orders that are tried, each once, with their names."""
     file_order = tuple(thing.name for thing in problem.objects)
-    orders = [("as stated", problem.search_order()), ("file", file_order), ("reverse", file_order[::-1])]
+    orders = [
+        ("as stated", problem.search_order()),
+        ("file", file_order),
+        ("reverse", file_order[::-1]),
+    ]
     orders[2:2] = [(measure.name, ordered(problem, measure)) for measure in measures(problem)]
     found: dict[tuple[str, ...], str] = {}
     for name, order in orders:
@@ -175,12 +209,13 @@ def all_sides(problem: Problem) -> list[tuple[str, ...]]:
 
 
 def ties(problem: Problem) -> dict[str, list[str]]:
-    """The objects with which each one stands alone in a rule, or in a part of it that is joined to others by `and`."""
+    """The objects with which each one stands alone in a rule, or in a part of it that is joined to
+    others by `and`."""
     names = {thing.name for thing in problem.objects}
     found: dict[str, list[str]] = {name: [] for name in names}
     for rule in problem.rules:
         if not isinstance(rule.body, (Apart, Within)):
-            for part in rule.body.parts if is_and(rule.body) else (rule.body,):
+            for part in conjuncts(rule.body):
                 said = list(dict.fromkeys(name for name in names_said(part) if name in names))
                 if len(said) == 2:
                     found[said[0]].append(said[1])
@@ -188,8 +223,9 @@ def ties(problem: Problem) -> dict[str, list[str]]:
     return found
 
 
-def is_and(formula: Formula) -> bool:
-    return isinstance(formula, Joined) and formula.word == "and"
+def conjuncts(formula: Formula) -> tuple[Formula, ...]:
+    """The parts of a formula that are joined by `and`, else itself."""
+    return formula.parts if isinstance(formula, Joined) and formula.word == "and" else (formula,)
 
 
 def names_said(formula: Formula) -> Iterator[str]:
@@ -226,7 +262,7 @@ def in_turns(problem: Problem, order: tuple[str, ...]) -> tuple[str, ...]:
 
 
 def interleaved_orders(problem: Problem) -> list[tuple[str, tuple[str, ...]]]:
-    """Further orders: each stated one with partners behind each other, and with the shapes in turns."""
+    """Each stated order with partners behind each other, and with the shapes in turns."""
     stated = stated_orders(problem)
     found: dict[tuple[str, ...], str] = {}
     for name, order in stated:

@@ -5,6 +5,7 @@ from __future__ import annotations
 from collections.abc import Collection
 from dataclasses import replace
 
+from geost_orders import conjuncts
 from geost_text import (
     Apart,
     Bare,
@@ -21,7 +22,7 @@ from geost_text import (
     Within,
     parts_of,
 )
-from geost_trees import Node, is_over_objects, mapped
+from geost_trees import Node, changed, is_over_objects, mapped
 
 
 def is_fixed(thing: Object) -> bool:
@@ -61,7 +62,7 @@ def with_objects(problem: Problem, kept: Collection[str]) -> Problem:
 
 
 def with_attributes(things: tuple[Object, ...], names: list[str]) -> tuple[Object, ...]:
-    """The objects, of which the first also lists, with 0, each attribute that none of them lists."""
+    """The objects, the first with each attribute as 0 that none of them lists."""
     listed = {name for thing in things for name, _ in thing.attributes}
     more = tuple((name, 0) for name in names if name not in listed)
     if not things:
@@ -74,8 +75,7 @@ def kept_body(
 ) -> Apart | Within | Formula:
     if isinstance(body, (Apart, Within)):
         return body
-    parts = body.parts if isinstance(body, Joined) and body.word == "and" else (body,)
-    shorter = [mapped(part, lambda node: without(node, lost)) for part in parts]
+    shorter = [changed(part, lambda node: without(node, lost)) for part in conjuncts(body)]
     kept = tuple(part for part in shorter if not names_lost(part, set(), lost, calls))
     if len(kept) < 2:
         return kept[0] if kept else Truth(True)
@@ -83,7 +83,7 @@ def kept_body(
 
 
 def without(node: Node, lost: set[str]) -> Node:
-    """A `forall` or `atmost` over listed objects without those that are lost; every other part as it is."""
+    """A `forall` or `atmost` over listed objects without the lost ones; other parts as they are."""
     if not (isinstance(node, Quantified) and is_over_objects(node) and node.listed is not None):
         return node
     if node.kind in ("exists", "atleast") or not lost.intersection(node.listed):
@@ -93,7 +93,8 @@ def without(node: Node, lost: set[str]) -> Node:
 
 
 def names_lost(node: Node, hidden: set[str], lost: set[str], calls: set[str]) -> bool:
-    """Whether a lost object, or a macro that is called no more, is named outside variables of that name."""
+    """Whether a lost object is named, where no variable has its name, or a macro of these
+    called."""
     match node:
         case FieldOf(owner, _) if owner in lost - hidden:
             return True
@@ -107,5 +108,3 @@ def names_lost(node: Node, hidden: set[str], lost: set[str], calls: set[str]) ->
             return True
     inside = hidden | {node.variable} if isinstance(node, Quantified) else hidden
     return any(names_lost(part, inside, lost, calls) for part in parts_of(node))
-
-

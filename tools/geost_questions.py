@@ -8,7 +8,7 @@ is 1 where the formula holds, and 0 where it does not.
 
 from __future__ import annotations
 
-from collections.abc import Iterator
+from collections.abc import Iterator, Sequence
 from dataclasses import dataclass, replace
 
 from geost_program import ANSWERED, NO, Answer, Program, layout_of
@@ -25,7 +25,7 @@ from geost_text import (
     print_layout,
     print_problem,
 )
-from geost_trees import Change, Node, Weights, mapped, over_listed, with_formulas
+from geost_trees import Change, Node, Weights, changed, over_listed, with_formulas
 
 MOST_OBJECTS = 200
 MOST_RULES = 100
@@ -86,7 +86,8 @@ class Questions:
         """Whether each of these holds: by one run, or by halves where that is too large."""
         if len(self.names) == MOST_OBJECTS:
             return [self.judged(formula) for formula in batch]
-        text = print_problem(asking(self.told, [mapped(formula, self.change) for formula in batch]))
+        formulas = [changed(formula, self.change) for formula in batch]
+        text = print_problem(asking(self.told, formulas))
         answer = self.program.ask(["first", str(MOST_STEPS)], text.encode())
         if answer.status == ANSWERED:
             values = [at for placed in layout_of(answer)[len(self.names) :] for at in placed.origin]
@@ -98,7 +99,7 @@ class Questions:
 
 
 def asking(fixed: Problem, formulas: list[Formula]) -> Problem:
-    """The problem whose first layout answers the formulas, in the coordinates of further objects."""
+    """The problem whose first layout answers the formulas, in coordinates of further objects."""
     dims = fixed.dims
     stem = unused("asked", {thing.name for thing in fixed.objects})
     names = [f"{stem}_{number // dims}" for number in range(len(formulas))]
@@ -116,9 +117,9 @@ def asking(fixed: Problem, formulas: list[Formula]) -> Problem:
 
 
 def told_places(problem: Problem) -> tuple[Problem, Change]:
-    """A problem whose objects have one place each, with their coordinates as attributes too, and the change by which
-    formulas read these: what is known from the text alone costs the program least. Quantifiers list the objects, so
-    that others may stand beside them."""
+    """A problem whose objects have one place each, with their coordinates as attributes too, and
+    the change by which formulas read these: what is known from the text alone costs the program
+    least. Quantifiers list the objects, so that others may stand beside them."""
     names = tuple(thing.name for thing in problem.objects)
     stem = unused("at", set(problem.attribute_names()))
     only_old = over_listed(names)
@@ -130,13 +131,19 @@ def told_places(problem: Problem) -> tuple[Problem, Change]:
 
     coordinates = [f"x{dimension}" for dimension in range(1, problem.dims + 1)]
     things = tuple(
-        replace(thing, attributes=(*thing.attributes, *((stem + name, low) for name, (low, _) in zip(coordinates, thing.ranges))))
+        replace(
+            thing,
+            attributes=(
+                *thing.attributes,
+                *((stem + name, low) for name, (low, _) in zip(coordinates, thing.ranges)),
+            ),
+        )
         for thing in problem.objects
     )
     return with_formulas(replace(problem, objects=things), change), change
 
 
-def shared_out(formulas: list[Formula]) -> Iterator[Rule]:
+def shared_out(formulas: Sequence[Formula]) -> Iterator[Rule]:
     """As many rules as there may be, each with about as many of the formulas."""
     each = -(-len(formulas) // MOST_RULES)
     for number in range(0, len(formulas), each):

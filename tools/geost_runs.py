@@ -36,7 +36,8 @@ class Verdict(Enum):
 
 @dataclass(frozen=True)
 class Outcome:
-    """What a search found: its verdict, and what the program printed (a layout without the `more` behind it)."""
+    """What a search found: its verdict, what the program printed (but for the `more` behind a
+    layout), and the seconds that it took."""
 
     verdict: Verdict
     text: str = ""
@@ -48,8 +49,8 @@ class Outcome:
 
 
 def judged_layout(program: Program, problem: Problem, outcome: Outcome) -> str | None:
-    """The layout that was found, with the token that it has in this problem; None where none was found,
-    or the program does not judge it good."""
+    """The layout that was found, with the token that it has in this problem; None where none was
+    found, or the program does not judge it good."""
     if outcome.verdict is not Verdict.LAYOUT:
         return None
     layout = read_layout(outcome.text.encode())
@@ -59,7 +60,9 @@ def judged_layout(program: Program, problem: Problem, outcome: Outcome) -> str |
 
 def token_of(problem: Problem, layout: list[Placed]) -> str:
     """The layout in one word: of each object the place of its shape in its list, and its origin."""
-    places = [thing.shapes.index(placed.shape) + 1 for thing, placed in zip(problem.objects, layout)]
+    places = [
+        thing.shapes.index(placed.shape) + 1 for thing, placed in zip(problem.objects, layout)
+    ]
     groups = [[place, *placed.origin] for place, placed in zip(places, layout)]
     return "/".join(",".join(map(str, group)) for group in groups) or "-"
 
@@ -106,7 +109,7 @@ class Run(Generic[What]):
 
 
 def seconds_taken(process: int, began: float) -> float:
-    """The processor seconds of a process where the machine tells them, else the seconds since it began."""
+    """The processor seconds of a process where the machine tells them, else those on the clock."""
     try:
         fields = Path(f"/proc/{process}/stat").read_text().rpartition(")")[2].split()
         return (int(fields[11]) + int(fields[12])) / os.sysconf("SC_CLK_TCK")
@@ -170,16 +173,16 @@ class Limits:
 def search_each(
     program: Program, processors: int, limits: Limits, problems: Iterable[tuple[What, Problem]]
 ) -> Iterator[tuple[What, Outcome]]:
-    """The outcome of a search for each problem, as they come; those that do not end in time are left out."""
+    """The outcome of a search for each problem, as they come, until the time is over."""
     waiting = iter(problems)
     is_empty = False
     with Runs[What](program, processors) as runs:
         while limits.left() > 0 and not (is_empty and not runs.going):
             while not is_empty and runs.has_room():
-                what, problem = next(waiting, (None, None))
-                is_empty = problem is None
-                if problem is not None:
-                    runs.start(what, problem, limits.steps, limits.seconds)  # type: ignore[arg-type]
+                following = next(waiting, None)
+                is_empty = following is None
+                if following is not None:
+                    runs.start(*following, limits.steps, limits.seconds)
             yield from runs.ended()
             time.sleep(PAUSE)
 

@@ -1,5 +1,5 @@
-"""How a problem is searched again and again: each strategy asks for a search, is sent what came of it,
-and asks for the next one."""
+"""How a problem is searched again and again: each strategy asks for a search, is sent what came of
+it, and asks for the next one."""
 
 from __future__ import annotations
 
@@ -32,8 +32,8 @@ class Effort:
 
 @dataclass(frozen=True)
 class Search:
-    """A search for a layout. Where it `is_stated`, its problem is that of the way; else it has a part of
-    the objects, or some of them stay where an earlier search has placed them."""
+    """A search for a layout. Where it `is_stated`, its problem is that of the way; else it has a
+    part of the objects, or some of them stay where an earlier search has placed them."""
 
     way: Candidate
     problem: Problem
@@ -67,15 +67,17 @@ def movable(problem: Problem) -> list[str]:
 
 def only(problem: Problem, names: set[str]) -> Problem:
     """The problem with these of its movable objects."""
-    return with_objects(problem, names | {thing.name for thing in problem.objects if is_fixed(thing)})
+    return with_objects(
+        problem, names | {thing.name for thing in problem.objects if is_fixed(thing)}
+    )
 
 
 # Moving the object that fails forward
 
 
 def learning(problem: Problem, way: Candidate, effort: Effort) -> Strategy:
-    """The whole problem; then the first object of the order with which no layout is found stands earlier,
-    and so on."""
+    """The whole problem; then again with the object earlier in the order that is the first with
+    which no layout is found, and so on."""
     while True:
         made = way.of(problem)
         outcome = yield Search(way, made, effort, True)
@@ -117,7 +119,7 @@ def moved_forward(way: Candidate, names: list[str], failing: int) -> Candidate:
 
 @dataclass
 class Repair:
-    """A layout of some objects, which grows: some of its objects are loose while others are added."""
+    """A layout of some objects, which grows: some of them are loose while others are added."""
 
     way: Candidate
     made: Problem
@@ -134,7 +136,8 @@ class Repair:
         return added, set(self.neighbours(min(self.loose, len(self.placed))))
 
     def neighbours(self, count: int) -> list[str]:
-        """So many placed objects: half of the times by chance, else those nearest to one of them."""
+        """So many placed objects: by chance half of the times, else those nearest to one of
+        them."""
         names = list(self.placed)
         self.chance.shuffle(names)
         if self.chance.random() < 0.5 or not names:
@@ -147,7 +150,11 @@ class Repair:
         part = only(self.made, set(self.placed) | set(added))
         kept = {name: placed for name, placed in self.placed.items() if name not in loose}
         things = tuple(
-            replace(thing, shapes=(kept[thing.name].shape,), ranges=tuple((at, at) for at in kept[thing.name].origin))
+            replace(
+                thing,
+                shapes=(kept[thing.name].shape,),
+                ranges=tuple((at, at) for at in kept[thing.name].origin),
+            )
             if thing.name in kept
             else thing
             for thing in part.objects

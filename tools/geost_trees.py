@@ -4,6 +4,7 @@ from __future__ import annotations
 
 from collections.abc import Callable, Iterable
 from dataclasses import dataclass, replace
+from typing import cast
 
 from geost_text import (
     Apart,
@@ -45,7 +46,8 @@ def rebuilt(node: Node, change: Change) -> Node:
         case Call():
             return replace(node, arguments=tuple(change(part) for part in node.arguments))
         case Chain(first, steps):
-            return Chain(change(first), tuple((mark, change(part)) for mark, part in steps))
+            later = tuple((mark, cast(Expr, change(part))) for mark, part in steps)
+            return Chain(cast(Expr, change(first)), later)
     return node
 
 
@@ -54,10 +56,17 @@ def mapped(node: Node, change: Change) -> Node:
     return change(rebuilt(node, lambda part: mapped(part, change)))
 
 
+def changed(formula: Formula, change: Change) -> Formula:
+    """The formula with `change`, which gives formulas for formulas, done to each of its parts."""
+    return cast(Formula, mapped(formula, change))
+
+
 def with_formulas(problem: Problem, change: Change) -> Problem:
     """The problem with `change` done to each part of its rules and macros."""
     rules = tuple(
-        rule if isinstance(rule.body, (Apart, Within)) else Rule(rule.name, mapped(rule.body, change))
+        rule
+        if isinstance(rule.body, (Apart, Within))
+        else Rule(rule.name, changed(rule.body, change))
         for rule in problem.rules
     )
     macros = tuple(replace(macro, body=mapped(macro.body, change)) for macro in problem.macros)
@@ -70,7 +79,8 @@ def is_over_objects(node: Node) -> bool:
 
 
 def over_listed(names: tuple[str, ...]) -> Change:
-    """The change by which a quantifier over all objects lists them, so that others may stand beside them."""
+    """The change by which a quantifier over all objects lists these, so that there may be
+    others."""
 
     def change(node: Node) -> Node:
         if isinstance(node, Quantified) and is_over_objects(node) and node.listed is None:
