@@ -92,9 +92,9 @@ def check_orders() -> None:
     """The orders of a small problem, by hand: `b` is the largest, `c` has the least due date,
     stands in two rules, and comes before `b`."""
     text = (
-        b"geost 1 dims 1 shape s box 0 size 1 ; shape l box 0 size 3 ; object a as s at 0..9 with
-        due = 2 ; object b as l at 0..9 with due = 5 ; " b"object c as s at 0..9 with due = 1 ; rule
-        r : b.x1 > c.x1 ; rule q : c.x1 > 0 ; end"
+        b"geost 1 dims 1 shape s box 0 size 1 ; shape l box 0 size 3 ; "
+        b"object a as s at 0..9 with due = 2 ; object b as l at 0..9 with due = 5 ; "
+        b"object c as s at 0..9 with due = 1 ; rule r : b.x1 > c.x1 ; rule q : c.x1 > 0 ; end"
     )
     orders = {name: "".join(order) for name, order in stated_orders(read_problem(text))}
     wanted = {
@@ -200,9 +200,10 @@ def check_repair() -> None:
 def check_edit() -> None:
     """Statements are exchanged, what stood there stays as a comment, and a new one stands before
     `end`."""
-    text = b"geost 1 dims 1 # two\nshape s box 0 size 2 ;\nobject a as s\n  at 0..9 ; # a\nobject b as s at 0..9 ;\nend\n"
-    wanted = (
-        b"geost 1 dims 1 # two\nshape s box 0 size 2 ;\n# tried, was: object a as s\n# tried, was:   at 0..9 ;\n"
+    head = b"geost 1 dims 1 # two\nshape s box 0 size 2 ;\n"
+    text = head + b"object a as s\n  at 0..9 ; # a\nobject b as s at 0..9 ;\nend\n"
+    wanted = head + (
+        b"# tried, was: object a as s\n# tried, was:   at 0..9 ;\n"
         b"object a as s at 0..4 ; # a\nobject b as s at 0..9 ;\n# tried\norder b, a ;\nend\n"
     )
     given = with_statements(text, ["object a as s at 0..4 ;", "order b, a ;"], "tried")
