@@ -6,6 +6,7 @@ They are made by `all 1 N`, which keeps no derivation, so that a long one takes 
 from __future__ import annotations
 
 import os
+import shutil
 import signal
 import subprocess
 import sys
@@ -21,6 +22,7 @@ from typing import IO, Generic, TypeVar
 from geost_program import ANSWERED, BUDGET, Answer, Program
 from geost_text import Placed, Problem, print_layout, print_problem, read_layout
 
+PROPOSE = str(Path(__file__).resolve().parent / "propose")
 PAUSE = 0.004
 LINE = 79
 What = TypeVar("What")
@@ -76,6 +78,10 @@ def outcome_of(answer: Answer, seconds: float) -> Outcome:
     if answer.status == ANSWERED and answer.text.startswith("layout\n"):
         return Outcome(Verdict.LAYOUT, answer.text.removesuffix("more\n"), seconds)
     return Outcome(Verdict.OTHER, answer.text, seconds)
+
+
+def has_z3() -> bool:
+    return shutil.which("z3") is not None
 
 
 @dataclass
@@ -141,11 +147,19 @@ class Runs(Generic[What]):
         return len(self.going) < self.processors
 
     def start(self, what: What, problem: Problem, steps: int, seconds: float) -> None:
+        """Starts a search of the program."""
+        self.start_words([self.program.path, "all", "1", str(steps)], what, problem, seconds)
+
+    def start_proposal(self, what: What, problem: Problem, seconds: float) -> None:
+        """Starts z3, by tools/propose."""
+        words = [sys.executable, PROPOSE, "--program", self.program.path, "--seconds", str(seconds)]
+        self.start_words(words, what, problem, seconds)
+
+    def start_words(self, words: list[str], what: What, problem: Problem, seconds: float) -> None:
         text = tempfile.TemporaryFile()
         text.write(print_problem(problem).encode())
         text.seek(0)
         output = tempfile.TemporaryFile()
-        words = [self.program.path, "all", "1", str(steps)]
         process = subprocess.Popen(words, stdin=text, stdout=output, start_new_session=True)
         self.going.append(Run(what, process, output, seconds))
 
