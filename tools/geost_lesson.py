@@ -15,6 +15,7 @@ from typing import TypeVar
 from geost_candidates import Candidate, candidates
 from geost_orders import ties, value_of
 from geost_parts import is_fixed, with_objects, without_rule
+from geost_portfolio import Options, Portfolio
 from geost_program import Program
 from geost_runs import Limits, Outcome, Progress, Task, Verdict, has_z3, judged_layout, search_each
 from geost_text import Problem
@@ -66,8 +67,7 @@ class Lesson:
 
     def searched(self, what: str, share: float, tasks: list[Task[What]]) -> dict[What, Outcome]:
         """The outcomes of tasks within a share of all seconds, without those that come too late."""
-        left = self.began + self.bounds.seconds - time.monotonic()
-        until = time.monotonic() + max(0.0, min(left, share * self.bounds.seconds))
+        until = time.monotonic() + min(self.left(), share * self.bounds.seconds)
         limits = Limits(self.bounds.steps, self.bounds.seconds / RUNS_IN_A_ROW, until)
         found: dict[What, Outcome] = {}
         for key, outcome in search_each(self.program, self.bounds.processors, limits, tasks):
@@ -155,10 +155,7 @@ class Lesson:
         if helpful:
             return
         yield "whichever single rule is left out, no layout of all objects is found within them"
-        by_z3 = self.helpful_rules_by_z3()
-        for name in by_z3:
-            yield f"without the rule `{name}` all objects have one that z3 proposes, judged good"
-        if reached.failed < len(self.names()) and not by_z3:
+        if reached.failed < len(self.names()):
             who = f"the first {reached.failed} objects"
             for name in self.helpful_rules(self.first(reached.failed)):
                 yield f"without the rule `{name}` {who} {self.have_a_layout()}"
@@ -166,19 +163,9 @@ class Lesson:
     def helpful_rules(self, problem: Problem) -> list[str]:
         """The rules without which a layout is found, one at a time."""
         tasks = [Task(rule.name, without_rule(problem, rule.name)) for rule in problem.rules]
-        outcomes = self.searched("without a rule", 0.2, tasks)
+        outcomes = self.searched("without a rule", 0.15, tasks)
         found = [name for name in outcomes if outcomes[name].verdict is Verdict.LAYOUT]
         return [rule.name for rule in problem.rules if rule.name in found]
-
-    def helpful_rules_by_z3(self) -> list[str]:
-        """The same by proposals of z3 for all objects, where it is installed."""
-        if not has_z3():
-            return []
-        rules = self.problem.rules
-        tasks = [Task(rule.name, without_rule(self.problem, rule.name), True) for rule in rules]
-        outcomes = self.searched("without a rule, by z3", 0.25, tasks)
-        found = [name for name in outcomes if outcomes[name].verdict is Verdict.LAYOUT]
-        return [rule.name for rule in rules if rule.name in found]
 
     # Which way does better, and what to try next
 
@@ -186,14 +173,40 @@ class Lesson:
         """The first of other orders, sides and narrower problems in which a layout is found."""
         ways = list(itertools.islice(candidates(self.problem), 1, MOST_WAYS))
         tasks = [Task(way, way.of(self.problem)) for way in ways]
-        outcomes = self.searched("other ways", 0.35, tasks)
+        outcomes = self.searched("other ways", 0.15, tasks)
         found = [way for way in ways if way in outcomes and self.has_layout(outcomes[way])]
         if found:
             yield from self.said_way(min(found, key=lambda way: way.is_narrower))
             return
         yield f"in {len(outcomes)} other orders and ways none is found within them"
+        yield from self.longer()
+
+    def longer(self) -> Iterator[str]:
+        """What the ways of tools/portfolio find of the whole problem, and then without each
+        rule."""
+        if self.layout_of(self.problem, self.left() / 3):
+            yield "tools/portfolio finds a layout, judged good, by other steps and ways;"
+            yield f"next: tools/portfolio --write {self.file}"
+            return
+        for name in self.rules_by_portfolio():
+            yield f"without the rule `{name}` all objects have a layout, found by other ways"
         yield f"next: tools/portfolio --seconds 60 {self.file} tries more ways, and for longer;"
         yield "docs/SPEED.md says what makes such problems easy"
+
+    def rules_by_portfolio(self) -> Iterator[str]:
+        for number, rule in enumerate(self.problem.rules):
+            share = self.left() / (len(self.problem.rules) - number)
+            if self.layout_of(without_rule(self.problem, rule.name), share):
+                yield rule.name
+
+    def layout_of(self, problem: Problem, seconds: float) -> bool:
+        """Whether the ways of tools/portfolio find a layout of a problem in some seconds."""
+        options = Options(seconds, self.bounds.processors, with_z3=has_z3())
+        found = Portfolio(self.program, problem, options).run()
+        return found is not None and found.layout is not None
+
+    def left(self) -> float:
+        return max(0.0, self.began + self.bounds.seconds - time.monotonic())
 
     def has_layout(self, outcome: Outcome) -> bool:
         """Whether a layout was found that is one of the problem itself."""
