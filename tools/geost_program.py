@@ -6,11 +6,13 @@ import argparse
 import os
 import subprocess
 from dataclasses import dataclass
+from functools import cached_property
 from pathlib import Path
 
 from geost_text import Placed, Problem, end_of_first_text, read_layout, read_problem
 
 TOP = Path(__file__).resolve().parent.parent
+SCRIPT = TOP / "geost"
 
 ANSWERED, NO, REFUSED, BUDGET = 0, 1, 2, 3
 OUT_OF_TIME = 124
@@ -37,7 +39,13 @@ class Refused(Exception):
 
 @dataclass(frozen=True)
 class Program:
-    path: str
+    """The program by its path, or the script `geost`, which is asked once for what it runs."""
+
+    named: str
+
+    @cached_property
+    def path(self) -> str:
+        return program_of_script() if Path(self.named) == SCRIPT else self.named
 
     def start(self, words: list[str]) -> subprocess.Popen[bytes]:
         return subprocess.Popen([self.path, *words], stdin=subprocess.PIPE, stdout=subprocess.PIPE)
@@ -63,6 +71,15 @@ class Program:
         return self.ask(["judge"], (problem + layout).encode())
 
 
+def program_of_script() -> str:
+    """The program that the script `geost` runs. Where it is not proved, the script says so once, and
+    builds it first where that has to be. RuntimeError where there is none."""
+    done = subprocess.run([SCRIPT, "--program"], stdout=subprocess.PIPE)
+    if done.returncode != 0:
+        raise RuntimeError("there is no program to ask")
+    return done.stdout.decode().strip()
+
+
 def layout_of(answer: Answer) -> list[Placed]:
     return read_layout(answer.text.encode())
 
@@ -78,6 +95,6 @@ def first_text(text: bytes) -> bytes:
 def add_program_option(parser: argparse.ArgumentParser) -> None:
     parser.add_argument(
         "--program",
-        default=os.environ.get("GEOST_PROGRAM", str(TOP / "geost")),
+        default=os.environ.get("GEOST_PROGRAM", str(SCRIPT)),
         help="the program to run (default: the variable GEOST_PROGRAM, else ./geost of this repository)",
     )

@@ -3,6 +3,7 @@
 from __future__ import annotations
 
 import difflib
+import re
 from dataclasses import dataclass
 from functools import cached_property
 
@@ -42,12 +43,15 @@ SPOKEN_BYTES = {
 }
 
 
-# The tables of docs/FORMAT.md
+# The lists of docs/FORMAT.md
+
+PHASE = re.compile(r"- \*\*(?P<phase>\w+)\*\*$")
+ITEM = re.compile(r" *- (?P<words>`\w+`(?:, `\w+`)*): (?P<where>.*) \*Remedy:\* (?P<advice>.*)$")
 
 
 @dataclass(frozen=True)
 class Row:
-    """A line of a table: the phase, the words, where such a fault is, and what to do."""
+    """An item of a list: the phase, the words, where such a fault is, and what to do."""
 
     phase: str
     words: tuple[str, ...]
@@ -56,27 +60,26 @@ class Row:
 
 
 def read_rows(document: str) -> tuple[list[Row], list[Row]]:
-    """The rows of the two tables of refusals: those of a problem and those of a layout."""
+    """The items of two lists of refusals: those of a problem and those of a layout."""
     section = document[document.index("## When a text is refused") :]
-    problem: list[Row] = []
-    layout: list[Row] = []
-    phase = ""
-    for line in section.splitlines():
-        cells = [cell.strip() for cell in line.strip().strip("|").split(" | ")]
-        if not line.startswith("| ") or "Word" in cells:
-            continue
-        if line.startswith("| |"):
-            cells = ["", *[cell for cell in cells if cell]][-4:]
-        if len(cells) == 4:
-            phase = cells[0].lstrip("| ").strip() or phase
-            problem.append(Row(phase, words_in(cells[1]), cells[2], cells[3]))
-        elif len(cells) == 3:
-            layout.append(Row("layout", words_in(cells[0]), cells[1], cells[2]))
-    return problem, layout
+    problem, layout, *_ = section.partition("A derivation that")[0].split("A layout that `judge`")
+    return rows_of(problem, ""), rows_of(layout, "layout")
+
+
+def rows_of(section: str, phase: str) -> list[Row]:
+    """The items of a section, each with the phase that stands above it, at first this one."""
+    found: list[Row] = []
+    for line in re.sub(r"\n +(?! |- )", " ", section).splitlines():
+        if heading := PHASE.match(line):
+            phase = heading["phase"]
+        elif item := ITEM.match(line):
+            where = item["where"].removesuffix(".")
+            found.append(Row(phase, words_in(item["words"]), where, item["advice"]))
+    return found
 
 
 def words_in(cell: str) -> tuple[str, ...]:
-    return tuple(part.strip(" `|") for part in cell.split(","))
+    return tuple(part.strip(" `") for part in cell.split(","))
 
 
 def format_rows() -> tuple[list[Row], list[Row]]:

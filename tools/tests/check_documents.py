@@ -20,6 +20,7 @@ from harness import TOP, Case, Cases, Failed, Setting, Skipped, first_of, run_to
 DOCUMENTS = ["TUTORIAL.md", "COOKBOOK.md", "SPEED.md"]
 FENCE = re.compile(r"^```(.*)\n((?:.*\n)*?)```$", re.MULTILINE)
 MOST_PLACES = 20_000
+MOST_COLUMNS = 100
 
 
 @dataclass(frozen=True)
@@ -168,6 +169,17 @@ def check_links(document: Path) -> None:
     want(missing, [], "files that are named and not there")
 
 
+def check_columns(document: Path) -> None:
+    """No line of a document is wider than MOST_COLUMNS characters."""
+    lines = enumerate(document.read_text(encoding="utf-8").splitlines(), 1)
+    wide = [f"line {number}: {len(line)}" for number, line in lines if len(line) > MOST_COLUMNS]
+    want(wide, [], f"lines of more than {MOST_COLUMNS} columns")
+
+
+def all_documents() -> list[Path]:
+    return sorted([*TOP.glob("*.md"), *TOP.glob("docs/*.md"), *TOP.glob("*/README.md")])
+
+
 def cases(setting: Setting, folder: Path) -> Cases:
     number = 0
     for name in DOCUMENTS:
@@ -181,8 +193,10 @@ def cases(setting: Setting, folder: Path) -> Cases:
     yield Case("document FORMAT.md: its statements", lambda: check_format(setting))
     for row in rows_of_steps():
         yield Case(f"document SPEED.md: {row.problem}, {row.order}", lambda row=row: check_steps(setting, row))
-    for path in [TOP / "README.md", *sorted((TOP / "docs").glob("*.md")), TOP / "examples" / "README.md"]:
-        yield Case(f"document {path.name}: files that it names", lambda path=path: check_links(path))
+    for path in all_documents():
+        name = path.relative_to(TOP)
+        yield Case(f"document {name}: files that it names", lambda path=path: check_links(path))
+        yield Case(f"document {name}: columns", lambda path=path: check_columns(path))
 
 
 def missing() -> None:

@@ -1,6 +1,6 @@
-// What the program asks of the system, over the memory of a WebAssembly module and five calls of its
-// host. Nothing here is proved: it stands where the C library and the system stand under the program
-// of the command line.
+// What the program asks of the system, over the memory of a WebAssembly module and five calls of
+// its host. Nothing here is proved: it stands where the C library and the system stand under the
+// program of the command line.
 
 typedef unsigned char u8;
 typedef unsigned int u32;
@@ -41,8 +41,8 @@ typedef struct Block {
 static Block *freed[256];
 static u64 top, end;
 
-// Blocks are as large as one of these: 16, 32 .. 1024, and above four sizes between each power of two
-// and the next.
+// Blocks are as large as one of these: 16, 32 .. 1024, and above four sizes between each power of
+// two and the next.
 static u64 class_of(u64 length, u64 *room) {
     if (length <= 1024) {
         u64 count = length ? (length + 15) / 16 : 1;

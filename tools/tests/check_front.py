@@ -1,0 +1,315 @@
+"""The front door: the script `geost`, what README and the files beside it say, and the layers."""
+
+from __future__ import annotations
+
+import os
+import re
+import shutil
+import subprocess
+import time
+from collections.abc import Iterator
+from dataclasses import dataclass
+from pathlib import Path
+
+from harness import TOP, Case, Cases, Failed, Setting, want, want_in
+
+MOST_README_LINES = 80
+LAWS, TESTS = "laws", "tests and measurement"
+CHANGING = "crates/geo_base/src/lib.rt"
+
+# Stands for the kit's `rt`: builds a program that answers as geost_cli does to an empty word, and
+# runs it until it is told to stop. Each build is a line of the file `builds`.
+BUILDER = """#!/usr/bin/env bash
+set -eu
+echo "$*" >>"{builds}"
+{fault}
+mkdir "$TMPDIR/native"
+printf '%s\\n' '#!/usr/bin/env bash' '[ -n "$1" ] || {{ echo bad words; exit 4; }}' \
+  'echo "asked $*"; exit 3' >"$TMPDIR/native/program"
+chmod +x "$TMPDIR/native/program"
+exec sleep 60
+"""
+
+
+@dataclass(frozen=True)
+class Said:
+    """What a call printed, what it said on standard error, and its status."""
+
+    printed: str
+    told: str
+    status: int
+
+
+@dataclass(frozen=True)
+class Checkout:
+    """A copy of what the script needs, beside a builder that stands for the kit."""
+
+    top: Path
+
+    @property
+    def builds(self) -> Path:
+        return self.top.parent / "builds"
+
+    def call(self, *words: str) -> Said:
+        tools = str(self.top.parent)
+        surroundings = {**os.environ, "PATH": f"{tools}{os.pathsep}{os.environ['PATH']}"}
+        done = subprocess.run(
+            [self.top / "geost", *words],
+            stdin=subprocess.DEVNULL,
+            capture_output=True,
+            text=True,
+            env=surroundings,
+        )
+        return Said(done.stdout, done.stderr, done.returncode)
+
+    def built(self) -> int:
+        """How often a program was built."""
+        return len(self.builds.read_text().splitlines()) if self.builds.exists() else 0
+
+
+def copy_checkout(folder: Path, fault: str = "") -> Checkout:
+    """The script with the code of all crates, and a builder that does `fault` first."""
+    top = folder / "checkout"
+    top.mkdir(parents=True)
+    for name in ("geost", "crates.txt", "VERSION"):
+        shutil.copy(TOP / name, top / name)
+    for crate in crates_by_layer_of((TOP / "crates.txt").read_text()):
+        shutil.copytree(TOP / "crates" / crate / "src", top / "crates" / crate / "src")
+    shutil.copytree(TOP / "examples" / "large", top / "examples" / "large")
+    checkout = Checkout(top)
+    builder = folder / "rt"
+    builder.write_text(BUILDER.format(builds=checkout.builds, fault=fault))
+    builder.chmod(0o755)
+    return checkout
+
+
+def want_unproved(said: Said, what: str) -> None:
+    """The answer comes from the kept program, and one line says that it is not proved."""
+    want((said.printed, said.status), ("asked first 100\n", 3), what)
+    want(said.told.count("\n"), 1, f"lines on standard error, {what}")
+    want_in("not proved", said.told)
+
+
+def check_kept(folder: Path) -> None:
+    """The first call builds, the next ones do not, and a change of the code builds again."""
+    checkout = copy_checkout(folder)
+    want_unproved(checkout.call("first", "100"), "the first call")
+    want_unproved(checkout.call("first", "100"), "the second call")
+    want(checkout.built(), 1, "builds after two calls")
+    (checkout.top / CHANGING).touch()
+    want_unproved(checkout.call("first", "100"), "a call behind a file that was touched")
+    want(checkout.built(), 1, "builds where no text changed")
+    with (checkout.top / CHANGING).open("a") as file:
+        file.write("// another line\n")
+    want_unproved(checkout.call("first", "100"), "a call behind a file that changed")
+    want(checkout.built(), 2, "builds where a text changed")
+    named = Path(checkout.call("--program").printed.strip())
+    want(named.name, "geost_cli_unproved", "the program that is kept")
+    left = [path.name for path in checkout.top.parent.iterdir()]
+    want(sorted(left), ["builds", "checkout", "rt"], "what is left beside the checkout")
+
+
+def check_side_by_side(folder: Path) -> None:
+    """Of several calls at once one builds."""
+    checkout = copy_checkout(folder)
+    calls = [
+        subprocess.Popen(
+            [checkout.top / "geost", "first", "100"],
+            stdin=subprocess.DEVNULL,
+            stdout=subprocess.PIPE,
+            stderr=subprocess.DEVNULL,
+            env={**os.environ, "PATH": f"{folder}{os.pathsep}{os.environ['PATH']}"},
+        )
+        for _ in range(3)
+    ]
+    answers = [call.communicate(timeout=60)[0] for call in calls]
+    want(answers, [b"asked first 100\n"] * 3, "the answers")
+    want(checkout.built(), 1, "builds of three calls at once")
+
+
+def check_failed_build(folder: Path) -> None:
+    """Where nothing can be built the call fails, says what the builder said, and keeps nothing."""
+    checkout = copy_checkout(folder, "echo no such crate >&2; exit 2")
+    said = checkout.call("first", "100")
+    want((said.printed, said.status), ("", 70), "the answer")
+    want_in("no such crate", said.told)
+    want(checkout.call("first", "100").status, 70, "the status of a second call")
+    want(checkout.built(), 2, "builds")
+
+
+def check_proved(folder: Path) -> None:
+    """A program that was built behind the sources answers and says no more; an unproved build in
+    its place does not."""
+    checkout = copy_checkout(folder)
+    want(checkout.call("--proved").status, 1, "the status of --proved where nothing is proved")
+    kept = checkout.top / "crates" / "geost_cli" / "out"
+    kept.mkdir(exist_ok=True)
+    program = kept / "geost_cli"
+    write_program(program, "echo proved; exit 1")
+    want(checkout.call("first", "100"), Said("proved\n", "", 1), "the answer of the proved program")
+    want(checkout.call("--proved"), Said(f"{program}\n", "", 0), "what --proved prints")
+    want(checkout.built(), 0, "builds")
+    write_program(program, "echo unproved; exit # __asan_init")
+    want(checkout.call("--proved").status, 1, "the status of --proved for an unproved build")
+    want_unproved(checkout.call("first", "100"), "a call where an unproved build took its place")
+    write_program(program, "echo proved; exit 1")
+    later = time.time() + 60
+    os.utime(checkout.top / CHANGING, (later, later))
+    want(checkout.call("--proved").status, 1, "the status of --proved behind a change")
+
+
+def write_program(path: Path, lines: str) -> None:
+    path.write_text(f"#!/usr/bin/env bash\n{lines}\n")
+    path.chmod(0o755)
+
+
+def check_help(setting: Setting) -> None:
+    """The script answers `help`, which names each command of the program, and the version."""
+    printed = [run_script(word) for word in ("help", "--help", "-h")]
+    want(printed, [printed[0]] * 3, "what help prints")
+    named = set(re.findall(r"geost ([a-z]+)", printed[0])) - {"help", "places", "prove"}
+    want(named, {"first", "all", "judge", "check", "draw", "show", "make"}, "commands of the help")
+    version = (TOP / "VERSION").read_text().strip()
+    want(run_script("--version").splitlines()[0], f"geost {version}", "the version")
+    for word in ("help", "--help", "--version"):
+        want(setting.program.ask([word], b"").text, "bad words\n", f"the program's answer to {word}")
+
+
+def run_script(*words: str) -> str:
+    done = subprocess.run([TOP / "geost", *words], stdin=subprocess.DEVNULL, capture_output=True)
+    want(done.returncode, 0, f"the status of geost {' '.join(words)}")
+    return done.stdout.decode()
+
+
+# What the documents at the top say
+
+
+def check_readme() -> None:
+    """README is short, and begins with the smallest example and its answer."""
+    readme = (TOP / "README.md").read_text()
+    want(len(readme.splitlines()) < MOST_README_LINES, True, f"README under {MOST_README_LINES} lines")
+    blocks = re.findall(r"(?:^    .*\n)+", readme, re.MULTILINE)
+    texts = [re.sub("^    ", "", block, flags=re.MULTILINE) for block in blocks]
+    example = TOP / "examples" / "two_boxes_on_a_line"
+    want(texts[0], example.with_suffix(".geost").read_text(), "the first block of README")
+    want(texts[1], example.with_suffix(".answer").read_text(), "the second block of README")
+
+
+def check_version() -> None:
+    """CHANGELOG begins with the version, or with what comes behind it."""
+    version = (TOP / "VERSION").read_text()
+    want(re.fullmatch(r"\d+\.\d+\.\d+\n", version) is not None, True, f"a version: {version!r}")
+    headings = re.findall(r"^## (.*)$", (TOP / "CHANGELOG.md").read_text(), re.MULTILINE)
+    newest = [heading for heading in headings if heading != "Not released yet"][0]
+    want(newest, version.strip(), "the newest version of CHANGELOG")
+
+
+def check_notices() -> None:
+    """NOTICES names each library of others that a crate of the program stands on."""
+    crates = crates_by_layer_of((TOP / "crates.txt").read_text())
+    cited = {library for crate in crates.values() for library in crate.below}
+    others = sorted(cited - set(crates) - {"core", "std_alloc"})
+    notices = (TOP / "NOTICES.md").read_text()
+    want([name for name in others if f"- `{name}`" not in notices], [], "libraries without a notice")
+
+
+# Layers
+
+
+@dataclass(frozen=True)
+class Listed:
+    """A crate of crates.txt with its layer and the libraries that it stands on."""
+
+    layer: str
+    below: tuple[str, ...]
+
+
+def crates_by_layer_of(listing: str) -> dict[str, Listed]:
+    found: dict[str, Listed] = {}
+    layer = ""
+    for line in listing.splitlines():
+        name, colon, below = line.partition(":")
+        if line.startswith("#"):
+            layer = line.strip("# ")
+        elif colon:
+            found[name] = Listed(layer, tuple(below.split()))
+    return found
+
+
+def layers_of(crates: dict[str, Listed]) -> dict[str, list[str]]:
+    found: dict[str, list[str]] = {}
+    for name, crate in crates.items():
+        found.setdefault(crate.layer, []).append(name)
+    return found
+
+
+def described_layers() -> Iterator[tuple[str, list[str]]]:
+    """The headings of docs/ARCHITECTURE.md that list crates, in small letters, with the crates."""
+    text = (TOP / "docs" / "ARCHITECTURE.md").read_text()
+    for section in re.split(r"^## ", text, flags=re.MULTILINE)[1:]:
+        heading, _, body = section.partition("\n")
+        names = re.findall(r"^- `(\w+)`: ", body, re.MULTILINE)
+        if names:
+            yield heading.lower(), names
+
+
+def check_layers() -> None:
+    """crates.txt and docs/ARCHITECTURE.md have the same layers."""
+    layers = layers_of(crates_by_layer_of((TOP / "crates.txt").read_text()))
+    want(dict(described_layers()), layers, "the layers of docs/ARCHITECTURE.md")
+    want([name for name, _ in described_layers()], list(layers), "the order of the layers")
+    folders = sorted(path.name for path in (TOP / "crates").iterdir() if path.is_dir())
+    want(sorted(name for names in layers.values() for name in names), folders, "the crates")
+
+
+def check_order_of_layers() -> None:
+    """Each crate stands on crates of its own layer and of those above it in the list."""
+    crates = crates_by_layer_of((TOP / "crates.txt").read_text())
+    places = {layer: place for place, layer in enumerate(layers_of(crates))}
+    wrong = [
+        f"{name} on {below}"
+        for name, crate in crates.items()
+        for below in crate.below
+        if below in crates and LAWS not in (crate.layer, crates[below].layer)
+        if places[crates[below].layer] > places[crate.layer]
+    ]
+    want(wrong, [], "crates that stand on a higher layer")
+    cited = [name for name, crate in crates.items() for other in crate.below if is_test(crates, other)]
+    want(cited, [], "crates that stand on tests")
+
+
+def is_test(crates: dict[str, Listed], name: str) -> bool:
+    return name in crates and crates[name].layer == TESTS
+
+
+def check_ways() -> None:
+    """Each call of a table of docs/ARCHITECTURE.md is a function of the file beside it."""
+    text = (TOP / "docs" / "ARCHITECTURE.md").read_text()
+    rows = re.findall(r"^\| [\d.]* ?\| `(\w+)` \| `([\w/.]+)` \|", text, re.MULTILINE)
+    if len(rows) < 20:
+        raise Failed(f"the tables have {len(rows)} rows")
+    wrong = [f"{call} in {file}" for call, file in rows if not has_function(TOP / "crates" / file, call)]
+    want(wrong, [], "calls that do not stand in their file")
+
+
+def has_function(file: Path, call: str) -> bool:
+    return file.is_file() and re.search(rf"\bfn {call}\b", file.read_text()) is not None
+
+
+def cases(setting: Setting, folder: Path) -> Cases:
+    tried = [
+        ("a program that is kept", check_kept),
+        ("calls side by side", check_side_by_side),
+        ("a build that fails", check_failed_build),
+        ("the proved program", check_proved),
+    ]
+    for number, (name, check) in enumerate(tried):
+        own = folder / f"front{number}"
+        yield Case(f"geost: {name}", lambda check=check, own=own: check(own))
+    yield Case("geost: help and version", lambda: check_help(setting))
+    yield Case("front: README", check_readme)
+    yield Case("front: VERSION and CHANGELOG", check_version)
+    yield Case("front: NOTICES", check_notices)
+    yield Case("front: layers", check_layers)
+    yield Case("front: what stands on what", check_order_of_layers)
+    yield Case("front: the way of a text", check_ways)
