@@ -7,8 +7,9 @@ import re
 from html import escape
 from pathlib import Path
 
+from geost_grammar import GRAMMAR
 from geost_picture import Broken, Plan
-from geost_text import Placed, print_layout, print_problem
+from geost_text import RESERVED, Placed, print_layout, print_problem
 
 SOURCE = Path(__file__).resolve().parent / "page" / "source"
 PICTURE_SCRIPTS = ("cells.js", "colours.js", "flat.js", "solid.js", "picture.js", "turning.js")
@@ -40,6 +41,11 @@ def filled(template: str, parts: dict[str, str]) -> str:
         raise ValueError(f"the template has no {', '.join(missing)}")
     marks = re.compile("|".join(re.escape(mark) for mark in parts))
     return marks.sub(lambda match: parts[match.group()], template)
+
+
+def language_data() -> dict[str, object]:
+    """What the page's scripts have of the language from the files that the other tools read."""
+    return {"reserved": RESERVED, "grammar": GRAMMAR.read_text(encoding="utf-8")}
 
 
 def broken_data(broken: Broken) -> dict[str, object]:

@@ -22,6 +22,7 @@ const Picture = (() => {
     problem: null, things: [], broken: [], extra: [], // `extra` are views that a page adds
     view: null, colour: "object", sequence: "file", picked: null, camera: { ...Solid.START },
     onPick: () => {},
+    onDrag: null, // begins a drag of a thing, where things may be moved
   };
   // the scene of the last drawing in three dimensions
   let kept = { key: null, scene: null, things: [] };
@@ -228,7 +229,7 @@ const Picture = (() => {
     const context = canvas.getContext("2d");
     context.scale(ratio, ratio);
     context.clearRect(0, 0, ...size);
-    if (!shownThings().length || dims() < 3) return;
+    if (dims() < 3) return;
     lastCamera = Solid.cameraFor(frame(), size, state.camera);
     const options = { look: look(), picked: state.picked, isPlain };
     Solid.draw(Solid.canvasPen(context), lastCamera, frame(), scene().scene, options);
@@ -245,6 +246,19 @@ const Picture = (() => {
       isAsked = false;
       paintNow(isPlainAsked);
     });
+  }
+
+  // How many cells along x1 and x2 so many pixels are on the floor; with `isUp` along x3.
+  function cellsAlong(across, down, isUp) {
+    const { right, up, scale } = lastCamera;
+    const [x, y] = [across / scale, -down / scale];
+    if (isUp) return { 2: Math.round(y / up[2]) };
+    const area = right[0] * up[1] - right[1] * up[0];
+    return {
+      0: Math.round(
+        (x * up[1] - y * right[1]) / area
+      ), 1: Math.round((y * right[0] - x * up[0]) / area),
+    };
   }
 
   // The thing at a point of the canvas, or null.
@@ -286,7 +300,6 @@ const Picture = (() => {
     const extra = state.extra.find((view) => view.name === state.view);
     if (state.view === "solid") paint();
     else if (extra) extra.show($("flat"));
-    else if (!shownThings().length) $("flat").innerHTML = "<p class=\"quiet\">no plan yet</p>";
     else $("flat").innerHTML = sheet(state.view, stageSize());
   }
 
@@ -340,7 +353,7 @@ const Picture = (() => {
   }
 
   return {
-    state, show, render, choose, pick, paint, paintNow, seenAt, sheet, saidOf, look, frame, dims,
-    breaksOf,
+    state, show, render, choose, pick, paint, paintNow, seenAt, cellsAlong, sheet, saidOf, look,
+    frame, dims, breaksOf,
   };
 })();

@@ -42,9 +42,15 @@ const Turning = (() => {
   }
 
   let held = null;
+  // A drag turns the picture, with shift or the right button moves it; one that begins on the thing
+  // that is picked drags that along the floor, with shift upwards.
   function press(event) {
+    const thing = Picture.seenAt(spotOf(event));
+    const isThing = Boolean(state.onDrag && thing && thing.name === state.picked);
+    const isShifted = event.button === 2 || event.shiftKey;
+    const { clientX: x, clientY: y } = event;
     held = {
-      x: event.clientX, y: event.clientY, isMove: event.button === 2 || event.shiftKey, moved: 0,
+      x, y, from: [x, y], isThing, isShifted, moved: 0, begun: isThing && state.onDrag(thing.name),
     };
     $("solid").setPointerCapture(event.pointerId);
     $("solid").classList.add("held");
@@ -56,16 +62,16 @@ const Turning = (() => {
       return;
     }
     const [across, down] = [event.clientX - held.x, event.clientY - held.y];
-    held = {
-      ...held,
-      x: event.clientX,
-      y: event.clientY,
-      moved: held.moved + Math.abs(across) + Math.abs(down),
-    };
-    const { shift } = state.camera;
-    if (held.isMove) state.camera.shift = [shift[0] + across, shift[1] + down];
-    else turn(-across * 0.009, down * 0.007);
+    const moved = held.moved + Math.abs(across) + Math.abs(down);
+    held = { ...held, x: event.clientX, y: event.clientY, moved };
     tip(null);
+    if (held.isThing) {
+      const [x, y] = held.from;
+      held.begun(Picture.cellsAlong(event.clientX - x, event.clientY - y, held.isShifted));
+    } else if (held.isShifted) {
+      const { shift } = state.camera;
+      state.camera.shift = [shift[0] + across, shift[1] + down];
+    } else turn(-across * 0.009, down * 0.007);
     Picture.paint(true);
   }
   function release(event) {
