@@ -4,14 +4,17 @@ from __future__ import annotations
 
 import difflib
 import re
-from dataclasses import dataclass
+from collections.abc import Callable
+from dataclasses import dataclass, replace
+from enum import Enum
 from functools import cached_property
 
 from geost_program import TOP
+from geost_slips import advice, marked_statement
 from geost_text import (
     LARGEST_NUMBER,
+    LONGEST_NAME,
     RESERVED,
-    Call,
     Chain,
     Expr,
     Extreme,
@@ -27,20 +30,16 @@ from geost_text import (
 )
 
 STATEMENTS = ("shape", "object", "order", "sides", "macro", "rule")
-SPOKEN_BYTES = {
-    "&": "write `and`",
-    "|": "write `or`",
-    "!": "write `not`, or `!=`",
-    "%": "write `mod`",
-    "~": "write `not`",
-    "^": "a power has to be written as a product of numbers",
-    "{": "the brackets of formulas are `[ ]`, those of expressions `( )`",
-    "}": "the brackets of formulas are `[ ]`, those of expressions `( )`",
-    '"': "names stand without quotes",
-    "'": "names stand without quotes",
-    "\\": "a statement may go on in the next line without a mark",
-    "?": "names are made of letters, digits and `_`",
-}
+MOST_COLUMNS = 160
+SHOWN_BEFORE, SHOWN_BEHIND = 60, 80
+
+
+class Kind(Enum):
+    """What a text is: a problem, or what stands behind one."""
+
+    PROBLEM = "problem"
+    LAYOUT = "layout"
+    DERIVATION = "derivation"
 
 
 # The lists of docs/FORMAT.md
@@ -59,11 +58,19 @@ class Row:
     advice: str
 
 
-def read_rows(document: str) -> tuple[list[Row], list[Row]]:
-    """The items of two lists of refusals: those of a problem and those of a layout."""
+Rows = dict[Kind, list[Row]]
+
+
+def read_rows(document: str) -> Rows:
+    """The items of the lists of refusals: those of a problem, of a layout and of a derivation."""
     section = document[document.index("## When a text is refused") :]
-    problem, layout, *_ = section.partition("A derivation that")[0].split("A layout that `judge`")
-    return rows_of(problem, ""), rows_of(layout, "layout")
+    rest, _, derivation = section.partition("A derivation that `check`")
+    problem, _, layout = rest.partition("A layout that `judge`")
+    return {
+        Kind.PROBLEM: rows_of(problem, ""),
+        Kind.LAYOUT: rows_of(layout, "layout"),
+        Kind.DERIVATION: rows_of(derivation, "derivation"),
+    }
 
 
 def rows_of(section: str, phase: str) -> list[Row]:
@@ -82,7 +89,7 @@ def words_in(cell: str) -> tuple[str, ...]:
     return tuple(part.strip(" `") for part in cell.split(","))
 
 
-def format_rows() -> tuple[list[Row], list[Row]]:
+def format_rows() -> Rows:
     return read_rows((TOP / "docs" / "FORMAT.md").read_text(encoding="utf-8"))
 
 
@@ -100,25 +107,44 @@ class Source:
 
 @dataclass(frozen=True)
 class Spot:
-    """A place in a file: line and column from 1, the column counted in characters, and the line."""
+    """A place in a file: line and column from 1, the column counted in characters, and what is shown
+    of the line, with the number of characters before the place in it."""
 
     file: str
     line: int
     column: int
     content: str
+    before: int
 
     def caret(self, width: int) -> str:
         """A line that marks so many characters under the line of the spot, tabs kept as they are."""
-        lead = "".join("\t" if sign == "\t" else " " for sign in self.content[: self.column - 1])
-        return lead + "^" * max(1, min(width, len(self.content) - self.column + 1))
+        lead = "".join("\t" if sign == "\t" else " " for sign in self.content[: self.before])
+        return lead + "^" * max(1, min(width, len(self.content) - self.before))
+
+    def around(self) -> Spot:
+        """The same place, of a very long line what stands around it alone."""
+        if len(self.content) <= MOST_COLUMNS:
+            return self
+        begin = max(0, self.before - SHOWN_BEFORE)
+        end = self.before + SHOWN_BEHIND
+        front = ".. " if begin else ""
+        back = " .." if end < len(self.content) else ""
+        shown = front + self.content[begin:end] + back
+        return replace(self, content=shown, before=self.before - begin + len(front))
 
 
 def spot_of(source: Source, place: int) -> Spot:
     text, at = source.text, place - source.before
     begin = text.rfind(b"\n", 0, at) + 1
     end = text.find(b"\n", at)
-    content = decoded(text[begin : len(text) if end < 0 else end]).rstrip("\r")
-    return Spot(source.name, text.count(b"\n", 0, at) + 1, len(decoded(text[begin:at])) + 1, content)
+    content = visible(text[begin : len(text) if end < 0 else end].rstrip(b"\r"))
+    before = len(visible(text[begin:at]))
+    return Spot(source.name, text.count(b"\n", 0, at) + 1, before + 1, content, before)
+
+
+def visible(text: bytes) -> str:
+    """A text in which what is no sign stands as such a mark as a wrong byte does."""
+    return "".join(sign if sign.isprintable() or sign == "\t" else "\ufffd" for sign in decoded(text))
 
 
 def decoded(text: bytes) -> str:
@@ -133,7 +159,7 @@ class Refusal:
     source: Source
     at: int
     problem: bytes
-    is_layout: bool
+    kind: Kind
 
     @cached_property
     def tokens(self) -> list[Token]:
@@ -196,15 +222,18 @@ class Refusal:
         return int(tokens[3].text) if len(tokens) > 3 and tokens[3].kind == "number" else 0
 
 
-# Which row of the table a refusal belongs to
+Finder = Callable[[Refusal], list[str]]
 
 
-def row_of(refusal: Refusal, rows: tuple[list[Row], list[Row]]) -> Row:
-    fitting = [row for row in rows[1 if refusal.is_layout else 0] if refusal.word in row.words]
-    needle = "" if refusal.is_layout else needle_of(refusal)
+# Which item of the list a refusal belongs to
+
+
+def row_of(refusal: Refusal, rows: Rows) -> Row:
+    fitting = [row for row in rows[refusal.kind] if refusal.word in row.words]
+    needle = needle_of(refusal) if refusal.kind is Kind.PROBLEM else ""
     named = next((row for row in fitting if needle in row.where), fitting[0])
     if "as above" in named.where:
-        return row_of(Refusal(refusal.word, refusal.source, refusal.at, refusal.problem, False), rows)
+        return row_of(replace(refusal, kind=Kind.PROBLEM), rows)
     return named
 
 
@@ -277,18 +306,41 @@ def listed(title: str, names: list[str], most: int = 12) -> list[str]:
 
 
 def hints(refusal: Refusal) -> list[str]:
-    """Lines that say what stands there, what may stand there, and what may be meant."""
-    finders = LAYOUT_HINTS if refusal.is_layout and refusal.word in LAYOUT_HINTS else PROBLEM_HINTS
-    return finders[refusal.word](refusal) if refusal.word in finders else []
+    """Lines that say what to write instead, what stands there, and what may stand there."""
+    own = [] if refusal.kind is Kind.DERIVATION else finders_of(refusal)(refusal)
+    first = slip_hints(refusal, f"{refusal.word}-first") if refusal.index == 0 else []
+    return (first or slip_hints(refusal, refusal.word)) + own
+
+
+def finders_of(refusal: Refusal) -> Finder:
+    of_layout = LAYOUT_HINTS if refusal.kind is Kind.LAYOUT else {}
+    return of_layout.get(refusal.word) or PROBLEM_HINTS.get(refusal.word) or (lambda _: [])
+
+
+def slip_hints(refusal: Refusal, word: str) -> list[str]:
+    """What to write in place of a slip that is known; `word` is that of the refusal or a finer one."""
+    if refusal.kind is Kind.DERIVATION or word == "syntax" and is_unended(refusal):
+        return []
+    names = {
+        "object": refusal.made("object"),
+        "shape": refusal.made("shape"),
+        "macro": refusal.made("macro"),
+        "attribute": refusal.attributes(),
+        "variable": refusal.variables(),
+    }
+    is_layout = refusal.kind is Kind.LAYOUT
+    statement = marked_statement(refusal.source.text, refusal.at, is_layout)
+    found = advice(f"plan:{word}" if is_layout else word, statement, names)
+    return [] if found is None else [found]
 
 
 def byte_hints(refusal: Refusal) -> list[str]:
-    rest = decoded(refusal.source.text[refusal.at : refusal.at + 4])
-    sign = rest[:1]
-    if sign in SPOKEN_BYTES:
-        return [f"`{sign}` is no symbol: {SPOKEN_BYTES[sign]}"]
+    sign = decoded(refusal.source.text[refusal.at : refusal.at + 4])[:1]
     if sign.isalpha():
-        return [f"`{sign}` is no letter of names: they are made of a to z, A to Z, digits and `_`; it may stand in a comment"]
+        return [
+            f"`{sign}` is no letter of names, which are made of a to z, A to Z, digits and `_`:"
+            " write another; it may stand in a comment"
+        ]
     return [f"`{sign}` may stand in a comment alone"] if sign.isprintable() else []
 
 
@@ -302,7 +354,7 @@ def number_hints(refusal: Refusal) -> list[str]:
 
 
 def name_hints(refusal: Refusal) -> list[str]:
-    return [f"the name has {len(refusal.token)} bytes"]
+    return [f"the name has {len(refusal.token)} bytes: write a shorter one, of {LONGEST_NAME} at most"]
 
 
 def syntax_hints(refusal: Refusal) -> list[str]:
@@ -314,42 +366,29 @@ def syntax_hints(refusal: Refusal) -> list[str]:
     token = refusal.token
     lines.append("here may stand " + ", ".join(fault.expected))
     if token in RESERVED and "a name" in expected:
-        lines.append(f"`{token}` is a reserved word and no name")
+        other = f": write `{token}_` or another" if expected == ["a name"] else ""
+        lines.append(f"`{token}` is a reserved word and no name{other}")
     elif token and token not in expected:
         lines.extend(did_you_mean(token, [word for word in expected if word.isalpha()]))
-    if ";" in expected and (token in STATEMENTS or token == "end"):
-        lines.append("the statement before is not ended: a `;` is missing behind " + f"`{refusal.before()}`")
-    lines.extend(habit_hints(refusal, expected))
+    if is_unended(refusal):
+        before = refusal.before()
+        lines.append(f"the statement before is not ended: a `;` is missing behind `{before}`")
     return lines
 
 
-def habit_hints(refusal: Refusal, expected: list[str]) -> list[str]:
-    """What people write who are used to other languages."""
-    token, before = refusal.token, refusal.before()
-    if token == "=" and before in ("=", "<", ">"):
-        return ["`=`, `<=` and `>=` are each one mark, without white space in it"]
-    if token == ">" and before == "<":
-        return ["write `!=`"]
-    if token == ">" and before in ("=", "-"):
-        return ["write `implies`"]
-    if token == "/":
-        return ["write `div`, or begin a comment with `#`"]
-    if token == "(" and "[" in expected:
-        return ["the brackets of formulas are `[ ]`; `( )` are those of expressions"]
-    if token in ("and", "or", "implies", "iff", "]") and "<=" in expected:
-        return ["a formula compares: an expression alone is none"]
-    if token == "[":
-        return ["`[ ]` are the brackets of formulas; expressions have `( )`"]
-    if token == "-" and ".." in expected:
-        return ["a range is written with `..`, such as `0..9`"]
-    return []
+def is_unended(refusal: Refusal) -> bool:
+    """Whether the next statement begins where a `;` may stand."""
+    if refusal.token not in (*STATEMENTS, "end"):
+        return False
+    fault = syntax_fault(refusal)
+    return fault is not None and fault.place == refusal.at and "`;`" in fault.expected
 
 
 def syntax_fault(refusal: Refusal) -> TextFault | None:
     """The fault of the grammar as the reader of these scripts finds it."""
     reader = Reader(refusal.tokens, len(refusal.source.text))
     try:
-        reader.layout() if refusal.is_layout else reader.problem()
+        reader.layout() if refusal.kind is Kind.LAYOUT else reader.problem()
         reader.finish()
     except TextFault as fault:
         return fault
@@ -359,25 +398,34 @@ def syntax_fault(refusal: Refusal) -> TextFault | None:
 def unknown_hints(refusal: Refusal) -> list[str]:
     name, before = refusal.token, refusal.before()
     if refusal.statement == "object" or before == "shape":
-        return did_you_mean(name, refusal.made("shape")) or listed("shapes", refusal.made("shape"))
+        made = [f"write `shape {name} box ..` somewhere, or another name"]
+        return did_you_mean(name, refusal.made("shape")) or made + listed("shapes", refusal.made("shape"))
     if refusal.statement == "order" or is_in_collection(refusal):
-        return did_you_mean(name, refusal.made("object")) or listed("objects", refusal.made("object"))
+        made = [f"write `object {name} as ..` somewhere, or another name"]
+        return did_you_mean(name, refusal.made("object")) or made + listed("objects", refusal.made("object"))
     if before == ".":
         return field_hints(refusal)
     if before in ("@", "$"):
         return macro_hints(refusal)
     if name in refusal.variables():
         return [
-            f"`{name}` is in sight in the body of its quantifier alone, which has ended here: put a compound body in `[ ]`",
+            f"`{name}` is in sight in the body of its quantifier alone, which has ended here:"
+            " put a compound body in `[ ]`, so write `: [ .. ]`",
         ]
-    return did_you_mean(name, refusal.variables() + refusal.made("object")) or listed("objects", refusal.made("object"))
+    known = refusal.variables() + refusal.made("object")
+    return did_you_mean(name, known) or far_hints(refusal) + listed("objects", refusal.made("object"))
+
+
+def far_hints(refusal: Refusal) -> list[str]:
+    """What to write in place of a name that is like no known one, where no slip said more."""
+    return [] if slip_hints(refusal, "unknown") else slip_hints(refusal, "unknown-far")
 
 
 def field_hints(refusal: Refusal) -> list[str]:
     places = range(1, refusal.dims() + 1)
     of_objects = ["id", "sid", *(f"x{place}" for place in places), *refusal.attributes()]
     of_boxes = [f"{letter}{place}" for letter in "tl" for place in places]
-    meant = did_you_mean(refusal.token, of_objects + of_boxes)
+    meant = did_you_mean(refusal.token, of_objects + of_boxes) or far_hints(refusal)
     return meant + listed("fields of objects", of_objects) + listed("fields of boxes", of_boxes)
 
 
@@ -385,18 +433,20 @@ def macro_hints(refusal: Refusal) -> list[str]:
     names = refusal.made("macro")
     if refusal.token in names:
         return [f"the macro `{refusal.token}` is made further down, or is this one: put its statement above"]
-    return did_you_mean(refusal.token, names) or listed("macros", names)
+    made = [f"write `macro {refusal.token}(..)` further up, or the name of another"]
+    return did_you_mean(refusal.token, names) or made + listed("macros", names)
 
 
 def twice_hints(refusal: Refusal) -> list[str]:
     token = refusal.token
     if token in ("id", "sid") or len(token) == 2 and token[0] == "x" and token[1] in "123456789":
-        return [f"every object has the field `{token}` anyway"]
+        return [f"every object has the field `{token}` anyway: write another name"]
     earlier = next((n for n in range(refusal.index) if refusal.tokens[n].text == token and is_same_list(refusal, n)), None)
     if earlier is None:
         return []
     spot = spot_of(refusal.source, refusal.tokens[earlier].start)
-    return [f"`{token}` stands first in line {spot.line}, column {spot.column}"]
+    where = f"line {spot.line}, column {spot.column}"
+    return [f"`{token}` stands first in {where}: write another name, or it once"]
 
 
 def is_same_list(refusal: Refusal, at: int) -> bool:
@@ -412,7 +462,11 @@ def kind_hints(refusal: Refusal) -> list[str]:
     token = refusal.token
     if token in ("@", "$"):
         other = "$" if token == "@" else "@"
-        return [f"`{refusal.after()}` is called with `{other}`: `@` is for macros with `means`, `$` for those with `is`"]
+        name = refusal.after()
+        return [
+            f"write `{other}{name}(..)`: `{name}` is called with `{other}`;"
+            " `@` is for macros with `means`, `$` for those with `is`"
+        ]
     if token == ".":
         return [f"`{refusal.before()}` is a number and has no fields"]
     if refusal.before() == "of":
@@ -428,30 +482,33 @@ def args_hints(refusal: Refusal) -> list[str]:
     for at, token in enumerate(tokens[:-1]):
         if token.text == "macro" and tokens[at + 1].text == name:
             end = next(n for n in range(at, len(tokens)) if tokens[n].text == ")")
-            return [f"it is made as `{' '.join(part.text for part in tokens[at : end + 1])}`"]
+            made = " ".join(part.text for part in tokens[at : end + 1])
+            return [f"it is made as `{made}`: write one argument for each parameter"]
     return []
 
 
 def limit_hints(refusal: Refusal) -> list[str]:
     needle = limit_needle(refusal)
     if needle.startswith("the first token"):
-        return [f"{members(refusal)} stand there, and {refusal.dims()} are wanted: one for each dimension"]
+        stand, wanted = members(refusal), refusal.dims()
+        return [f"{stand} stand there, and {wanted} are wanted: write one for each dimension"]
     if needle.startswith("a version"):
-        return ["a text begins with `geost 1 dims K`, where K is 1 to 4"]
+        return ["write `geost 1 dims K` at the front, where K is 1 to 4"]
     return []
 
 
 def range_hints(refusal: Refusal) -> list[str]:
-    text = "".join(token.text for token in refusal.tokens[refusal.index : refusal.index + 5])
-    low, _, rest = text.partition("..")
-    high = rest[: 1 + len(rest[1:]) - len(rest[1:].lstrip("0123456789"))]
-    return [f"`{high}..{low}` may be meant"]
+    text = " ".join(token.text for token in refusal.tokens[refusal.index : refusal.index + 5])
+    found = re.match(r"((?:- )?\d+) \.\. ((?:- )?\d+)", text)
+    low, high = (found[1], found[2]) if found else ("", "")
+    meant = f"{high}..{low}".replace("- ", "-")
+    return [f"`{meant}` may be meant: write that"] if found else []
 
 
 def order_hints(refusal: Refusal) -> list[str]:
     end = next((n for n in range(refusal.index, len(refusal.tokens)) if refusal.tokens[n].text == ";"), len(refusal.tokens))
     listed_names = {token.text for token in refusal.tokens[refusal.index : end]}
-    return listed("it leaves out", [name for name in refusal.made("object") if name not in listed_names])
+    return listed("write them too; it leaves out", [name for name in refusal.made("object") if name not in listed_names])
 
 
 def product_hints(refusal: Refusal) -> list[str]:
@@ -461,7 +518,17 @@ def product_hints(refusal: Refusal) -> list[str]:
         return []
     bodies = [rule.body, *(macro.body for macro in made.macros)] if made else []
     bad = [part for body in bodies for part in all_parts(body) if multiplies(part)]  # type: ignore[arg-type]
-    return [f"see `{print_expr(part)}`" for part in bad[:3]]  # type: ignore[arg-type]
+    shown = [f"see `{print_expr(part)}`" for part in bad[:3]]  # type: ignore[arg-type]
+    return [*shown, *dict.fromkeys(map(in_place_of, bad))]
+
+
+def in_place_of(part: object) -> str:
+    """What to write in place of a part that has coordinates where none may stand."""
+    if isinstance(part, Extreme):
+        return "write `[ a.x1 <= 3 and b.x1 <= 3 ]` in place of `max(a.x1, b.x1) <= 3`, and `or` for `min`"
+    if isinstance(part, Chain) and any(mark != "*" for mark, _ in part.steps):
+        return "write `[ 6 <= e and e < 9 ]` in place of `e div 3 = 2`; under `mod` stand attributes alone"
+    return "write `[ a.x1 = 0 or b.x1 = 0 ]` for a product that is 0, and else one comparison a coordinate"
 
 
 def parsed_problem(refusal: Refusal) -> Problem | None:
@@ -519,7 +586,7 @@ def layout_range_hints(refusal: Refusal) -> list[str]:
     return [f"x{dimension + 1} of `{layout_object(refusal)}` lies in {low}..{high}"]
 
 
-PROBLEM_HINTS = {
+PROBLEM_HINTS: dict[str, Finder] = {
     "byte": byte_hints,
     "number": number_hints,
     "name": name_hints,
@@ -533,7 +600,7 @@ PROBLEM_HINTS = {
     "args": args_hints,
     "product": product_hints,
 }
-LAYOUT_HINTS = {
+LAYOUT_HINTS: dict[str, Finder] = {
     "order": layout_order_hints,
     "unknown": layout_unknown_hints,
     "limit": lambda refusal: [f"{refusal.dims()} coordinates are wanted: one for each dimension"],
@@ -542,12 +609,18 @@ LAYOUT_HINTS = {
 }
 
 
-def explain_refusal(word: str, place: int, sources: list[Source], layout_from: int | None) -> list[str]:
-    """The lines that explain a refusal. The sources are the files of the input in their sequence; where the input has a layout, it begins
-    at the place `layout_from`."""
+def explain_refusal(
+    word: str,
+    place: int,
+    sources: list[Source],
+    second_from: int | None,
+    kind: Kind = Kind.LAYOUT,
+) -> list[str]:
+    """The lines that explain a refusal. The sources are the files of the input in their sequence;
+    where the input has a second text of this kind, it begins at the place `second_from`."""
     whole = b"".join(source.text for source in sources)
-    refusal = refusal_of(word, place, whole, layout_from)
-    spot = spot_of(source_at(sources, place), place)
+    refusal = refusal_of(word, place, whole, second_from, kind)
+    spot = spot_of(source_at(sources, place), place).around()
     row = row_of(refusal, format_rows())
     return [
         f"{spot.file}:{spot.line}:{spot.column}: {word}",
@@ -559,13 +632,16 @@ def explain_refusal(word: str, place: int, sources: list[Source], layout_from: i
     ]
 
 
-def refusal_of(word: str, place: int, whole: bytes, layout_from: int | None) -> Refusal:
-    if layout_from is None:
-        return Refusal(word, Source("", whole), place, whole, False)
-    problem = whole[:layout_from]
-    if place < layout_from:
-        return Refusal(word, Source("", problem), place, problem, False)
-    return Refusal(word, Source("", whole[layout_from:], layout_from), place - layout_from, problem, True)
+def refusal_of(
+    word: str, place: int, whole: bytes, second_from: int | None, kind: Kind
+) -> Refusal:
+    if second_from is None:
+        return Refusal(word, Source("", whole), place, whole, Kind.PROBLEM)
+    problem = whole[:second_from]
+    if place < second_from:
+        return Refusal(word, Source("", problem), place, problem, Kind.PROBLEM)
+    second = Source("", whole[second_from:], second_from)
+    return Refusal(word, second, place - second_from, problem, kind)
 
 
 def source_at(sources: list[Source], place: int) -> Source:

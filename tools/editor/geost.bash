@@ -1,20 +1,30 @@
 # Completion of geost's words in bash: source this file from ~/.bashrc.
-_geost() {
-  local words="first all judge check show draw make"
-  if [ "$COMP_CWORD" -eq 1 ]; then
-    COMPREPLY=($(compgen -W "$words" -- "${COMP_WORDS[COMP_CWORD]}"))
-  elif [ "$COMP_CWORD" -eq 2 ] && [ "${COMP_WORDS[1]}" = first ]; then
-    COMPREPLY=($(compgen -W "100 1000 10000 100000 1000000" -- "${COMP_WORDS[COMP_CWORD]}"))
-  elif [ "$COMP_CWORD" -eq 2 ] && [ "${COMP_WORDS[1]}" = all ]; then
-    COMPREPLY=($(compgen -W "10 100 1000" -- "${COMP_WORDS[COMP_CWORD]}"))
-  elif [ "$COMP_CWORD" -eq 3 ] && [ "${COMP_WORDS[1]}" = all ]; then
-    COMPREPLY=($(compgen -W "100 1000 10000 100000 1000000" -- "${COMP_WORDS[COMP_CWORD]}"))
-  elif [ "$COMP_CWORD" -eq 2 ] && [ "${COMP_WORDS[1]}" = make ]; then
-    COMPREPLY=($(compgen -W "0 1 2147483647" -- "${COMP_WORDS[COMP_CWORD]}"))
-  elif [ "$COMP_CWORD" -eq 3 ] && [ "${COMP_WORDS[1]}" = make ]; then
-    COMPREPLY=($(compgen -W "8 160 100000" -- "${COMP_WORDS[COMP_CWORD]}"))
-  else
-    COMPREPLY=()
-  fi
+
+# What may stand next, behind the words so far.
+_geost_next() { # the words behind `geost`, without the one that is completed
+  local steps="100 1000 10000 100000 1000000"
+  case $# in
+  0) echo "first all judge check show draw make help prove --version --program --proved" ;;
+  1)
+    case $1 in
+    first) echo "$steps" ;;
+    all) echo "10 100 1000" ;;
+    make) echo "0 1 2147483647" ;;
+    esac
+    ;;
+  2)
+    case $1 in
+    all) echo "$steps" ;;
+    make) echo "8 160 100000" ;;
+    esac
+    ;;
+  esac
 }
+
+_geost() {
+  local next
+  next=$(_geost_next "${COMP_WORDS[@]:1:COMP_CWORD-1}")
+  COMPREPLY=($(compgen -W "$next" -- "${COMP_WORDS[COMP_CWORD]}"))
+}
+
 complete -o default -F _geost geost ./geost

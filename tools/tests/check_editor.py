@@ -9,7 +9,7 @@ import subprocess
 from pathlib import Path
 
 from geost_text import RESERVED
-from harness import TOOLS, TOP, Case, Cases, Failed, Setting, Skipped, want
+from harness import TOOLS, TOP, Case, Cases, Setting, Skipped, want
 
 VIM = TOOLS / "editor" / "geost.vim"
 TEXTMATE = TOOLS / "editor" / "geost.tmLanguage.json"
@@ -64,19 +64,32 @@ def check_man_words() -> None:
     want(listing, RESERVED, "the reserved words of the man page")
 
 
+def offered(bash: str, *words: str) -> list[str]:
+    """What completion offers behind these words of a command line."""
+    line = " ".join(["geost", *words, "''"])
+    script = (
+        f"source {COMPLETION}; COMP_WORDS=({line}); COMP_CWORD={len(words) + 1}; _geost;"
+        " echo ${COMPREPLY[@]}"
+    )
+    done = subprocess.run([bash, "-c", script], stdout=subprocess.PIPE)
+    return done.stdout.decode().split()
+
+
 def check_completion(setting: Setting) -> None:
-    """What completion offers are words that the program knows."""
+    """Completion offers the words that `geost help` names, and the program knows what it offers."""
     bash = shutil.which("bash")
     if bash is None:
         raise Skipped("bash is not installed")
-    script = f"source {COMPLETION}; COMP_WORDS=(geost ''); COMP_CWORD=1; _geost; echo ${{COMPREPLY[@]}}"
-    words = subprocess.run([bash, "-c", script], stdout=subprocess.PIPE).stdout.decode().split()
-    if not words:
-        raise Failed("completion offers nothing")
-    numbers = {"first": ["100"], "all": ["10", "100"], "make": ["1", "8"]}
-    for word in words:
+    told = subprocess.run([TOP / "geost", "help"], stdout=subprocess.PIPE).stdout.decode()
+    named = set(re.findall(r"geost (-*[a-z]+)(?! boxes)\b", told)) - {"places"}
+    want(set(offered(bash)), named, "the words that are offered first")
+    own = {"help", "prove", "--version", "--program", "--proved"}
+    for word in sorted(named - own):
+        first = offered(bash, word)
+        second = offered(bash, word, first[0]) if first else []
+        words = [word, *first[:1], *second[:1]]
         status = 3 if word == "make" else 2
-        want(setting.program.ask([word, *numbers.get(word, [])], b"").status, status, f"the status of {word} on an empty text")
+        want(setting.program.ask(words, b"").status, status, f"the status of {words}")
 
 
 def check_statuses() -> None:

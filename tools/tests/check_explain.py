@@ -8,6 +8,7 @@ from pathlib import Path
 from harness import Case, Cases, Setting, run_tool, want, want_in
 
 MARK = "▮"
+MOST_COLUMNS = 160
 
 
 @dataclass(frozen=True)
@@ -122,13 +123,20 @@ def check(setting: Setting, case: Refusal, folder: Path) -> None:
 
 
 def check_caret(printed: str, text: str, line: int, column: int) -> None:
-    """The line stands there as it is written, and under it the mark at the same width of tabs and signs."""
+    """The line stands there as it is written, and under it the mark at the same width of tabs and
+    signs; of a very long line a part stands there."""
     content = text.replace(MARK, "").split("\n")[line - 1].rstrip("\r")
     lines = printed.split("\n")
     at = next(number for number, found in enumerate(lines) if f":{line}:{column}: " in found)
-    want(lines[at + 1], "    " + content, "the line")
     lead = lines[at + 2][4:].partition("^")[0]
-    want(lead, "".join("\t" if sign == "\t" else " " for sign in content[: column - 1]), "what stands before the caret")
+    if len(content) > MOST_COLUMNS:
+        part = lines[at + 1][4:].removeprefix(".. ").removesuffix(" ..")
+        want_in(part, content)
+        want(lines[at + 1][4 : 4 + len(lead)][-20:], content[: column - 1][-20:], "before the caret")
+        return
+    want(lines[at + 1], "    " + content, "the line")
+    blanks = "".join("\t" if sign == "\t" else " " for sign in content[: column - 1])
+    want(lead, blanks, "what stands before the caret")
 
 
 def cases(setting: Setting, folder: Path) -> Cases:

@@ -11,10 +11,10 @@ import sys
 from dataclasses import dataclass
 from pathlib import Path
 
-from harness import TOOLS, TOP, Case, Cases, Failed, Setting, Skipped, want, want_in
+from harness import TOOLS, TOP, Case, Cases, Failed, Setting, Skipped
+from harness import is_unproved, want, want_in
 
 MIRROR = "http://deb.debian.org/debian"
-UNPROVED_MARK = b"__asan_init"
 C_LIBRARY = {"libc.so.6", "libm.so.6", "libgcc_s.so.1", "ld-linux-x86-64.so.2"}
 EXAMPLE = TOP / "examples" / "two_boxes_on_a_line"
 
@@ -31,10 +31,6 @@ class Release:
         return self.folder / "libexec" / "geost_cli"
 
 
-def is_unproved(setting: Setting) -> bool:
-    return UNPROVED_MARK in Path(setting.program.path).read_bytes()
-
-
 def make(setting: Setting, folder: Path) -> subprocess.CompletedProcess[str]:
     words = [sys.executable, str(TOOLS / "release"), "--program", setting.program.path, str(folder)]
     return subprocess.run(words, capture_output=True, text=True)
@@ -44,7 +40,7 @@ def released(setting: Setting, folder: Path) -> Release:
     """The archive of the program that is tested, unpacked."""
     if shutil.which("rt") is None:
         raise Skipped("the kit's rt is not in the search path")
-    if is_unproved(setting):
+    if is_unproved(setting.program):
         raise Skipped("the program that is tested was built without its proofs")
     done = make(setting, folder)
     want((done.stderr, done.returncode), ("", 0), "what tools/release says")
@@ -78,7 +74,7 @@ def check_archive(setting: Setting, folder: Path) -> None:
     summed = re.findall(r"  (.*)$", (release.folder / "SHA256SUMS").read_text(), re.MULTILINE)
     files = [path for path in release.folder.rglob("*") if path.is_file()]
     want(len(summed), len(files) - 1, "files with a sum")
-    wanted = ["KIT", "VERSION", "NOTICES.md", "docs/TUTORIAL.md", "tools/explain", "tools/man/geost.1"]
+    wanted = ["KIT", "VERSION", "NOTICES.md", "docs/TUTORIAL.md", "tools/explain", "tools/lint"]
     missing = [name for name in wanted if not (release.folder / name).is_file()]
     want(missing, [], "files that are not in the archive")
     check_answers(release)

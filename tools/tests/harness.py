@@ -43,6 +43,14 @@ class Setting:
 Cases = Iterator[Case]
 
 
+UNPROVED_MARK = b"__asan_init"
+
+
+def is_unproved(program: Program) -> bool:
+    """Whether a program is one that the kit built without its proofs."""
+    return UNPROVED_MARK in Path(program.path).read_bytes()
+
+
 def want(given: object, wanted: object, what: str) -> None:
     if given != wanted:
         raise Failed(f"{what}: {given!r} in place of {wanted!r}")
