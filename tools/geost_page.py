@@ -4,11 +4,14 @@ from __future__ import annotations
 
 import json
 import re
+from dataclasses import asdict
 from html import escape
 from pathlib import Path
 
 from geost_grammar import GRAMMAR
 from geost_picture import Broken, Plan
+from geost_refusals import Row, format_rows
+from geost_slips import BEFORE_FORMULAS, CLASSES, NAMED, known_slips
 from geost_text import RESERVED, Placed, print_layout, print_problem
 
 SOURCE = Path(__file__).resolve().parent / "page" / "source"
@@ -45,7 +48,19 @@ def filled(template: str, parts: dict[str, str]) -> str:
 
 def language_data() -> dict[str, object]:
     """What the page's scripts have of the language from the files that the other tools read."""
-    return {"reserved": RESERVED, "grammar": GRAMMAR.read_text(encoding="utf-8")}
+    rows = {kind.value: [row_data(row) for row in rows] for kind, rows in format_rows().items()}
+    slips = {
+        "classes": CLASSES,
+        "named": NAMED,
+        "beforeFormulas": BEFORE_FORMULAS,
+        "known": [asdict(slip) for slip in known_slips()],
+    }
+    grammar = GRAMMAR.read_text(encoding="utf-8")
+    return {"reserved": RESERVED, "grammar": grammar, "rows": rows, "slips": slips}
+
+
+def row_data(row: Row) -> dict[str, object]:
+    return {"words": row.words, "where": row.where, "advice": row.advice}
 
 
 def broken_data(broken: Broken) -> dict[str, object]:

@@ -11,8 +11,9 @@ from collections.abc import Iterable, Iterator
 from dataclasses import dataclass, field, replace
 from itertools import combinations, pairwise, product
 
-from geost_blame import Judge, as_formula, without_twins
+from geost_blame import carried_out, inquiry_of, without_twins
 from geost_program import Program
+from geost_questions import Questions
 from geost_text import Apart, Placed, Problem, Within, statements
 
 Rect = tuple[int, int, int, int]
@@ -96,17 +97,16 @@ def boxes_at(problem: Problem, placed: Placed) -> tuple[Cuboid, ...]:
 
 
 def broken_rules(program: Program, problem: Problem, layout: list[Placed]) -> tuple[Broken, ...]:
-    """Every rule that the layout breaks, by asking the program about one rule at a time."""
-    judge = Judge(program, problem, layout)
+    """Every rule that the layout breaks, as the program judges its parts."""
+    inquiries = [inquiry_of(rule, problem, layout) for rule in problem.rules]
+    blames = carried_out(inquiries, Questions(program, problem, layout))
     spelled = {line.split()[1]: line for line in statements(problem) if line.startswith("rule ")}
     found: list[Broken] = []
-    for rule in problem.rules:
-        if not judge.holds(rule.body):
-            blames = without_twins(judge.blames((), as_formula(rule.body, problem.dims)))
-            groups = tuple(blame.objects for blame in blames)
-            found.append(
-                Broken(rule.name, spelled[rule.name], groups, isinstance(rule.body, Apart))
-            )
+    for rule, blamed in zip(problem.rules, blames):
+        if blamed:
+            groups = tuple(blame.objects for blame in without_twins(blamed))
+            is_apart = isinstance(rule.body, Apart)
+            found.append(Broken(rule.name, spelled[rule.name], groups, is_apart))
     return tuple(found)
 
 

@@ -73,6 +73,16 @@ const Blame = (() => {
       }
       return found;
     }
+    // The pairs among these for which the body of two `forall` does not hold.
+    async blamesOfPairs(pairs, formula) {
+      const variables = [formula.variable, formula.body.variable];
+      const found = [];
+      for (const pair of pairs) {
+        const prefix = pair.map((name, n) => ({ variable: variables[n], name }));
+        if (!(await this.holdsUnder(prefix, formula.body.body.text))) found.push(pair);
+      }
+      return found;
+    }
     async blamesOfEach(prefix, formula) {
       const found = [];
       for (const name of await this.breaking(prefix, formula, this.elements(formula))) {
@@ -101,6 +111,17 @@ const Blame = (() => {
   }
 
   class NotAsked extends Error {}
+
+  // The pairs of things whose least boxes have a cell in common.
+  function meetingPairs(problem, things) {
+    const around = things.map((thing) => Cells.hull(thing.boxes, problem.dims));
+    return things.flatMap((one, n) => {
+      const others = Cells.counted(things.length).slice(n + 1);
+      return others.filter((m) => {
+        return Cells.meet(around[n], around[m]);
+      }).map((m) => [one.name, things[m].name]);
+    });
+  }
 
   // The statement of an object that may only stand where it is.
   function fixedLine(thing) {
@@ -133,9 +154,15 @@ const Blame = (() => {
     ]);
     return `forall p in objects : forall s in boxes of p : [ ${parts.join(" and ")} ]`;
   }
-  function formulaOf(rule, dims) {
-    if (rule.isApart) return apartFormula(dims);
-    return rule.within ? withinFormula(rule.within) : rule.body;
+  // The groups that break a rule that does not hold. Of `apart` only those pairs are asked whose
+  // least boxes meet.
+  function groupsOf(judge, rule, problem, things) {
+    if (rule.isApart) {
+      return judge.blamesOfPairs(
+        meetingPairs(problem, things), Formulas.read(apartFormula(problem.dims)),
+      );
+    }
+    return judge.blames([], Formulas.read(rule.within ? withinFormula(rule.within) : rule.body));
   }
 
   // One group for each set of objects.
@@ -153,9 +180,7 @@ const Blame = (() => {
     const found = [];
     for (const rule of problem.rules) {
       if (await judge.holds(rule.body)) continue;
-      const groups = withoutTwins(
-        await judge.blames([], Formulas.read(formulaOf(rule, problem.dims)))
-      );
+      const groups = withoutTwins(await groupsOf(judge, rule, problem, things));
       found.push({ ...rule, groups, names: Cells.unique(groups.flat()) });
     }
     return found;

@@ -141,7 +141,7 @@ const Editors = (() => {
   // Shows a refusal at its place; answers the editor and the position.
   function refuse(word, place, layout) {
     const fault = Refusals.explain(word, place, problemText(), layout);
-    const editor = fault.isInLayout ? plan : problem;
+    const editor = fault.isSecond ? plan : problem;
     const [from, to] = [editor.posFromIndex(fault.from), editor.posFromIndex(fault.to)];
     clear("faults");
     const isEmpty = from.line === to.line && from.ch === to.ch;
@@ -149,7 +149,7 @@ const Editors = (() => {
     const marker = editor.markText(begin, to, { className: "fault" });
     marks.faults.push(() => marker.clear());
     markLine(editor, Math.min(from.line, editor.lastLine()), "faults", "faultline");
-    const where = `${fault.isInLayout ? "plan, " : ""}line ${from.line + 1}, column ${from.ch + 1}`;
+    const where = `${fault.isSecond ? "plan, " : ""}line ${from.line + 1}, column ${from.ch + 1}`;
     const lines = fault.lines.map(safe).join("\n").replace(/`([^`]*)`/g, "<code>$1</code>");
     say("bad", `<b>${where}: refused, ${safe(word)}</b>\n${lines}`);
     return { editor, from };
