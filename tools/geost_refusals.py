@@ -11,6 +11,7 @@ from dataclasses import dataclass, replace
 from enum import Enum
 from functools import cached_property
 
+from geost_grammar import first_fault
 from geost_program import TOP
 from geost_slips import advice, marked_statement
 from geost_text import (
@@ -446,14 +447,9 @@ def is_unended(refusal: Refusal) -> bool:
 
 
 def syntax_fault(refusal: Refusal) -> TextFault | None:
-    """The fault of the grammar as the reader of these scripts finds it."""
-    reader = Reader(refusal.tokens, len(refusal.source.text))
-    try:
-        reader.layout() if refusal.kind is Kind.LAYOUT else reader.problem()
-        reader.finish()
-    except TextFault as fault:
-        return fault
-    return None
+    """The fault of the grammar, with what may stand at its place."""
+    rule = "layout" if refusal.kind is Kind.LAYOUT else "problem"
+    return first_fault(rule, refusal.tokens, len(refusal.source.text))
 
 
 def unknown_hints(refusal: Refusal) -> list[str]:
