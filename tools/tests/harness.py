@@ -66,6 +66,15 @@ def want_in(part: str, text: str) -> None:
         raise Failed(f"{part!r} does not stand in\n{text}")
 
 
+def run_plain(name: str, arguments: list[str], text: str = "") -> str:
+    """What a script that asks no program prints. Failed where it ends with another status than 0."""
+    command = [sys.executable, str(TOOLS / name), *arguments]
+    done = subprocess.run(command, input=text.encode(), capture_output=True)
+    if done.returncode != 0:
+        raise Failed(f"tools/{name}: {done.stderr.decode()}")
+    return done.stdout.decode()
+
+
 def run_tool(name: str, setting: Setting, arguments: list[str], text: bytes | str = b"") -> tuple[str, int]:
     """What a script prints on both streams, and its status."""
     given = text.encode() if isinstance(text, str) else text
