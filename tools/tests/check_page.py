@@ -299,7 +299,7 @@ def check_drag(setting: Setting) -> None:
         ).text.split()[1]
         want_in(broken, page.message())
         page.picture("dragged")
-        page.click("#flat g[data-name=stove]")
+        # what was dragged is picked
         while next(one for one in page.plan().split("\n") if one.startswith("stove")) != line:
             page.keys(LEFT)
         page.told("every rule holds")
