@@ -1,5 +1,6 @@
 """The page in Firefox, without a web driver: a copy of the page runs examples, presses buttons,
-moves an object and stops a search by a script of its own, and sends to this test what came of it."""
+moves an object and stops a search by a script of its own, and sends what came of it to this
+test."""
 
 from __future__ import annotations
 

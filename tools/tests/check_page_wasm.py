@@ -17,13 +17,7 @@ from harness import TOOLS, Case, Cases, Failed, Setting, want
 PAGE = TOOLS / "page"
 sys.path.insert(0, str(PAGE))
 
-from retargeting import (
-    ENTRY,
-    retargeting.UnknownLine,
-    retargeted,
-    rewritten_constant,
-    rewritten_line,
-)  # noqa: E402
+import retargeting  # noqa: E402
 
 CLANG = Path(os.environ.get("RATTLE_KIT", "/opt/rattle")) / "toolchain" / "bin" / "clang"
 TARGET = "--target=wasm32-unknown-unknown -O2 -nostdlib --no-default-config".split()
@@ -86,9 +80,9 @@ def check_unknown() -> None:
         except retargeting.UnknownLine:
             continue
         raise Failed("a module without the entry is taken")
-    want(
-        f"define i32 @{ENTRY}()" in retargeted(f"define internal i32 @{ENTRY}()"), True, "the entry"
-    )
+    entry = f"define i32 @{retargeting.ENTRY}()"
+    made = retargeting.retargeted(entry.replace("define", "define internal"))
+    want(made, entry, "the entry")
 
 
 def module_of_numbers(folder: Path) -> Path:

@@ -1,5 +1,5 @@
-// Products and shifts of 128 bits by the calls of tools/page/c/numbers.c, for the test of them: numbers come
-// as halves, and the halves of what comes out stand in `answer`.
+// Products and shifts of 128 bits by the calls of tools/page/c/numbers.c, for the test of them:
+// numbers come as halves, and the halves of what comes out stand in `answer`.
 
 typedef unsigned long long u64;
 typedef unsigned __int128 u128;
