@@ -73,6 +73,10 @@ class Look:
         """The fill in a plane, where what is pale hides what lies behind it all the same."""
         return lit(self.fill(thing), PALE) if self.is_faded(thing) else self.fill(thing)
 
+    def rank(self, piece: Piece) -> tuple[int, bool]:
+        """Pieces are drawn by this: the farthest first, of equal ones the blamed behind others."""
+        return piece.nearness, piece.thing.name in self.blamed
+
     def classes(self, thing: Thing) -> str:
         if thing.name in self.blamed:
             return "thing blamed"
@@ -208,7 +212,7 @@ def draw_plane(
 ) -> Drawing:
     """The things as seen along the plane's depth; with a slab, what lies in it alone."""
     paper = paper_for(frame_of(plan), plane, *size)
-    pieces = pieces_of(plan.things, plane, slab)
+    pieces = sorted(pieces_of(plan.things, plane, slab), key=look.rank)
     place = f'data-right="{plane.right}" data-up="{plane.up}" data-scale="{n(paper.scale)}"'
     parts = [f'<g class="plan" {place}>']
     parts += [text_at(paper.left, 16, title, "title"), *draw_room(paper)]
@@ -253,7 +257,7 @@ class Piece:
 
 
 def pieces_of(things: Iterable[Thing], plane: Plane, slab: Slab | None) -> list[Piece]:
-    """The pieces of all things, the farthest first."""
+    """The pieces of all things."""
     found: list[Piece] = []
     for thing in things:
         boxes = [box for box in thing.boxes if slab is None or is_in_slab(box, slab)]
@@ -263,7 +267,7 @@ def pieces_of(things: Iterable[Thing], plane: Plane, slab: Slab | None) -> list[
             ]
             outline = outline_of(rects)
             found.append(Piece(thing, nearness, outline.parts, outline.segments))
-    return sorted(found, key=lambda piece: piece.nearness)
+    return found
 
 
 def draw_piece(paper: Paper, look: Look, piece: Piece) -> str:

@@ -142,6 +142,7 @@ class Page:
 
     def write(self, problem: str, plan: str = "") -> None:
         """Puts both texts into their editors."""
+        self.script("document.getElementById('message').textContent = '';")
         self.script("Editors.setPlan(arguments[0]);", plan)
         self.script("Editors.problem().setValue(arguments[0]);", problem)
 

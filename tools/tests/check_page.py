@@ -299,7 +299,7 @@ def check_drag(setting: Setting) -> None:
         ).text.split()[1]
         want_in(broken, page.message())
         page.picture("dragged")
-        page.click("#flat g[data-name=stove]")
+        # what was dragged is picked
         while next(one for one in page.plan().split("\n") if one.startswith("stove")) != line:
             page.keys(LEFT)
         page.told("every rule holds")
@@ -308,15 +308,17 @@ def check_drag(setting: Setting) -> None:
 def check_link(setting: Setting) -> None:
     """A link carries the problem and the plan; a file is opened."""
     text = read("kitchen.geost").replace("sink", "basin")
+    plan = native(setting.program, Run(("first", "1000"), text)).text
     with opened(made_page(), "#kitchen") as page:
         page.told("the text is a problem")
-        page.write(text, "layout\n# a plan\n")
+        page.write(text, plan)
+        page.told("every rule holds")
         page.press("link", "the link that carries")
         address = page.script("return location.hash;")
     with opened(made_page(), address) as page:
         page.until(lambda: "basin" in page.script("return Editors.problemText();"), "the problem")
         want(page.script("return Editors.problemText();"), text, "the problem")
-        want(page.plan(), "layout\n# a plan\n", "the plan")
+        want(page.plan(), plan, "the plan")
         files = "new File([given[0]], 'mine.geost')"
         page.later(
             f"Files.openFile({files}); await 0;", read("schedule.geost") + read("schedule_wet.plan")

@@ -115,18 +115,19 @@ const Commands = (() => {
     const layout = shown.layouts[shown.at] || { places: new Map() };
     const things = Cells.placedThings(shown.problem, layout);
     Editors.markBroken(broken);
-    Picture.show({ problem: shown.problem, things, broken, isNew, view });
+    const first = view || (Picture.state.view ? null : askedView());
+    Picture.show({ problem: shown.problem, things, broken, isNew, view: first });
   }
 
+  // Shows layouts of an answer, or the answer where it has none. The view stays where it fits.
   function take(problem, layouts, answer, from = 1) {
+    const { problem: last, view } = Picture.state;
+    const isOther = view === "answer" || !last || last.dims !== problem.dims;
+    if (isOther) Picture.state.view = null;
     Object.assign(shown, { problem, layouts, at: 0, from, answer });
     if (layouts.length) Editors.setPlan(layouts[0].text);
     cards();
-    const isOther = !Picture.state.problem || Picture.state.problem.dims !== problem.dims;
-    showLayout(
-      [],
-      { isNew: true, view: layouts.length ? askedView() || (isOther ? "usual" : null) : "answer" },
-    );
+    showLayout([], { isNew: true, view: layouts.length ? null : "answer" });
   }
 
   function card(layout, k, colours) {

@@ -131,8 +131,9 @@ const Flat = (() => {
     return plane.isFromHigh ? box.high[plane.depth] : -box.low[plane.depth];
   }
 
-  // The pieces of all things that end equally near to the eye, the farthest first.
-  function piecesOf(things, plane, slab) {
+  // The pieces of all things that end equally near to the eye, the farthest first; of equal ones
+  // those of blamed things behind others, and that of the picked thing last.
+  function piecesOf(things, plane, slab, { look, picked }) {
     const found = things.flatMap((thing) => {
       const boxes = thing.boxes.filter((box) => Cells.isInSlab(box, slab));
       return Cells.unique(boxes.map((box) => nearness(box, plane))).map((near) => {
@@ -141,7 +142,8 @@ const Flat = (() => {
         return { thing, near, ...Cells.outline(rects) };
       });
     });
-    return found.sort((a, b) => a.near - b.near);
+    const rank = ({ thing }) => (thing.name === picked ? 2 : Number(look.isBlamed(thing)));
+    return found.sort((a, b) => a.near - b.near || rank(a) - rank(b));
   }
 
   function pieceParts(paper, piece, options) {
@@ -179,7 +181,7 @@ const Flat = (() => {
   function plane(things, frame, options) {
     const { plane: seen, slab = [], overlaps = [], isPlain = false } = options;
     const paper = paperFor(frame, seen, options.width, options.height, isPlain);
-    const pieces = piecesOf(things, seen, slab);
+    const pieces = piecesOf(things, seen, slab, options);
     const shared = overlaps.filter((box) => Cells.isInSlab(box, slab)).map((box) => {
       const title = `<title>${safe(box.names.join(" and "))} share these cells</title>`;
       const span = paper.span(Cells.rectOf(box, seen.right, seen.up));

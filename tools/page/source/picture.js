@@ -96,8 +96,9 @@ const Picture = (() => {
 
   function sliceSlider(d, around) {
     const ends = `min="${around.low[d]}" max="${around.high[d] - 1}" value="${around.low[d]}"`;
-    const slider = `<input type="range" data-dimension="${d}" ${ends}>`;
-    return `<label>x${d + 1} = <output></output> ${slider}</label>`;
+    const id = `slice${d + 1}`;
+    const slider = `<input type="range" id="${id}" data-dimension="${d}" ${ends}>`;
+    return `<span><label for="${id}">x${d + 1} = </label><output></output> ${slider}</span>`;
   }
 
   function settleSliders(isNew) {
