@@ -1,10 +1,10 @@
 """Each problem that stands in a document runs, and its answer is the one that stands under it.
 
 A document's blocks are fenced. `geost` is a problem, which holds until the next one. Under it
-stand, in any number: `text first N`, what that prints; `text plan`, a layout, and then `text judged`, its
-verdict; `text explained WORDS`, what tools/explain prints for a command over the problem (and the
-plan); `text rows N`, the table of its first layout. `text table SPACE` is a table whose problem
-stands in the document too. Answers and verdicts are also those of the second meaning.
+stand, in any number: `text first N`, what that prints; `text plan`, a layout, and then `text
+judged`, its verdict; `text explained WORDS`, what tools/explain prints for a command over the
+problem (and the plan); `text rows N`, the table of its first layout. `text table SPACE` is a table
+whose problem stands in the document too. Answers and verdicts are also those of the second meaning.
 """
 
 from __future__ import annotations
