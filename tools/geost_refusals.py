@@ -1,5 +1,5 @@
-"""What a refusal of the program means: the line and column, the sentence of docs/FORMAT.md, and what
-to write instead.
+"""What a refusal of the program means: the line and column, the sentence of docs/FORMAT.md, and
+what to write instead.
 """
 
 from __future__ import annotations
@@ -650,7 +650,7 @@ def layout_order_hints(refusal: Refusal) -> list[str]:
             f"the line of `{names[len(before)]}` has to stand here: write one line for each object,"
             " in the sequence of the problem"
         ]
-    return [f"the problem has {len(names)} objects, and each has its line already"]
+    return [f"the problem has {len(names)} objects, and each has its line already: write no other"]
 
 
 def layout_object(refusal: Refusal) -> str:
@@ -676,7 +676,12 @@ def layout_range_hints(refusal: Refusal) -> list[str]:
     start = next(n for n in range(refusal.index, 0, -1) if refusal.tokens[n].text == "at")
     dimension = sum(token.kind == "number" for token in refusal.tokens[start : refusal.index])
     low, high = made.object(layout_object(refusal)).ranges[dimension]
-    return [f"x{dimension + 1} of `{layout_object(refusal)}` lies in {low}..{high}"]
+    where = f"x{dimension + 1} of `{layout_object(refusal)}` lies in {low}..{high}"
+    return [f"{where}: write a number from there, or another range into the problem"]
+
+
+def layout_limit_hints(refusal: Refusal) -> list[str]:
+    return [f"{refusal.dims()} coordinates are wanted: write one for each dimension"]
 
 
 PROBLEM_HINTS: dict[str, Finder] = {
@@ -696,7 +701,7 @@ PROBLEM_HINTS: dict[str, Finder] = {
 LAYOUT_HINTS: dict[str, Finder] = {
     "order": layout_order_hints,
     "unknown": layout_unknown_hints,
-    "limit": lambda refusal: [f"{refusal.dims()} coordinates are wanted: one for each dimension"],
+    "limit": layout_limit_hints,
     "range": layout_range_hints,
     "token": lambda refusal: [],
 }
