@@ -247,6 +247,14 @@ def check_notices() -> None:
     want(unnamed, [], "libraries without a notice")
 
 
+def check_measurements() -> None:
+    """CONTRIBUTING names each measurement of bench/."""
+    text = (TOP / "CONTRIBUTING.md").read_text()
+    scripts = [path for path in (TOP / "bench").iterdir() if path.is_file() and not path.suffix]
+    unnamed = [path.name for path in scripts if not re.search(rf"`(bench/)?{path.name}`", text)]
+    want(sorted(unnamed), [], "measurements that are not named")
+
+
 # Layers
 
 
@@ -346,6 +354,7 @@ def cases(setting: Setting, folder: Path) -> Cases:
     yield Case("front: README", check_readme)
     yield Case("front: VERSION and CHANGELOG", check_version)
     yield Case("front: NOTICES", check_notices)
+    yield Case("front: measurements", check_measurements)
     yield Case("front: layers", check_layers)
     yield Case("front: what stands on what", check_order_of_layers)
     yield Case("front: the way of a text", check_ways)
