@@ -150,6 +150,11 @@ def check_failed_build(folder: Path) -> None:
     want(checkout.built(), 2, "builds")
 
 
+def hear_interrupts() -> None:
+    """Ctrl-C ends a process, also where these tests run behind a shell that ignores it."""
+    signal.signal(signal.SIGINT, signal.SIG_DFL)
+
+
 def check_stopped(folder: Path) -> None:
     """A build that is stopped leaves neither a process nor a program nor a folder behind."""
     pid = folder / "pid"
@@ -162,6 +167,7 @@ def check_stopped(folder: Path) -> None:
         stdout=subprocess.PIPE,
         stderr=subprocess.DEVNULL,
         env={**checkout.surroundings(), "TMPDIR": str(rooms)},
+        preexec_fn=hear_interrupts,
         start_new_session=True,
     )
     until = time.monotonic() + LONGEST_WAIT
