@@ -12,7 +12,7 @@ from collections.abc import Iterator
 from dataclasses import dataclass
 from pathlib import Path
 
-from harness import TOP, Case, Cases, Failed, Setting, want, want_in
+from harness import TOP, Case, Cases, Failed, Setting, hear_interrupts, want, want_in
 
 MOST_README_LINES = 80
 LONGEST_WAIT = 30
@@ -148,11 +148,6 @@ def check_failed_build(folder: Path) -> None:
     want_in("no such crate", said.told)
     want(checkout.call("first", "100").status, 70, "the status of a second call")
     want(checkout.built(), 2, "builds")
-
-
-def hear_interrupts() -> None:
-    """Ctrl-C ends a process, also where these tests run behind a shell that ignores it."""
-    signal.signal(signal.SIGINT, signal.SIG_DFL)
 
 
 def check_stopped(folder: Path) -> None:
