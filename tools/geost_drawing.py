@@ -4,7 +4,6 @@ from __future__ import annotations
 
 from collections.abc import Iterable
 from dataclasses import dataclass
-from itertools import count
 from pathlib import Path
 from xml.sax.saxutils import escape, quoteattr
 
@@ -124,11 +123,10 @@ def lines(ends: Iterable[tuple[float, float, float, float]], classes: str) -> st
 
 def step_for(scale: float, least: float) -> int:
     """The least of 1, 2, 5, 10, 20 .. cells that are so many pixels apart."""
-    for power in count():
-        for digit in (1, 2, 5):
-            if digit * 10**power * scale >= least:
-                return digit * 10**power
-    raise AssertionError
+    ten = 1
+    while 5 * ten * scale < least:
+        ten *= 10
+    return next(digit * ten for digit in (1, 2, 5) if digit * ten * scale >= least)
 
 
 def ticks(low: int, high: int, step: int) -> range:
