@@ -14,6 +14,7 @@ const Solid = (() => {
   const START = { turn: -0.95, tilt: 0.5, zoom: 1, shift: [0, 0] };
   const SHARED = "#b00020";
   const [LINE, GREY] = ["#20262d", "#8a949f"];
+  const FONT = '"DejaVu Sans", system-ui, sans-serif';
 
   // ---- faces and their tree
 
@@ -339,14 +340,15 @@ const Solid = (() => {
 
   // ---- pens
 
+  function writeOn(context, text, [x, y], fill, font) {
+    const place = { textAlign: "center", textBaseline: "middle" };
+    Object.assign(context, { globalAlpha: 1, fillStyle: fill, font, ...place });
+    context.fillText(text, x, y);
+  }
+
   function canvasPen(context) {
     const trace = (points) => {
       points.forEach(([x, y], n) => (n ? context.lineTo(x, y) : context.moveTo(x, y)));
-    };
-    const note = (text, x, y, fill, font) => {
-      const place = { textAlign: "center", textBaseline: "middle" };
-      Object.assign(context, { fillStyle: fill, font, ...place });
-      context.fillText(text, x, y);
     };
     return {
       polygon(points, { fill, stroke, width, alpha = 1 }) {
@@ -369,15 +371,12 @@ const Solid = (() => {
       },
       text({ text, matrix, fill }) {
         context.save();
-        context.globalAlpha = 1;
         context.transform(...matrix);
-        note(text, 0, 0, fill, '1px "DejaVu Sans", system-ui, sans-serif');
+        writeOn(context, text, [0, 0], fill, `1px ${FONT}`);
         context.restore();
       },
-      note(text, [x, y], { fill, size, isBold }) {
-        context.globalAlpha = 1;
-        const font = `${size}px "DejaVu Sans", system-ui, sans-serif`;
-        note(text, x, y, fill, isBold ? `bold ${font}` : font);
+      note(text, spot, { fill, size, isBold }) {
+        writeOn(context, text, spot, fill, `${isBold ? "bold " : ""}${size}px ${FONT}`);
       },
     };
   }
