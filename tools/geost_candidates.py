@@ -11,7 +11,7 @@ from typing import TypeVar
 
 from geost_narrowing import all_zones, by_earlier, rules_with_support_by_any
 from geost_orders import all_sides, interleaved_orders, least_volume, stated_orders
-from geost_text import Object, Problem, print_object, print_rule
+from geost_text import Object, Placed, Problem, print_object, print_rule
 
 FEW = 6
 Item = TypeVar("Item")
@@ -129,6 +129,22 @@ def shuffled(problem: Problem, seed: int) -> Candidate:
         if len(thing.shapes) > 1
     )
     return Candidate(f"shuffled {seed}", order, sides, things if seed % 2 else ())
+
+
+def leading_to(problem: Problem, layout: list[Placed]) -> Iterator[Candidate]:
+    """Ways that may lead to a layout like this one: its objects from one corner of the room on, each
+    with the shape first that it has there."""
+    shapes = {placed.name: placed.shape for placed in layout}
+    things = tuple(
+        replace(thing, shapes=(shape, *(name for name in thing.shapes if name != shape)))
+        for thing in problem.objects
+        for shape in (shapes[thing.name],)
+    )
+    changed = tuple(new for old, new in zip(problem.objects, things) if new != old)
+    for axes in itertools.permutations(range(problem.dims)):
+        placed = sorted(layout, key=lambda each: [each.origin[axis] for axis in axes])
+        name = f"from a layout by {', '.join(f'x{axis + 1}' for axis in axes)}"
+        yield Candidate(name, tuple(each.name for each in placed), ("low",) * problem.dims, changed)
 
 
 def in_turn(families: list[Iterator[Item]]) -> Iterator[Item]:

@@ -11,13 +11,13 @@ from geost_text import TextFault
 CANNOT, STOPPED = 70, 130
 
 
-def status_of(name: str, main: Callable[[], int]) -> int:
+def status_of(name: str, main: Callable[[], int | None]) -> int:
     """The status of a script's `main`. A fault of a file or of the program is said in a line;
     Ctrl-C leaves what was printed so far, says that it was stopped, and gives 130."""
     try:
         status = main()
         sys.stdout.flush()
-        return status
+        return status or 0
     except KeyboardInterrupt:
         print(f"\n{name}: stopped; what is known so far stands above", file=sys.stderr)
         return STOPPED

@@ -6,6 +6,7 @@ They are made by `all 1 N`, which keeps no derivation, so that a long one takes 
 from __future__ import annotations
 
 import os
+import shutil
 import signal
 import subprocess
 import sys
@@ -21,6 +22,8 @@ from typing import IO, Generic, TypeVar
 from geost_program import ANSWERED, BUDGET, Answer, Program
 from geost_text import Placed, Problem, print_layout, print_problem, read_layout
 
+PROPOSE = str(Path(__file__).resolve().parent / "propose")
+NO_LAYOUT = "that there is no layout"
 PAUSE = 0.004
 LINE = 79
 What = TypeVar("What")
@@ -78,6 +81,10 @@ def outcome_of(answer: Answer, seconds: float) -> Outcome:
     return Outcome(Verdict.OTHER, answer.text, seconds)
 
 
+def has_z3() -> bool:
+    return shutil.which("z3") is not None
+
+
 @dataclass
 class Run(Generic[What]):
     """A process of the program, and what it is for."""
@@ -117,6 +124,15 @@ def seconds_taken(process: int, began: float) -> float:
         return time.monotonic() - began
 
 
+@dataclass(frozen=True)
+class Task(Generic[What]):
+    """A problem to be searched, by the program or by z3, and what it is for."""
+
+    what: What
+    problem: Problem
+    by_z3: bool = False
+
+
 class Runs(Generic[What]):
     """The runs that go on, at most one for each processor. All are stopped where the block ends."""
 
@@ -140,14 +156,18 @@ class Runs(Generic[What]):
     def has_room(self) -> bool:
         return len(self.going) < self.processors
 
-    def start(self, what: What, problem: Problem, steps: int, seconds: float) -> None:
+    def start(self, task: Task[What], steps: int, seconds: float) -> None:
+        """Starts a search of the program, or z3 by tools/propose."""
+        words = [self.program.path, "all", "1", str(steps)]
+        if task.by_z3:
+            limit = ["--program", self.program.path, "--seconds", str(seconds)]
+            words = [sys.executable, PROPOSE, *limit]
         text = tempfile.TemporaryFile()
-        text.write(print_problem(problem).encode())
+        text.write(print_problem(task.problem).encode())
         text.seek(0)
         output = tempfile.TemporaryFile()
-        words = [self.program.path, "all", "1", str(steps)]
         process = subprocess.Popen(words, stdin=text, stdout=output, start_new_session=True)
-        self.going.append(Run(what, process, output, seconds))
+        self.going.append(Run(task.what, process, output, seconds))
 
     def ended(self) -> Iterator[tuple[What, Outcome]]:
         """The runs that ended since the last look, each with its outcome."""
@@ -171,18 +191,18 @@ class Limits:
 
 
 def search_each(
-    program: Program, processors: int, limits: Limits, problems: Iterable[tuple[What, Problem]]
+    program: Program, processors: int, limits: Limits, tasks: Iterable[Task[What]]
 ) -> Iterator[tuple[What, Outcome]]:
-    """The outcome of a search for each problem, as they come, until the time is over."""
-    waiting = iter(problems)
+    """The outcome of a search for each task, as they come, until the time is over."""
+    waiting = iter(tasks)
     is_empty = False
     with Runs[What](program, processors) as runs:
         while limits.left() > 0 and not (is_empty and not runs.going):
             while not is_empty and runs.has_room():
-                following = next(waiting, None)
-                is_empty = following is None
-                if following is not None:
-                    runs.start(*following, limits.steps, limits.seconds)
+                task = next(waiting, None)
+                is_empty = task is None
+                if task is not None:
+                    runs.start(task, limits.steps, min(limits.seconds, max(1.0, limits.left())))
             yield from runs.ended()
             time.sleep(PAUSE)
 

@@ -70,7 +70,10 @@ class Linear:
 
     def printed(self) -> str:
         """The variables' part."""
-        terms = [f"(* {printed_number(factor)} {name})" if factor != 1 else name for name, factor in self.factors]
+        terms = [
+            f"(* {printed_number(factor)} {name})" if factor != 1 else name
+            for name, factor in self.factors
+        ]
         return f"(+ {' '.join(terms)})" if len(terms) > 1 else terms[0]
 
 
@@ -154,7 +157,9 @@ class Writer:
 
     def box_field(self, thing: Object, letter: str, dimension: int) -> Linear:
         """An offset (`t`) or a length (`l`) of the one box of an object."""
-        values = {self.box_value(self.shapes[name].boxes[0], letter, dimension) for name in thing.shapes}
+        values = {
+            self.box_value(self.shapes[name].boxes[0], letter, dimension) for name in thing.shapes
+        }
         if len(values) == 1:
             return Linear(values.pop())
         return Linear(0, ((f"{letter}{dimension + 1}_{thing.name}", 1),))
@@ -170,7 +175,8 @@ class Writer:
                     yield f"(assert (<= {printed_number(low)} {name} {printed_number(high)}))"
             for name, _ in self.shape_number(thing).factors:
                 yield f"(declare-const {name} Int)"
-                yield f"(assert {disjunction([self.has_shape(thing, shape) for shape in thing.shapes])})"
+                shapes = disjunction([self.has_shape(thing, shape) for shape in thing.shapes])
+                yield f"(assert {shapes})"
             if self.has_one_box(thing):
                 yield from self.declarations_of_box(thing)
 
@@ -179,7 +185,9 @@ class Writer:
             for name, _ in self.box_field(thing, letter, dimension).factors:
                 yield f"(declare-const {name} Int)"
                 for shape in thing.shapes:
-                    value = printed_number(self.box_value(self.shapes[shape].boxes[0], letter, dimension))
+                    value = printed_number(
+                        self.box_value(self.shapes[shape].boxes[0], letter, dimension)
+                    )
                     yield f"(assert (=> {self.has_shape(thing, shape)} (= {name} {value})))"
 
     # Expressions
@@ -198,7 +206,9 @@ class Writer:
                 return self.linear(inner, known).times(-1)
             case Extreme(word, left, right):
                 pick = min if word == "min" else max
-                return Linear(pick(self.linear(left, known).constant, self.linear(right, known).constant))
+                return Linear(
+                    pick(self.linear(left, known).constant, self.linear(right, known).constant)
+                )
             case Call(_, name, _):
                 macro, inside = self.called(expr, known)
                 return self.value(macro.body, inside)  # type: ignore[arg-type]
@@ -221,7 +231,9 @@ class Writer:
             case "-":
                 return left.plus(right, -1)
             case "*":
-                return left.times(right.constant) if not right.factors else right.times(left.constant)
+                return (
+                    left.times(right.constant) if not right.factors else right.times(left.constant)
+                )
             case "div":
                 return Linear(left.constant // right.constant)
         return Linear(left.constant % right.constant)
@@ -279,7 +291,9 @@ class Writer:
         """A quantifier over its elements, each with the condition under which it is one."""
         parts: list[tuple[str, str]] = []
         for condition, element in self.elements(formula, known):
-            parts.append((condition, self.formula(formula.body, {**known, formula.variable: element})))
+            parts.append(
+                (condition, self.formula(formula.body, {**known, formula.variable: element}))
+            )
         if formula.kind == "forall":
             return conjunction([disjunction([negation(given), body]) for given, body in parts])
         held = [conjunction([given, body]) for given, body in parts]
@@ -292,11 +306,17 @@ class Writer:
         if formula.boxes_of is None:
             names = formula.listed if formula.listed is not None else self.objects
             return [(TRUE, self.objects[name]) for name in names]
-        owner = known[formula.boxes_of] if formula.boxes_of in known else self.objects[formula.boxes_of]
+        owner = (
+            known[formula.boxes_of] if formula.boxes_of in known else self.objects[formula.boxes_of]
+        )
         assert isinstance(owner, Object)
         if self.has_one_box(owner):
             return [(TRUE, AnyBox(owner))]
-        return [(self.has_shape(owner, name), box) for name in owner.shapes for box in self.shapes[name].boxes]
+        return [
+            (self.has_shape(owner, name), box)
+            for name in owner.shapes
+            for box in self.shapes[name].boxes
+        ]
 
     # Rules
 

@@ -39,8 +39,11 @@ class Search:
     problem: Problem
     effort: Effort
     is_stated: bool = False
+    by_z3: bool = False
 
     def said(self) -> str:
+        if self.by_z3:
+            return "proposed by z3"
         if self.is_stated:
             return f"by first {self.effort.steps} in the order {self.way.name}"
         return f"by placing parts of a layout anew, from the order {self.way.name}"
@@ -57,6 +60,11 @@ def repeated(problem: Problem, way: Candidate, effort: Effort) -> Strategy:
         if not outcome.is_open():
             return
         effort = effort.times(GROWTH)
+
+
+def proposed(problem: Problem, way: Candidate, seconds: float) -> Strategy:
+    """One proposal of z3 for the problem as stated."""
+    yield Search(way, problem, Effort(0, seconds), by_z3=True)
 
 
 def movable(problem: Problem) -> list[str]:

@@ -9,6 +9,14 @@ const Refusals = (() => {
   const LONGEST_NAME = 40;
   const [LEAST_LIKENESS, MOST_NEAR, MOST_LISTED] = [0.6, 3, 12];
   const [PROBLEM, LAYOUT, DERIVATION] = ["problem", "layout", "derivation"];
+  // What is wanted where such a word may stand, the first one that may.
+  const WANTED = [
+    ["rule", "a statement begins here: write one of these words first"],
+    ["<=", "two sides are compared: write `=`, `<` or another mark of comparison between them"],
+    ["and", "what stands before is whole: write `and`, `or` or `implies` here, or its end"],
+    ["[", "a formula is wanted here: write one, such as `a.x1 = 0`"],
+    ["(", "a number is wanted here: write one, or a field, such as `a.x1`"],
+  ];
 
   // ---- the refusal, with the tokens of its text and the number of the token at the place
 
@@ -196,13 +204,17 @@ const Refusals = (() => {
       const other = "write another; it may stand in a comment";
       return [`\`${sign}\` is no letter of names, ${letters}: ${other}`];
     }
-    return /[\p{C}\p{Zl}\p{Zp}]/u.test(sign) ? [] : [`\`${sign}\` may stand in a comment alone`];
+    const told = `\`${sign}\` may stand in a comment alone: write it there, or leave it out`;
+    return /[\p{C}\p{Zl}\p{Zp}]/u.test(sign) ? [] : [told];
   }
 
   function numberHints(refusal) {
     const next = refusal.tokens[refusal.index + 1];
     const isTouched = next && next.start === refusal.at + refusal.token.length;
-    if (!isTouched) return [`${refusal.token} is above ${LARGEST_NUMBER}`];
+    if (!isTouched) {
+      const advice = "write a lesser number, in a larger unit";
+      return [`${refusal.token} is above ${LARGEST_NUMBER}: ${advice}`];
+    }
     const whole = refusal.token + refusal.after();
     const advice = "units are not written, and a name begins with a letter or `_`, such as";
     return [`\`${whole}\` is neither a number nor a name; ${advice} \`_${whole}\``];
@@ -229,21 +241,32 @@ const Refusals = (() => {
   function syntaxHints(refusal) {
     const fault = faultHere(refusal);
     if (!fault) return [];
-    const { token } = refusal;
     const expected = fault.spoken.map((word) => word.replace(/`/g, ""));
     const lines = [`here may stand ${fault.spoken.join(", ")}`];
+    if (isUnended(refusal)) {
+      const missing = `a \`;\` is missing behind \`${refusal.before()}\``;
+      return [...lines, `the statement before is not ended: ${missing}`];
+    }
+    lines.push(...wordHints(refusal.token, expected));
+    const isTold = lines.length > 1 || slipHints(refusal, "syntax").length > 0;
+    return isTold ? lines : [...lines, wantedHint(expected)];
+  }
+  // What may be meant by the word that stands there.
+  function wordHints(token, expected) {
     if (LANGUAGE.reserved.includes(token) && expected.includes("a name")) {
       const other = expected.length === 1 ? `: write \`${token}_\` or another` : "";
-      lines.push(`\`${token}\` is a reserved word and no name${other}`);
-    } else if (token && !expected.includes(token)) {
-      lines.push(...didYouMean(token, expected.filter((word) => /^[A-Za-z]+$/.test(word))));
+      return [`\`${token}\` is a reserved word and no name${other}`];
     }
-    if (isUnended(refusal)) {
-      lines.push(
-        `the statement before is not ended: a \`;\` is missing behind \`${refusal.before()}\``
-      );
+    if (!token || expected.includes(token)) return [];
+    return didYouMean(token, expected.filter((word) => /^[A-Za-z]+$/.test(word)));
+  }
+  // What is wanted where so much may stand, said in general.
+  function wantedHint(expected) {
+    if (expected.length === 1) {
+      return `write ${expected[0].includes(" ") ? expected[0] : `\`${expected[0]}\``} here`;
     }
-    return lines;
+    const found = WANTED.find(([word]) => expected.includes(word));
+    return found ? found[1] : "write one of these here";
   }
 
   function unknownHints(refusal) {
@@ -383,10 +406,11 @@ const Refusals = (() => {
       return token.text === "as";
     }).length;
     if (before < names.length) {
-      const lines = "one line for each object, in the sequence of the problem";
+      const lines = "write one line for each object, in the sequence of the problem";
       return [`the line of \`${names[before]}\` has to stand here: ${lines}`];
     }
-    return [`the problem has ${names.length} objects, and each has its line already`];
+    const all = `the problem has ${names.length} objects, and each has its line already`;
+    return [`${all}: write no other`];
   }
   // The object in whose line the place is.
   function layoutObject(refusal) {
@@ -412,7 +436,8 @@ const Refusals = (() => {
       / at (.*?)(?: with | ;)/.exec(spelled) || ["", ""]
     )[1].match(/(?:- )?\d+ \.\. (?:- )?\d+/g) || [];
     const range = (ranges[dimension] || "").replace(/ /g, "");
-    return [`x${dimension + 1} of \`${name}\` lies in ${range}`];
+    const where = `x${dimension + 1} of \`${name}\` lies in ${range}`;
+    return [`${where}: write a number from there, or another range into the problem`];
   }
 
   const PROBLEM_HINTS = {
@@ -422,7 +447,9 @@ const Refusals = (() => {
   };
   const LAYOUT_HINTS = {
     order: layoutOrderHints, unknown: layoutUnknownHints, range: layoutRangeHints, token: () => [],
-    limit: (refusal) => [`${refusal.dims()} coordinates are wanted: one for each dimension`],
+    limit: (refusal) => {
+      return [`${refusal.dims()} coordinates are wanted: write one for each dimension`];
+    },
   };
 
   // Lines that say what to write instead, what stands there, and what may stand there.
@@ -431,7 +458,8 @@ const Refusals = (() => {
     const find = ofLayout || PROBLEM_HINTS[refusal.word] || (() => []);
     const own = refusal.kind === DERIVATION ? [] : find(refusal);
     const first = refusal.index === 0 ? slipHints(refusal, `${refusal.word}-first`) : [];
-    return [...orElse(first, () => slipHints(refusal, refusal.word)), ...own];
+    const slips = orElse(first, () => slipHints(refusal, refusal.word));
+    return refusal.word === "byte" && slips.length ? slips : [...slips, ...own];
   }
 
   // What a refusal means. The place counts bytes of the problem and of the text behind it, of the
