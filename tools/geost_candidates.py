@@ -68,16 +68,20 @@ def interleaved(problem: Problem) -> Iterator[Candidate]:
 def narrower(problem: Problem) -> Iterator[Candidate]:
     """Few orders with zones, with support by earlier objects alone, and with both."""
     orders, sides = stated_orders(problem)[:FEW], problem.search_sides()
-    zones = list(all_zones(problem))
-    if rules_with_support_by_any(problem):
-        for name, order in orders:
-            yield Candidate(f"{name}, borne by earlier ones", order, sides, (), True, True)
-    for (name, order), zone in itertools.product(orders, zones):
-        yield Candidate(f"{name}, {zone.name}", order, sides, zone.things, True)
-    if rules_with_support_by_any(problem):
-        for (name, order), zone in itertools.product(orders, zones):
-            whole = f"{name}, {zone.name}, borne by earlier ones"
-            yield Candidate(whole, order, sides, zone.things, True, True)
+    zoned = [
+        Candidate(f"{name}, {zones.name}", order, sides, zones.things, True)
+        for zones, (name, order) in itertools.product(all_zones(problem), orders)
+    ]
+    if not rules_with_support_by_any(problem):
+        yield from zoned
+        return
+    plain_ones = (Candidate(name, order, sides, (), True) for name, order in orders)
+    yield from in_turn([iter(zoned), by_earlier_ones(plain_ones), by_earlier_ones(iter(zoned))])
+
+
+def by_earlier_ones(ways: Iterator[Candidate]) -> Iterator[Candidate]:
+    for way in ways:
+        yield replace(way, name=f"{way.name}, borne by earlier ones", only_earlier=True)
 
 
 def other_sides(problem: Problem) -> Iterator[Candidate]:

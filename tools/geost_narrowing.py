@@ -12,7 +12,7 @@ from collections.abc import Iterator
 from dataclasses import dataclass, replace
 from typing import cast
 
-from geost_orders import least_volume, value_of
+from geost_orders import compared_attributes, least_volume, value_of
 from geost_parts import is_fixed
 from geost_text import (
     Apart,
@@ -26,7 +26,6 @@ from geost_text import (
     Quantified,
     Rule,
     Within,
-    all_parts,
 )
 from geost_trees import Node, is_over_objects, rebuilt
 
@@ -46,7 +45,7 @@ class Zones:
 
 def all_zones(problem: Problem) -> Iterator[Zones]:
     """Zones by each attribute that rules compare between objects, on each coordinate, both ways."""
-    for attribute in compared_attributes(problem):
+    for attribute in attributes_with_few_values(problem):
         for dimension in range(problem.dims):
             for is_rising in (False, True):
                 things = zoned(problem, attribute, dimension, is_rising)
@@ -55,22 +54,13 @@ def all_zones(problem: Problem) -> Iterator[Zones]:
                     yield Zones(f"zones of x{dimension + 1} by {attribute}, {way}", things)
 
 
-def compared_attributes(problem: Problem) -> list[str]:
+def attributes_with_few_values(problem: Problem) -> list[str]:
     """The attributes of which rules compare two objects, each with few values."""
-    found: list[str] = []
-    bodies = [rule.body for rule in problem.rules if not isinstance(rule.body, (Apart, Within))]
-    for body in [*bodies, *(macro.body for macro in problem.macros)]:
-        for part in all_parts(body):
-            match part:
-                case Compare(
-                    FieldOf(one, name), _, FieldOf(other, same)
-                ) if one != other and name == same:
-                    found.append(name)
+    things = movable(problem)
     values = {
-        name: {value_of(thing, name) for thing in movable(problem)}
-        for name in problem.attribute_names()
+        name: {value_of(thing, name) for thing in things} for name in problem.attribute_names()
     }
-    return [name for name in dict.fromkeys(found) if 1 < len(values.get(name, ())) <= MOST_ZONES]
+    return [name for name in compared_attributes(problem) if 1 < len(values[name]) <= MOST_ZONES]
 
 
 def movable(problem: Problem) -> list[Object]:

@@ -148,6 +148,19 @@ def value_of(thing: Object, attribute: str) -> int:
     return dict(thing.attributes).get(attribute, 0)
 
 
+def compared_attributes(problem: Problem) -> list[str]:
+    """The attributes of which rules compare two objects, and that some object lists."""
+    found: list[str] = []
+    bodies = [rule.body for rule in problem.rules if not isinstance(rule.body, (Apart, Within))]
+    for body in [*bodies, *(macro.body for macro in problem.macros)]:
+        for part in all_parts(body):
+            match part:
+                case Compare(FieldOf(one, name), _, FieldOf(other, same)) if name == same:
+                    found += [name] if one != other else []
+    listed = problem.attribute_names()
+    return [name for name in dict.fromkeys(found) if name in listed]
+
+
 def by_attribute(attribute: str, sign: int) -> Callable[[Object], int]:
     return lambda thing: sign * value_of(thing, attribute)
 
@@ -163,7 +176,7 @@ def measures(problem: Problem) -> Iterator[Measure]:
     yield Measure("largest first", lambda thing: -least_volume(problem, thing))
     yield Measure("what comes before first", lambda thing: depth[thing.name])
     yield Measure("what comes behind first", lambda thing: -depth[thing.name])
-    for attribute in problem.attribute_names():
+    for attribute in dict.fromkeys([*compared_attributes(problem), *problem.attribute_names()]):
         yield Measure(f"greatest {attribute} first", by_attribute(attribute, -1))
         yield Measure(f"least {attribute} first", by_attribute(attribute, 1))
     yield Measure("named by most rules first", lambda thing: -named[thing.name])

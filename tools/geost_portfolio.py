@@ -18,19 +18,21 @@ from geost_text import Problem, read_layout
 
 GROWTH = 4
 PAUSE = 0.004
-FIRST_SECONDS = 0.5
+# the processor seconds that the first search of a way may take, and those that count as short
+FIRST_SECONDS = 4.0
+SHORT = 0.5
 FIRST_WAYS = 8
 
 
 @dataclass(frozen=True)
 class Options:
-    """How long is looked for a layout, by how many processors, with how many steps at first,
-    whether z3 is asked, whether a layout has to be found by an order that leads to it, and whether
-    the search ends where z3 says that there is none."""
+    """How long is looked for a layout, by how many processors, with how many steps at first
+    (or as many as fit the problem), whether z3 is asked, whether a layout has to be found by an
+    order that leads to it, and whether the search ends where z3 says that there is none."""
 
     seconds: float
     processors: int
-    steps: int = 1000
+    steps: int | None = None
     with_z3: bool = False
     only_stated: bool = False
     ends_with_z3: bool = False
@@ -109,7 +111,7 @@ class Portfolio:
             return True
         if self.kept is None:
             self.kept = found
-            effort = Effort(self.options.steps, FIRST_SECONDS)
+            effort = first_effort(self.problem, self.options)
             for way in leading_to(self.problem, read_layout(found.layout.encode())):
                 strategy = repeated(self.problem, way, effort)
                 self.put_back(Turn(0.0, 0, strategy, next(strategy), PAUSE))
@@ -148,14 +150,21 @@ class Portfolio:
         self.put_back(Turn(rank_of(turn.number, taken), turn.number, turn.strategy, search, taken))
 
 
+def first_effort(problem: Problem, options: Options) -> Effort:
+    """Of each first search: twice as many steps as there are variables, and some more, where no
+    number is given."""
+    variables = len(problem.objects) * (problem.dims + 1)
+    return Effort(options.steps or 2 * variables + 100, FIRST_SECONDS)
+
+
 def rank_of(number: int, taken: float) -> float:
-    return math.log(1 + number / 2, GROWTH) + math.log(1 + taken / FIRST_SECONDS, GROWTH)
+    return math.log(1 + number / 2, GROWTH) + math.log(1 + taken / SHORT, GROWTH)
 
 
 def strategies(problem: Problem, options: Options) -> Iterator[Strategy]:
     """All ways, each tried again and again; behind the first few also those that learn and repair.
     z3 has a processor of its own, where there are several."""
-    effort = Effort(options.steps, FIRST_SECONDS)
+    effort = first_effort(problem, options)
     if options.with_z3 and options.processors > 1:
         yield proposed(problem, next(candidates(problem)), options.seconds)
     whole, moved, mended = itertools.tee(candidates(problem), 3)
