@@ -499,14 +499,18 @@ def check_tabs(page: Page) -> None:
 
 
 def check_print(setting: Setting) -> None:
-    """The sheet for print has the picture, the objects and the rules."""
-    with opened(made_page(), "#warehouse") as page:
+    """The sheet for print has the picture, the layers with the objects, the table and the rules."""
+    with opened(made_page(), "#kitchen") as page:
         page.told("the text is a problem")
-        page.press("first", "the first layout")
-        page.script("Paper.fill();")
+        page.write(read("warehouse.geost"), read("warehouse.plan"))
+        page.told("every rule holds")
+        page.click("#print")
         paper = page.script("return document.getElementById('paper').textContent;")
-        for part in ("layer x3 = 0", "a1", "rule heavy", "1,0,0,0/1,0,0,1"):
+        for part in ("layer x3 = 0", "a1 as a_x at 0 0 0", "rule heavy"):
             want_in(part, paper)
+        pieces = page.script("return document.querySelectorAll('#paper .sheets g.thing').length;")
+        # seven objects reach into the lowest layer, seven into the next, and two into the highest
+        want(pieces, 7 + 7 + 2, "objects in the layers")
 
 
 CHECKS = {

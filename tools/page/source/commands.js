@@ -121,9 +121,7 @@ const Commands = (() => {
 
   // Shows layouts of an answer, or the answer where it has none. The view stays where it fits.
   function take(problem, layouts, answer, from = 1) {
-    const { problem: last, view } = Picture.state;
-    const isOther = view === "answer" || !last || last.dims !== problem.dims;
-    if (isOther) Picture.state.view = null;
+    if (Picture.state.view === "answer") Picture.state.view = null;
     Object.assign(shown, { problem, layouts, at: 0, from, answer });
     if (layouts.length) Editors.setPlan(layouts[0].text);
     cards();

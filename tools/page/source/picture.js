@@ -101,15 +101,18 @@ const Picture = (() => {
     return `<span><label for="${id}">x${d + 1} = </label><output></output> ${slider}</span>`;
   }
 
+  // Gives a slider its ends, and puts it to the high one where it is new or has other ends than
+  // before.
+  function settleSlider(slider, low, high, isNew) {
+    const isOther = Number(slider.min) !== low || Number(slider.max) !== high;
+    Object.assign(slider, { min: low, max: high });
+    if (isNew || isOther) slider.value = high;
+  }
+
   function settleSliders(isNew) {
     const around = frame();
-    const count = shownThings().length;
-    Object.assign($("step"), { min: 0, max: count });
-    if (isNew) $("step").value = count;
-    if (dims() > 2) {
-      Object.assign($("level"), { min: around.low[2], max: around.high[2] - 1 });
-      if (isNew) $("level").value = $("level").max;
-    }
+    settleSlider($("step"), 0, shownThings().length, isNew);
+    if (dims() > 2) settleSlider($("level"), around.low[2], around.high[2] - 1, isNew);
     if (isNew) {
       const further = Cells.counted(dims()).slice(3);
       $("slices").innerHTML = further.map((d) => sliceSlider(d, around)).join("");
@@ -310,6 +313,7 @@ const Picture = (() => {
   // Shows a plan. `isNew` puts the sliders to their ends; `view` is what is shown first, where
   // there is one.
   function show({ problem, things, broken = [], isNew = true, view = null }) {
+    if (state.problem && state.problem.dims !== problem.dims) state.view = null;
     Object.assign(state, { problem, things, broken });
     const names = views().map((one) => one.name);
     if (view || !names.includes(state.view)) state.view = names.includes(view) ? view : usualView();
