@@ -281,6 +281,24 @@ def check_words(setting: Setting) -> None:
         page.find("#words").clear()
         page.find("#words").send_keys("first many", ENTER)
         page.told("bad words")
+        page.find("#words").clear()
+        page.find("#words").send_keys("all 1 1000", ENTER)
+        page.told("all 1 1000, in")
+        want_in("cut as three_hours at 0 0", page.plan())
+        check_loading(page)
+
+
+def check_loading(page: Page) -> None:
+    """An answer that lists objects in an order makes the steps of the picture go by it."""
+    page.later("await Commands.showAnswer('order\\nweld\\ncut\\npack\\ntest\\npaint\\ndrill\\n');")
+    page.script(
+        "const step = document.getElementById('step'); step.value = 2;"
+        "step.dispatchEvent(new Event('input'));"
+    )
+    names = page.script(
+        "return [...document.querySelectorAll('#flat g.thing')].map((it) => it.dataset.name);"
+    )
+    want(sorted(names), ["cut", "weld"], "the first two that come in")
 
 
 def check_drag(setting: Setting) -> None:

@@ -20,6 +20,7 @@ const Picture = (() => {
 
   const state = {
     problem: null, things: [], broken: [], extra: [], // `extra` are views that a page adds
+    loading: null, // the names in the sequence in which objects come in, where it is known
     view: null, colour: "object", sequence: "file", picked: null, camera: { ...Solid.START },
     onPick: () => {},
     onDrag: null, // begins a drag of a thing, where things may be moved
@@ -55,6 +56,7 @@ const Picture = (() => {
       file: (thing) => thing.number,
       order: (thing) => state.problem.order.indexOf(thing.name),
       height: lowest,
+      loading: (thing) => state.loading.indexOf(thing.name),
     }[state.sequence] || ((thing) => thing.attributes[state.sequence] || 0);
     return shownThings().sort((a, b) => rank(a) - rank(b) || a.number - b.number);
   }
@@ -84,7 +86,10 @@ const Picture = (() => {
     fill($("colour"), [["object", "object"], ["shape", "shape"], ...attributes], state.colour);
     state.colour = $("colour").value;
     const height = dims() > 2 ? [["height", "height"]] : [];
-    const sequences = [["file", "the text"], ["order", "search order"], ...height, ...attributes];
+    const loading = state.loading ? [["loading", "loading order"]] : [];
+    const sequences = [
+      ["file", "the text"], ["order", "search order"], ...loading, ...height, ...attributes,
+    ];
     fill($("sequence"), sequences, state.sequence);
     state.sequence = $("sequence").value;
     const places = Cells.counted(dims()).map((d) => [String(d), `x${d + 1}`]);
@@ -314,6 +319,8 @@ const Picture = (() => {
   // there is one.
   function show({ problem, things, broken = [], isNew = true, view = null }) {
     if (state.problem && state.problem.dims !== problem.dims) state.view = null;
+    const isOther = !state.problem || things.length !== state.things.length;
+    if (isOther) state.loading = null;
     Object.assign(state, { problem, things, broken });
     const names = views().map((one) => one.name);
     if (view || !names.includes(state.view)) state.view = names.includes(view) ? view : usualView();
@@ -332,6 +339,15 @@ const Picture = (() => {
       return `<div><b>rule ${safe(one.name)}</b> is broken by ${safe(groups.join("; "))}
         <br><code>${safe(one.line)}</code></div>`;
     }).join("");
+  }
+
+  // Shows the objects in the sequence in which they come in, all of them at first.
+  function comeIn(names) {
+    Object.assign(state, { loading: names, sequence: "loading" });
+    if (!VIEWS.some((view) => view.name === state.view)) state.view = usualView();
+    settleChoices();
+    settleSliders(true);
+    render();
   }
 
   function choose(view) {
@@ -358,7 +374,7 @@ const Picture = (() => {
   }
 
   return {
-    state, show, render, choose, pick, paint, paintNow, seenAt, cellsAlong, sheet, saidOf, look,
-    frame, dims, breaksOf,
+    state, show, render, choose, comeIn, pick, paint, paintNow, seenAt, cellsAlong, sheet, saidOf,
+    look, frame, dims, breaksOf,
   };
 })();
