@@ -281,6 +281,24 @@ def check_words(setting: Setting) -> None:
         page.find("#words").clear()
         page.find("#words").send_keys("first many", ENTER)
         page.told("bad words")
+        page.find("#words").clear()
+        page.find("#words").send_keys("all 1 1000", ENTER)
+        page.told("all 1 1000, in")
+        want_in("cut as three_hours at 0 0", page.plan())
+        check_loading(page)
+
+
+def check_loading(page: Page) -> None:
+    """An answer that lists objects in an order makes the steps of the picture go by it."""
+    page.later("await Commands.showAnswer('order\\nweld\\ncut\\npack\\ntest\\npaint\\ndrill\\n');")
+    page.script(
+        "const step = document.getElementById('step'); step.value = 2;"
+        "step.dispatchEvent(new Event('input'));"
+    )
+    names = page.script(
+        "return [...document.querySelectorAll('#flat g.thing')].map((it) => it.dataset.name);"
+    )
+    want(sorted(names), ["cut", "weld"], "the first two that come in")
 
 
 def check_drag(setting: Setting) -> None:
@@ -306,7 +324,7 @@ def check_drag(setting: Setting) -> None:
 
 
 def check_link(setting: Setting) -> None:
-    """A link carries the problem and the plan; a file is opened."""
+    """A link carries the problem and the plan."""
     text = read("kitchen.geost").replace("sink", "basin")
     plan = native(setting.program, Run(("first", "1000"), text)).text
     with opened(made_page(), "#kitchen") as page:
@@ -319,11 +337,34 @@ def check_link(setting: Setting) -> None:
         page.until(lambda: "basin" in page.script("return Editors.problemText();"), "the problem")
         want(page.script("return Editors.problemText();"), text, "the problem")
         want(page.plan(), plan, "the plan")
-        files = "new File([given[0]], 'mine.geost')"
-        page.later(
-            f"Files.openFile({files}); await 0;", read("schedule.geost") + read("schedule_wet.plan")
-        )
+
+
+SAVED = """
+const make = URL.createObjectURL;
+let saved = null;
+URL.createObjectURL = (blob) => { saved = blob; return make.call(URL, blob); };
+document.getElementById('save').click();
+URL.createObjectURL = make;
+return saved.text();
+"""
+
+
+def check_files(setting: Setting, folder: Path) -> None:
+    """A file with a problem and a plan is opened, and saved again; an example is chosen."""
+    file = folder / "mine.geost"
+    text, plan = read("schedule.geost"), read("schedule_wet.plan")
+    file.write_text(text + plan, encoding="utf-8")
+    with opened(made_page(), "#kitchen") as page:
+        page.told("the text is a problem")
+        page.find("#file").send_keys(str(file))
         page.told("broken dry")
+        want(page.script("return document.title;"), "mine", "the title")
+        saved = page.later(SAVED)
+        want((text in saved, plan in saved), (True, True), "what is saved has both")
+        page.script("document.getElementById('message').textContent = '';")
+        page.find("#example").send_keys("warehouse")
+        page.told("12 objects")
+        want(page.script("return Editors.problemText();"), read("warehouse.geost"), "the example")
 
 
 def check_stop(setting: Setting) -> None:
@@ -476,14 +517,18 @@ def check_tabs(page: Page) -> None:
 
 
 def check_print(setting: Setting) -> None:
-    """The sheet for print has the picture, the objects and the rules."""
-    with opened(made_page(), "#warehouse") as page:
+    """The sheet for print has the picture, the layers with the objects, the table and the rules."""
+    with opened(made_page(), "#kitchen") as page:
         page.told("the text is a problem")
-        page.press("first", "the first layout")
-        page.script("Paper.fill();")
+        page.write(read("warehouse.geost"), read("warehouse.plan"))
+        page.told("every rule holds")
+        page.click("#print")
         paper = page.script("return document.getElementById('paper').textContent;")
-        for part in ("layer x3 = 0", "a1", "rule heavy", "1,0,0,0/1,0,0,1"):
+        for part in ("layer x3 = 0", "a1 as a_x at 0 0 0", "rule heavy"):
             want_in(part, paper)
+        pieces = page.script("return document.querySelectorAll('#paper .sheets g.thing').length;")
+        # seven objects reach into the lowest layer, seven into the next, and two into the highest
+        want(pieces, 7 + 7 + 2, "objects in the layers")
 
 
 CHECKS = {
@@ -493,7 +538,7 @@ CHECKS = {
     "refusals": check_refusal,
     "any words": check_words,
     "a drag": check_drag,
-    "links and files": check_link,
+    "a link": check_link,
     "a stop": check_stop,
     "200 boxes turn": check_turning,
     "a new user": check_new_user,
@@ -507,5 +552,6 @@ def cases(setting: Setting, folder: Path) -> Cases:
     own.mkdir()
     yield Case("page: random runs under node", lambda: check_node(setting, own))
     yield Case("page: command line under node", lambda: check_command_line(setting))
+    yield Case("page: files", lambda: check_files(setting, own))
     for name, check in CHECKS.items():
         yield Case(f"page: {name}", lambda check=check: check(setting))

@@ -11,6 +11,7 @@ import subprocess
 from concurrent.futures import ThreadPoolExecutor
 from dataclasses import dataclass
 from pathlib import Path
+from typing import Any
 
 from geost_page import SOURCE, constant, language_data
 from geost_picture import broken_rules
@@ -125,7 +126,7 @@ def moved_plans(setting: Setting) -> list[Broken]:
 
 def said_by_scripts(
     setting: Setting, refusals: list[Refused], plans: list[Broken], folder: Path
-) -> dict[str, list[list[object]]]:
+) -> dict[str, list[Any]]:
     if shutil.which("node") is None:
         raise Skipped("node is not installed")
     folder.mkdir()
@@ -141,7 +142,7 @@ def said_by_scripts(
     file.write_text("\n".join([*constants, *scripts, driver]), encoding="utf-8")
     done = subprocess.run(["node", str(file)], stdout=subprocess.PIPE, timeout=300)
     want(done.returncode, 0, "the status of node")
-    found: dict[str, list[list[object]]] = json.loads(done.stdout)
+    found: dict[str, list[Any]] = json.loads(done.stdout)
     return found
 
 
@@ -167,8 +168,8 @@ def check_blame(setting: Setting, folder: Path) -> None:
     for plan, found in zip(plans, said):
         problem, layout = read_problem(plan.shown.encode()), read_layout(plan.layout.encode())
         broken = broken_rules(setting.program, problem, layout)
-        wanted = [[one.name, sorted(map(sorted, one.groups))] for one in broken]
-        given = [[name, sorted(map(sorted, groups))] for name, groups in found]
+        wanted = [[one.name, sorted(sorted(group) for group in one.groups)] for one in broken]
+        given = [[name, sorted(sorted(group) for group in groups)] for name, groups in found]
         want(given, wanted, f"what the page blames in\n{plan.layout}")
         count += len(broken)
     if count < MOST_PLANS:

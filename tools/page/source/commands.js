@@ -121,9 +121,7 @@ const Commands = (() => {
 
   // Shows layouts of an answer, or the answer where it has none. The view stays where it fits.
   function take(problem, layouts, answer, from = 1) {
-    const { problem: last, view } = Picture.state;
-    const isOther = view === "answer" || !last || last.dims !== problem.dims;
-    if (isOther) Picture.state.view = null;
+    if (Picture.state.view === "answer") Picture.state.view = null;
     Object.assign(shown, { problem, layouts, at: 0, from, answer });
     if (layouts.length) Editors.setPlan(layouts[0].text);
     cards();
@@ -290,22 +288,34 @@ The derivation beside says why, in ${nodes}.
     say("bad", `<b>broken ${safe(names)}</b>: the plan breaks ${count}`);
   }
 
-  // Any words of the command line; what they print is shown as it is.
+  // Any words of the command line.
   async function other(words) {
-    const second = TWO_TEXTS.includes(words[0]);
-    const plan = words[0] === "check" ? shown.answer : Editors.planText();
-    const run = await seek(words, Editors.problemText() + (second ? plan : ""));
+    const isOfTwo = TWO_TEXTS.includes(words[0]);
+    const second = words[0] === "check" ? shown.answer : Editors.planText();
+    const run = await seek(words, Editors.problemText() + (isOfTwo ? second : ""));
     if (!isAnswered(run)) return;
     if (run.status === STATUS.refused || run.status === STATUS.words) {
-      tellOther(run, second ? plan : undefined);
+      tellOther(run, isOfTwo ? second : undefined);
       return;
     }
-    shown.answer = run.text;
-    Picture.choose("answer");
-    say(
-      run.status === STATUS.good ? "good" : "warn",
-      `<b>${safe(words.join(" "))}</b>, in ${timeOf(run)}, with status ${run.status}`,
-    );
+    const what = `<b>${safe(words.join(" "))}</b>, in ${timeOf(run)}, with status ${run.status}`;
+    await showAnswer(run.text);
+    say(run.status === STATUS.good ? "good" : "warn", what);
+  }
+
+  // Layouts of an answer are shown as plans, the names behind `order` as the sequence in which
+  // objects come in, and all else as it is printed.
+  async function showAnswer(text) {
+    const layouts = Cells.layoutsIn(text);
+    const made = layouts.length ? await readProblem(true) : null;
+    if (made) {
+      take(made.problem, layouts, text);
+      return;
+    }
+    shown.answer = text;
+    const [first, ...names] = text.trim().split("\n");
+    if (first === "order") Picture.comeIn(names);
+    else Picture.choose("answer");
   }
 
   async function letters(into) {
@@ -384,5 +394,5 @@ The derivation beside says why, in ${nodes}.
     ];
   }
 
-  return { start, first, judge, all, other, reset, shown, search, quick };
+  return { start, first, judge, all, other, showAnswer, reset, shown, search, quick };
 })();

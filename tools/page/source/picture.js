@@ -20,6 +20,7 @@ const Picture = (() => {
 
   const state = {
     problem: null, things: [], broken: [], extra: [], // `extra` are views that a page adds
+    loading: null, // the names in the sequence in which objects come in, where it is known
     view: null, colour: "object", sequence: "file", picked: null, camera: { ...Solid.START },
     onPick: () => {},
     onDrag: null, // begins a drag of a thing, where things may be moved
@@ -55,6 +56,7 @@ const Picture = (() => {
       file: (thing) => thing.number,
       order: (thing) => state.problem.order.indexOf(thing.name),
       height: lowest,
+      loading: (thing) => state.loading.indexOf(thing.name),
     }[state.sequence] || ((thing) => thing.attributes[state.sequence] || 0);
     return shownThings().sort((a, b) => rank(a) - rank(b) || a.number - b.number);
   }
@@ -84,7 +86,10 @@ const Picture = (() => {
     fill($("colour"), [["object", "object"], ["shape", "shape"], ...attributes], state.colour);
     state.colour = $("colour").value;
     const height = dims() > 2 ? [["height", "height"]] : [];
-    const sequences = [["file", "the text"], ["order", "search order"], ...height, ...attributes];
+    const loading = state.loading ? [["loading", "loading order"]] : [];
+    const sequences = [
+      ["file", "the text"], ["order", "search order"], ...loading, ...height, ...attributes,
+    ];
     fill($("sequence"), sequences, state.sequence);
     state.sequence = $("sequence").value;
     const places = Cells.counted(dims()).map((d) => [String(d), `x${d + 1}`]);
@@ -101,15 +106,18 @@ const Picture = (() => {
     return `<span><label for="${id}">x${d + 1} = </label><output></output> ${slider}</span>`;
   }
 
+  // Gives a slider its ends, and puts it to the high one where it is new or has other ends than
+  // before.
+  function settleSlider(slider, low, high, isNew) {
+    const isOther = Number(slider.min) !== low || Number(slider.max) !== high;
+    Object.assign(slider, { min: low, max: high });
+    if (isNew || isOther) slider.value = high;
+  }
+
   function settleSliders(isNew) {
     const around = frame();
-    const count = shownThings().length;
-    Object.assign($("step"), { min: 0, max: count });
-    if (isNew) $("step").value = count;
-    if (dims() > 2) {
-      Object.assign($("level"), { min: around.low[2], max: around.high[2] - 1 });
-      if (isNew) $("level").value = $("level").max;
-    }
+    settleSlider($("step"), 0, shownThings().length, isNew);
+    if (dims() > 2) settleSlider($("level"), around.low[2], around.high[2] - 1, isNew);
     if (isNew) {
       const further = Cells.counted(dims()).slice(3);
       $("slices").innerHTML = further.map((d) => sliceSlider(d, around)).join("");
@@ -310,6 +318,9 @@ const Picture = (() => {
   // Shows a plan. `isNew` puts the sliders to their ends; `view` is what is shown first, where
   // there is one.
   function show({ problem, things, broken = [], isNew = true, view = null }) {
+    if (state.problem && state.problem.dims !== problem.dims) state.view = null;
+    const isOther = !state.problem || things.length !== state.things.length;
+    if (isOther) state.loading = null;
     Object.assign(state, { problem, things, broken });
     const names = views().map((one) => one.name);
     if (view || !names.includes(state.view)) state.view = names.includes(view) ? view : usualView();
@@ -328,6 +339,15 @@ const Picture = (() => {
       return `<div><b>rule ${safe(one.name)}</b> is broken by ${safe(groups.join("; "))}
         <br><code>${safe(one.line)}</code></div>`;
     }).join("");
+  }
+
+  // Shows the objects in the sequence in which they come in, all of them at first.
+  function comeIn(names) {
+    Object.assign(state, { loading: names, sequence: "loading" });
+    if (!VIEWS.some((view) => view.name === state.view)) state.view = usualView();
+    settleChoices();
+    settleSliders(true);
+    render();
   }
 
   function choose(view) {
@@ -354,7 +374,7 @@ const Picture = (() => {
   }
 
   return {
-    state, show, render, choose, pick, paint, paintNow, seenAt, cellsAlong, sheet, saidOf, look,
-    frame, dims, breaksOf,
+    state, show, render, choose, comeIn, pick, paint, paintNow, seenAt, cellsAlong, sheet, saidOf,
+    look, frame, dims, breaksOf,
   };
 })();
