@@ -82,14 +82,34 @@ class Problem:
         lines.append("rule free : apart ;")
         return "\n".join([*lines, *([STACKING_RULES] if self.is_stacked else []), "end"])
 
-    def model(self) -> str:
-        """The model for MiniZinc, which prints a layout as the program does."""
+    def has_single_boxes(self) -> bool:
+        """Whether each shape is one box at its origin, as `diffn` wants it."""
+        return all(len(group) == 1 and not any(group[0].offset) for group in self.shapes.values())
+
+    def no_overlap(self, is_decomposed: bool) -> str:
+        """The constraint that no cell is shared, with the walls: `geost`, or `diffn` and sums."""
+        dims = len(self.last)
+        if not is_decomposed:
+            arguments = f"{dims}, size, offset, shape, x, kind"
+            if not self.walls:
+                return f"constraint geost({arguments});"
+            return f"constraint geost_bb({arguments}, {[0] * dims}, {list(self.walls)});"
+        lengths = f"array2d(OBJECTS, 1..{dims}, [ size[kind[o],d] | o in OBJECTS, d in 1..{dims} ])"
+        lines = [f"array[OBJECTS,1..{dims}] of var int: length = {lengths};"]
+        lines.append("constraint diffn_k(x, length);")
+        if self.walls:
+            walls = f"x[o,d] + length[o,d] <= {list(self.walls)}[d]"
+            lines.append(f"constraint forall(o in OBJECTS, d in 1..{dims})({walls});")
+        return "\n".join(lines)
+
+    def model(self, is_decomposed: bool = False) -> str:
+        """The model for MiniZinc, which prints a layout as the program does. Where it is decomposed,
+        `diffn` stands in place of `geost`, which is for shapes of one box."""
         dims = len(self.last)
         boxes = [box for group in self.shapes.values() for box in group]
         numbers = {name: number for number, name in enumerate(self.shapes, 1)}
-        walls = f"geost_bb({dims}, size, offset, shape, x, kind, {[0] * dims}, {list(self.walls or ())})"
         lines = [
-            'include "geost.mzn";',
+            f'include "{"diffn_k" if is_decomposed else "geost"}.mzn";',
             f"set of int: OBJECTS = 1..{len(self.items)};",
             f"array[1..{len(boxes)},1..{dims}] of int: size = {table(box.size for box in boxes)};",
             f"array[1..{len(boxes)},1..{dims}] of int: offset = {table(box.offset for box in boxes)};",
@@ -100,7 +120,7 @@ class Problem:
             f"array[OBJECTS,1..{dims}] of var 0..{max(self.last)}: x;",
             f"array[OBJECTS] of var 1..{len(self.shapes)}: kind;",
             f"constraint forall(o in OBJECTS)(kind[o] in kinds[o] /\\ forall(d in 1..{dims})(x[o,d] <= last[d]));",
-            f"constraint {walls if self.walls else f'geost({dims}, size, offset, shape, x, kind)'};",
+            self.no_overlap(is_decomposed),
             STACKING_MODEL if self.is_stacked else "",
             f"solve :: int_search([ if v = 0 then kind[o] else x[o,v] endif | o in OBJECTS, v in 0..{dims} ], input_order, indomain_min, complete) satisfy;",
             f"array[OBJECTS] of string: object_name = {quoted(item.name for item in self.items)};",

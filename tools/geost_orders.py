@@ -3,26 +3,26 @@
 from __future__ import annotations
 
 import itertools
-import random
 from collections.abc import Callable, Iterator
-from dataclasses import dataclass, replace
+from dataclasses import dataclass
+from typing import cast
 
-from geost_text import Bare, Call, Compare, Expr, FieldOf, Formula, Joined, Macro, Object, Problem, Quantified, all_parts
-
-
-@dataclass(frozen=True)
-class Candidate:
-    """An order of all objects and a side for each dimension, with the name of the way in which they were chosen."""
-
-    name: str
-    order: tuple[str, ...]
-    sides: tuple[str, ...]
-
-    def of(self, problem: Problem) -> Problem:
-        return replace(problem, order=self.order, sides=self.sides)
-
-    def statements(self) -> str:
-        return f"order {', '.join(self.order)} ;\nsides {' '.join(self.sides)} ;\n"
+from geost_text import (
+    Apart,
+    Bare,
+    Call,
+    Compare,
+    Expr,
+    FieldOf,
+    Formula,
+    Joined,
+    Macro,
+    Object,
+    Problem,
+    Quantified,
+    Within,
+    all_parts,
+)
 
 
 @dataclass(frozen=True)
@@ -51,7 +51,9 @@ def count_of_places(thing: Object) -> int:
 def names_in_rules(problem: Problem) -> dict[str, int]:
     """How many rules and macros say each object's name themselves."""
     counts = dict.fromkeys((thing.name for thing in problem.objects), 0)
-    bodies = [rule.body for rule in problem.rules if hasattr(rule.body, "__match_args__")] + [macro.body for macro in problem.macros]
+    bodies = [rule.body for rule in problem.rules if hasattr(rule.body, "__match_args__")] + [
+        macro.body for macro in problem.macros
+    ]
     for body in bodies:
         said: set[str] = set()
         for part in all_parts(body):  # type: ignore[arg-type]
@@ -74,14 +76,17 @@ Names = dict[str, str]
 
 
 def precedences(problem: Problem) -> set[tuple[str, str]]:
-    """The pairs of objects of which rules say that the first has a lesser coordinate than the second, as far as it is seen in
-    comparisons that stand alone, joined by `and`, or in a macro that is called so."""
+    """The pairs of objects of which rules say that the first has a lesser coordinate than the
+    second, as far as it is seen in comparisons that stand alone, joined by `and`, or in a macro
+    that is called so."""
     macros = {macro.name: macro for macro in problem.macros}
     objects = {thing.name for thing in problem.objects}
     pairs: set[tuple[str, str]] = set()
     for rule in problem.rules:
         pairs |= pairs_of(rule.body, {}, macros)  # type: ignore[arg-type]
-    return {(one, other) for one, other in pairs if one in objects and other in objects and one != other}
+    return {
+        (one, other) for one, other in pairs if one in objects and other in objects and one != other
+    }
 
 
 def pairs_of(formula: Formula, known: Names, macros: dict[str, Macro]) -> set[tuple[str, str]]:
@@ -90,7 +95,10 @@ def pairs_of(formula: Formula, known: Names, macros: dict[str, Macro]) -> set[tu
         case Joined("and", parts):
             return set().union(*(pairs_of(part, known, macros) for part in parts))
         case Call("@", name, arguments) if name in macros:
-            given = [known.get(part.name, part.name) if isinstance(part, Bare) else "" for part in arguments]
+            given = [
+                known.get(part.name, part.name) if isinstance(part, Bare) else ""
+                for part in arguments
+            ]
             inside = dict(zip((parameter for parameter, _ in macros[name].parameters), given))
             return pairs_of(macros[name].body, inside, macros)  # type: ignore[arg-type]
         case Compare(left, relation, right) if relation in ("<", "<=", ">", ">="):
@@ -104,7 +112,9 @@ def pairs_of(formula: Formula, known: Names, macros: dict[str, Macro]) -> set[tu
     return set()
 
 
-def owners_of_coordinates(expr: Expr, known: Names, macros: dict[str, Macro]) -> set[tuple[str, str]]:
+def owners_of_coordinates(
+    expr: Expr, known: Names, macros: dict[str, Macro]
+) -> set[tuple[str, str]]:
     """The objects whose coordinates an expression has, each with the coordinate."""
     found: set[tuple[str, str]] = set()
     for part in all_parts(expr):
@@ -112,14 +122,19 @@ def owners_of_coordinates(expr: Expr, known: Names, macros: dict[str, Macro]) ->
             case FieldOf(owner, name) if len(name) == 2 and name[0] == "x" and name[1].isdigit():
                 found.add((known.get(owner, owner), name))
             case Call("$", name, arguments) if name in macros:
-                given = [known.get(argument.name, argument.name) if isinstance(argument, Bare) else "" for argument in arguments]
+                given = [
+                    known.get(argument.name, argument.name) if isinstance(argument, Bare) else ""
+                    for argument in arguments
+                ]
                 inside = dict(zip((parameter for parameter, _ in macros[name].parameters), given))
-                found |= owners_of_coordinates(macros[name].body, inside, macros)  # type: ignore[arg-type]
+                body = cast(Expr, macros[name].body)
+                found |= owners_of_coordinates(body, inside, macros)
     return found
 
 
 def depths(problem: Problem) -> dict[str, int]:
-    """How many objects stand before each one at least, by the precedences; chains that run in a ring are cut off."""
+    """How many objects stand before each one at least, by the precedences; chains that run in a
+    ring are cut off."""
     found = dict.fromkeys((thing.name for thing in problem.objects), 0)
     pairs = precedences(problem)
     for _ in found:
@@ -128,36 +143,54 @@ def depths(problem: Problem) -> dict[str, int]:
     return found
 
 
-def measures(problem: Problem) -> list[Measure]:
+def value_of(thing: Object, attribute: str) -> int:
+    """An object's attribute, which is 0 where it does not list it."""
+    return dict(thing.attributes).get(attribute, 0)
+
+
+def by_attribute(attribute: str, sign: int) -> Callable[[Object], int]:
+    return lambda thing: sign * value_of(thing, attribute)
+
+
+def by_range(dimension: int, sign: int) -> Callable[[Object], int]:
+    return lambda thing: sign * sum(thing.ranges[dimension])
+
+
+def measures(problem: Problem) -> Iterator[Measure]:
     """What objects are ordered by, those that help most often first."""
     named = names_in_rules(problem)
     depth = depths(problem)
-    found = [Measure("largest first", lambda thing: -least_volume(problem, thing))]
-    found.append(Measure("what comes before first", lambda thing: depth[thing.name]))
-    found.append(Measure("what comes behind first", lambda thing: -depth[thing.name]))
+    yield Measure("largest first", lambda thing: -least_volume(problem, thing))
+    yield Measure("what comes before first", lambda thing: depth[thing.name])
+    yield Measure("what comes behind first", lambda thing: -depth[thing.name])
     for attribute in problem.attribute_names():
-        found.append(Measure(f"greatest {attribute} first", lambda thing, a=attribute: -dict(thing.attributes).get(a, 0)))
-        found.append(Measure(f"least {attribute} first", lambda thing, a=attribute: dict(thing.attributes).get(a, 0)))
-    found.append(Measure("named by most rules first", lambda thing: -named[thing.name]))
-    found.append(Measure("fewest places first", count_of_places))
+        yield Measure(f"greatest {attribute} first", by_attribute(attribute, -1))
+        yield Measure(f"least {attribute} first", by_attribute(attribute, 1))
+    yield Measure("named by most rules first", lambda thing: -named[thing.name])
+    yield Measure("fewest places first", count_of_places)
     for dimension in range(problem.dims):
-        found.append(Measure(f"least x{dimension + 1} first", lambda thing, d=dimension: sum(thing.ranges[d])))
-        found.append(Measure(f"greatest x{dimension + 1} first", lambda thing, d=dimension: -sum(thing.ranges[d])))
-    found.append(Measure("longest first", lambda thing: -longest_side(problem, thing)))
-    found.append(Measure("smallest first", lambda thing: least_volume(problem, thing)))
-    return found
+        yield Measure(f"least x{dimension + 1} first", by_range(dimension, 1))
+        yield Measure(f"greatest x{dimension + 1} first", by_range(dimension, -1))
+    yield Measure("longest first", lambda thing: -longest_side(problem, thing))
+    yield Measure("smallest first", lambda thing: least_volume(problem, thing))
 
 
 def ordered(problem: Problem, measure: Measure) -> tuple[str, ...]:
-    """The objects by a measure, equal ones from the largest on, then in the sequence of the text."""
-    things = sorted(problem.objects, key=lambda thing: (measure.of(thing), -least_volume(problem, thing)))
+    """The objects by a measure, equal ones from the largest on, then as they stand in the text."""
+    things = sorted(
+        problem.objects, key=lambda thing: (measure.of(thing), -least_volume(problem, thing))
+    )
     return tuple(thing.name for thing in things)
 
 
 def stated_orders(problem: Problem) -> list[tuple[str, tuple[str, ...]]]:
     """The orders that are tried, each once, with their names."""
     file_order = tuple(thing.name for thing in problem.objects)
-    orders = [("as stated", problem.search_order()), ("file", file_order), ("reverse", file_order[::-1])]
+    orders = [
+        ("as stated", problem.search_order()),
+        ("file", file_order),
+        ("reverse", file_order[::-1]),
+    ]
     orders[2:2] = [(measure.name, ordered(problem, measure)) for measure in measures(problem)]
     found: dict[tuple[str, ...], str] = {}
     for name, order in orders:
@@ -172,21 +205,68 @@ def all_sides(problem: Problem) -> list[tuple[str, ...]]:
     return sorted(others, key=lambda sides: sum(a != b for a, b in zip(sides, stated)))
 
 
-def shuffled(problem: Problem, seed: int) -> tuple[str, ...]:
-    """The objects from large to small, each volume taken up to twice as large or small by chance; the same for the same seed."""
-    chance = random.Random(seed)
-    weights = {thing.name: least_volume(problem, thing) * 2 ** chance.uniform(-1, 1) for thing in problem.objects}
-    return tuple(sorted(weights, key=lambda name: -weights[name]))
+# Objects that belong together, one behind the other
 
 
-def candidates(problem: Problem) -> Iterator[Candidate]:
-    """All orders with the stated sides, then with each of the other sides, then shuffled ones without end."""
-    orders = stated_orders(problem)
-    for sides in all_sides(problem):
-        for name, order in orders:
-            yield Candidate(name, order, sides)
-    if len(problem.objects) < 2:
-        return
-    for seed in itertools.count(1):
-        sides = all_sides(problem)[seed % 2**problem.dims]
-        yield Candidate(f"shuffled {seed}", shuffled(problem, seed), sides)
+def ties(problem: Problem) -> dict[str, list[str]]:
+    """The objects with which each one stands alone in a rule, or in a part of it that is joined to
+    others by `and`."""
+    names = {thing.name for thing in problem.objects}
+    found: dict[str, list[str]] = {name: [] for name in names}
+    for rule in problem.rules:
+        if not isinstance(rule.body, (Apart, Within)):
+            for part in conjuncts(rule.body):
+                said = list(dict.fromkeys(name for name in names_said(part) if name in names))
+                if len(said) == 2:
+                    found[said[0]].append(said[1])
+                    found[said[1]].append(said[0])
+    return found
+
+
+def conjuncts(formula: Formula) -> tuple[Formula, ...]:
+    """The parts of a formula that are joined by `and`, else itself."""
+    return formula.parts if isinstance(formula, Joined) and formula.word == "and" else (formula,)
+
+
+def names_said(formula: Formula) -> Iterator[str]:
+    """The names that a formula says itself, without those that quantifiers list."""
+    for part in all_parts(formula):
+        match part:
+            case FieldOf(owner, _):
+                yield owner
+            case Bare(name):
+                yield name
+
+
+def with_partners(problem: Problem, order: tuple[str, ...]) -> tuple[str, ...]:
+    """The order in which right behind each object those stand that it is tied to."""
+    tied = ties(problem)
+    found: dict[str, None] = {}
+    for name in order:
+        waiting = [name]
+        while waiting:
+            taken = waiting.pop()
+            if taken not in found:
+                found[taken] = None
+                waiting.extend(other for other in reversed(tied[taken]) if other not in found)
+    return tuple(found)
+
+
+def in_turns(problem: Problem, order: tuple[str, ...]) -> tuple[str, ...]:
+    """The order in which the objects of each list of shapes take turns."""
+    groups: dict[tuple[str, ...], list[str]] = {}
+    for name in order:
+        groups.setdefault(problem.object(name).shapes, []).append(name)
+    rounds = itertools.zip_longest(*groups.values())
+    return tuple(name for names in rounds for name in names if name is not None)
+
+
+def interleaved_orders(problem: Problem) -> list[tuple[str, tuple[str, ...]]]:
+    """Each stated order with partners behind each other, and with the shapes in turns."""
+    stated = stated_orders(problem)
+    found: dict[tuple[str, ...], str] = {}
+    for name, order in stated:
+        found.setdefault(with_partners(problem, order), f"{name}, partners behind each other")
+        found.setdefault(in_turns(problem, order), f"{name}, shapes in turns")
+    known = {order for _, order in stated}
+    return [(name, order) for order, name in found.items() if order not in known]

@@ -18,10 +18,11 @@ def known_forms() -> list[str]:
     return list(dict.fromkeys(re.findall(r"`(geost [a-z]+(?: [A-Z]+)*)`", document)))
 
 
-def explain_words(words: list[str]) -> list[str]:
-    """The lines that explain why words have no form: what to write instead, and the forms."""
+def explain_words(words: list[str] | None) -> list[str]:
+    """The lines that explain why words have no form: what to write instead, where the words are
+    known, and the forms."""
     return [
-        *meant(words),
+        *([] if words is None else meant(words)),
         "the words on the command line have no known form; the forms are",
         *(f"    {form}" for form in known_forms()),
     ]

@@ -9,7 +9,7 @@ import subprocess
 from pathlib import Path
 
 from geost_text import RESERVED
-from harness import TOOLS, TOP, Case, Cases, Failed, Setting, Skipped, want
+from harness import TOOLS, TOP, Case, Cases, Setting, Skipped, want
 
 VIM = TOOLS / "editor" / "geost.vim"
 TEXTMATE = TOOLS / "editor" / "geost.tmLanguage.json"

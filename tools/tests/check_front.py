@@ -5,6 +5,7 @@ from __future__ import annotations
 import os
 import re
 import shutil
+import signal
 import subprocess
 import time
 from collections.abc import Iterator
@@ -14,6 +15,7 @@ from pathlib import Path
 from harness import TOP, Case, Cases, Failed, Setting, want, want_in
 
 MOST_README_LINES = 80
+LONGEST_WAIT = 30
 LAWS, TESTS = "laws", "tests and measurement"
 CHANGING = "crates/geo_base/src/lib.rt"
 
@@ -50,15 +52,17 @@ class Checkout:
     def builds(self) -> Path:
         return self.top.parent / "builds"
 
+    def surroundings(self) -> dict[str, str]:
+        """The environment in which the builder stands first in the search path."""
+        return {**os.environ, "PATH": f"{self.top.parent}{os.pathsep}{os.environ['PATH']}"}
+
     def call(self, *words: str) -> Said:
-        tools = str(self.top.parent)
-        surroundings = {**os.environ, "PATH": f"{tools}{os.pathsep}{os.environ['PATH']}"}
         done = subprocess.run(
             [self.top / "geost", *words],
             stdin=subprocess.DEVNULL,
             capture_output=True,
             text=True,
-            env=surroundings,
+            env=self.surroundings(),
         )
         return Said(done.stdout, done.stderr, done.returncode)
 
@@ -118,7 +122,7 @@ def check_side_by_side(folder: Path) -> None:
             stdin=subprocess.DEVNULL,
             stdout=subprocess.PIPE,
             stderr=subprocess.DEVNULL,
-            env={**os.environ, "PATH": f"{folder}{os.pathsep}{os.environ['PATH']}"},
+            env=checkout.surroundings(),
         )
         for _ in range(3)
     ]
@@ -135,6 +139,33 @@ def check_failed_build(folder: Path) -> None:
     want_in("no such crate", said.told)
     want(checkout.call("first", "100").status, 70, "the status of a second call")
     want(checkout.built(), 2, "builds")
+
+
+def check_stopped(folder: Path) -> None:
+    """A build that is stopped leaves neither a process nor a program nor a folder behind."""
+    pid = folder / "pid"
+    rooms = folder / "rooms"
+    checkout = copy_checkout(folder, f'echo $$ >"{pid}.new"; mv "{pid}.new" "{pid}"; exec sleep 60')
+    rooms.mkdir()
+    call = subprocess.Popen(
+        [checkout.top / "geost", "first", "100"],
+        stdin=subprocess.DEVNULL,
+        stdout=subprocess.PIPE,
+        stderr=subprocess.DEVNULL,
+        env={**checkout.surroundings(), "TMPDIR": str(rooms)},
+        start_new_session=True,
+    )
+    until = time.monotonic() + LONGEST_WAIT
+    while not pid.exists() and time.monotonic() < until:
+        time.sleep(0.05)
+    builder = int(pid.read_text())
+    os.killpg(call.pid, signal.SIGINT)  # as Ctrl-C does
+    want(call.communicate(timeout=LONGEST_WAIT)[0], b"", "what is printed")
+    want(call.returncode != 0, True, "a status of failure")
+    want(Path(f"/proc/{builder}").exists(), False, "the builder is there still")
+    want(list(rooms.iterdir()), [], "folders that are left")
+    kept = checkout.top / "crates" / "geost_cli" / "out"
+    want([path.name for path in kept.iterdir() if path.suffix != ".lock"], [], "what is kept")
 
 
 def check_proved(folder: Path) -> None:
@@ -214,6 +245,14 @@ def check_notices() -> None:
     notices = (TOP / "NOTICES.md").read_text()
     unnamed = [name for name in others if f"- `{name}`" not in notices]
     want(unnamed, [], "libraries without a notice")
+
+
+def check_measurements() -> None:
+    """CONTRIBUTING names each measurement of bench/."""
+    text = (TOP / "CONTRIBUTING.md").read_text()
+    scripts = [path for path in (TOP / "bench").iterdir() if path.is_file() and not path.suffix]
+    unnamed = [path.name for path in scripts if not re.search(rf"`(bench/)?{path.name}`", text)]
+    want(sorted(unnamed), [], "measurements that are not named")
 
 
 # Layers
@@ -305,6 +344,7 @@ def cases(setting: Setting, folder: Path) -> Cases:
         ("a program that is kept", check_kept),
         ("calls side by side", check_side_by_side),
         ("a build that fails", check_failed_build),
+        ("a build that is stopped", check_stopped),
         ("the proved program", check_proved),
     ]
     for number, (name, check) in enumerate(tried):
@@ -314,6 +354,7 @@ def cases(setting: Setting, folder: Path) -> Cases:
     yield Case("front: README", check_readme)
     yield Case("front: VERSION and CHANGELOG", check_version)
     yield Case("front: NOTICES", check_notices)
+    yield Case("front: measurements", check_measurements)
     yield Case("front: layers", check_layers)
     yield Case("front: what stands on what", check_order_of_layers)
     yield Case("front: the way of a text", check_ways)

@@ -61,6 +61,24 @@ SLIPS = [
 ]
 
 
+# Thirty crates that may stand on any other, in a room in which a short search comes to no end: at the
+# low end of x2 there is no room for the last, and no step says so before it
+MANY = 30
+SUPPORT_HEAD = "geost 1 dims 2\nshape s box 0 0 size 2 1 ;\nshape t box 0 0 size 1 2 ;\n"
+SUPPORT_RULES = (
+    "macro on(p : object, q : object) means\n"
+    "  exists t in boxes of q : [ p.x2 = q.x2 + t.l2 and p.x1 < q.x1 + t.l1 and q.x1 < p.x1 + 1 ] ;\n"
+    "rule room : within 0..9 0..5 ;\nrule free : apart ;\n"
+    "rule borne : forall p in objects : [ p.x2 = 0 or exists q in objects : @on(p, q) ] ;\n"
+    "rule late : o29.x2 = 0 and o30.x2 = 0 and o28.x2 = 0 and o27.x2 = 0 ;\nend\n"
+)
+
+
+def support_by_any() -> str:
+    things = (f"object o{number} as s, t at 0..9 0..5 ;\n" for number in range(1, MANY + 1))
+    return SUPPORT_HEAD + "".join(things) + SUPPORT_RULES
+
+
 def check_slip(setting: Setting, slip: Slip) -> None:
     printed, status = run_tool("lint", setting, ["-"], slip.text)
     lines = printed.splitlines()
@@ -74,7 +92,8 @@ def check_silent(setting: Setting, problem: Path) -> None:
 
 
 def cases(setting: Setting, folder: Path) -> Cases:
-    for slip in SLIPS:
+    by_any = Slip("support by any", support_by_any(), ("`borne` is kept by any other object",))
+    for slip in [*SLIPS, by_any]:
         yield Case(f"lint {slip.name}", lambda slip=slip: check_slip(setting, slip))
     for problem in sorted((TOP / "examples").rglob("*.geost")):
         yield Case(f"lint is silent on {problem.name}", lambda problem=problem: check_silent(setting, problem))

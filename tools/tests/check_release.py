@@ -11,10 +11,10 @@ import sys
 from dataclasses import dataclass
 from pathlib import Path
 
-from harness import TOOLS, TOP, Case, Cases, Failed, Setting, Skipped, want, want_in
+from harness import TOOLS, TOP, Case, Cases, Failed, Setting, Skipped
+from harness import is_unproved, want, want_in
 
 MIRROR = "http://deb.debian.org/debian"
-UNPROVED_MARK = b"__asan_init"
 C_LIBRARY = {"libc.so.6", "libm.so.6", "libgcc_s.so.1", "ld-linux-x86-64.so.2"}
 EXAMPLE = TOP / "examples" / "two_boxes_on_a_line"
 
@@ -31,10 +31,6 @@ class Release:
         return self.folder / "libexec" / "geost_cli"
 
 
-def is_unproved(setting: Setting) -> bool:
-    return UNPROVED_MARK in Path(setting.program.path).read_bytes()
-
-
 def make(setting: Setting, folder: Path) -> subprocess.CompletedProcess[str]:
     words = [sys.executable, str(TOOLS / "release"), "--program", setting.program.path, str(folder)]
     return subprocess.run(words, capture_output=True, text=True)
@@ -44,7 +40,7 @@ def released(setting: Setting, folder: Path) -> Release:
     """The archive of the program that is tested, unpacked."""
     if shutil.which("rt") is None:
         raise Skipped("the kit's rt is not in the search path")
-    if is_unproved(setting):
+    if is_unproved(setting.program):
         raise Skipped("the program that is tested was built without its proofs")
     done = make(setting, folder)
     want((done.stderr, done.returncode), ("", 0), "what tools/release says")
@@ -114,11 +110,20 @@ def libraries(program: Path) -> list[Path]:
     return found
 
 
+def newest_glibc(program: Path) -> tuple[int, int]:
+    """The newest version of the C library that a program asks for."""
+    found = re.findall(rb"GLIBC_(\d+)\.(\d+)", program.read_bytes())
+    return max((int(major), int(minor)) for major, minor in found)
+
+
 def check_alone(setting: Setting, folder: Path) -> None:
     """The program runs in a folder that has the C library and nothing else."""
     release = released(setting, folder)
     needed = libraries(release.program)
     want({path.name for path in needed} - C_LIBRARY, set(), "libraries beside the C library")
+    said = re.search(r"glibc (\d+)\.(\d+) or newer", (TOP / "README.md").read_text())
+    if said is None or newest_glibc(release.program) > (int(said[1]), int(said[2])):
+        raise Failed(f"it wants glibc {newest_glibc(release.program)}, and README says otherwise")
     if os.geteuid() != 0 or shutil.which("chroot") is None:
         raise Skipped("chroot needs the rights of root")
     room = folder / "room"

@@ -10,7 +10,7 @@ from geost_refusals import Kind, Source, explain_refusal
 from geost_slips import compiled, known_slips, marked_statement
 from geost_text import end_of_first_text
 from geost_words import meant
-from harness import Case, Cases, Failed, Setting, want, want_in
+from harness import Case, Cases, Failed, Setting, run_tool, want, want_in
 
 FRONT = """geost 1 dims 2
 shape tile box 0 0 size 2 1 ;
@@ -244,6 +244,15 @@ def check_plan(setting: Setting, plan: str, wanted: str) -> None:
     want_in(wanted, explained(setting, text, end_of_first_text(text), ["judge"]))
 
 
+def check_words(setting: Setting) -> None:
+    """tools/explain runs words that have no form, and says what to write instead of them."""
+    printed, status = run_tool("explain", setting, ["first", "1e6"], WHOLE)
+    want(status, 4, "the status")
+    want(printed.splitlines()[0], "bad words", "what the program prints")
+    want_in("write 1000000 in place of `1e6`", printed)
+    want_in("    geost first N\n", printed)
+
+
 def check_derivation(setting: Setting) -> None:
     """What stands in a derivation is no slip of a plan, and its faults are those of derivations."""
     text = (WHOLE + "none\ngone three [ ]\nqed\n").encode()
@@ -306,6 +315,7 @@ def cases(setting: Setting, folder: Path) -> Cases:
     for words, wanted in WORDS.items():
         said = "\n".join(meant(words.split()))
         yield Case(f"slip: the words {words!r}", lambda w=wanted, said=said: want_in(w, said))
+    yield Case("slip: words that tools/explain runs", lambda: check_words(setting))
     yield Case("slip: a derivation", lambda: check_derivation(setting))
     yield Case("slip: a very long line", lambda: check_long_line(setting))
     yield Case("slip: the patterns", check_patterns)

@@ -43,6 +43,14 @@ class Setting:
 Cases = Iterator[Case]
 
 
+UNPROVED_MARK = b"__asan_init"
+
+
+def is_unproved(program: Program) -> bool:
+    """Whether a program is one that the kit built without its proofs."""
+    return UNPROVED_MARK in Path(program.path).read_bytes()
+
+
 def want(given: object, wanted: object, what: str) -> None:
     if given != wanted:
         raise Failed(f"{what}: {given!r} in place of {wanted!r}")
@@ -56,6 +64,15 @@ def first_of(text: str) -> str:
 def want_in(part: str, text: str) -> None:
     if part not in text:
         raise Failed(f"{part!r} does not stand in\n{text}")
+
+
+def run_plain(name: str, arguments: list[str], text: str = "") -> str:
+    """What a script that asks no program prints. Failed where it ends with another status than 0."""
+    command = [sys.executable, str(TOOLS / name), *arguments]
+    done = subprocess.run(command, input=text.encode(), capture_output=True)
+    if done.returncode != 0:
+        raise Failed(f"tools/{name}: {done.stderr.decode()}")
+    return done.stdout.decode()
 
 
 def run_tool(name: str, setting: Setting, arguments: list[str], text: bytes | str = b"") -> tuple[str, int]:
