@@ -12,10 +12,19 @@ from collections.abc import Iterator
 from dataclasses import dataclass
 from pathlib import Path
 
-from harness import TOP, Case, Cases, Failed, Setting, want, want_in
+from harness import TOP, Case, Cases, Failed, Setting, hear_interrupts, want, want_in
 
 MOST_README_LINES = 80
 LONGEST_WAIT = 30
+# what the script says of words that the program does not know
+HINTS = {
+    "": "no such command (./geost help)",
+    "solve": "no such command (./geost help)",
+    "first": "digits alone, as in first 1000",
+    "first 1e6": "digits alone, as in first 1000",
+    "all 10 x": "digits alone, as in first 1000",
+    f"first 100 {__file__}": f"./geost first 100 < {__file__}",
+}
 LAWS, TESTS = "laws", "tests and measurement"
 CHANGING = "crates/geo_base/src/lib.rt"
 
@@ -153,6 +162,7 @@ def check_stopped(folder: Path) -> None:
         stdout=subprocess.PIPE,
         stderr=subprocess.DEVNULL,
         env={**checkout.surroundings(), "TMPDIR": str(rooms)},
+        preexec_fn=hear_interrupts,
         start_new_session=True,
     )
     until = time.monotonic() + LONGEST_WAIT
@@ -179,6 +189,8 @@ def check_proved(folder: Path) -> None:
     write_program(program, "echo proved; exit 1")
     want(checkout.call("first", "100"), Said("proved\n", "", 1), "the answer of the proved program")
     want(checkout.call("--proved"), Said(f"{program}\n", "", 0), "what --proved prints")
+    for words, hint in HINTS.items():
+        want_in(hint, checkout.call(*words.split()).told)
     want(checkout.built(), 0, "builds")
     write_program(program, "echo unproved; exit # __asan_init")
     want(checkout.call("--proved").status, 1, "the status of --proved for an unproved build")

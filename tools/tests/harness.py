@@ -2,6 +2,7 @@
 
 from __future__ import annotations
 
+import signal
 import subprocess
 import sys
 from collections.abc import Callable, Iterator
@@ -41,6 +42,11 @@ class Setting:
 
 
 Cases = Iterator[Case]
+
+
+def hear_interrupts() -> None:
+    """Lets Ctrl-C end a process that is started so, also behind a shell that ignores it."""
+    signal.signal(signal.SIGINT, signal.SIG_DFL)
 
 
 UNPROVED_MARK = b"__asan_init"
