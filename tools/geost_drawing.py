@@ -4,7 +4,6 @@ from __future__ import annotations
 
 from collections.abc import Iterable
 from dataclasses import dataclass
-from itertools import count
 from pathlib import Path
 from xml.sax.saxutils import escape, quoteattr
 
@@ -98,8 +97,7 @@ class Plane:
         """The greater, the nearer to the eye the box ends."""
         if self.depth is None:
             return 0
-        end: int = box.high[self.depth] if self.is_from_high else -box.low[self.depth]
-        return end
+        return box.high[self.depth] if self.is_from_high else -box.low[self.depth]
 
 
 def n(value: float) -> str:
@@ -125,16 +123,20 @@ def lines(ends: Iterable[tuple[float, float, float, float]], classes: str) -> st
 
 def step_for(scale: float, least: float) -> int:
     """The least of 1, 2, 5, 10, 20 .. cells that are so many pixels apart."""
-    for power in count():
-        for digit in (1, 2, 5):
-            if digit * 10**power * scale >= least:
-                return digit * 10**power
-    raise AssertionError
+    ten = 1
+    while 5 * ten * scale < least:
+        ten *= 10
+    return next(digit * ten for digit in (1, 2, 5) if digit * ten * scale >= least)
 
 
 def ticks(low: int, high: int, step: int) -> range:
     """The multiples of a step from one number up to another."""
     return range(-(-low // step) * step, high + 1, step)
+
+
+def number_width(low: int, high: int) -> float:
+    """The pixels that a number between these takes, with a gap."""
+    return 10 + 7.2 * max(len(str(low)), len(str(high)))
 
 
 def title_of(thing: Thing) -> str:
@@ -198,8 +200,9 @@ class Paper:
 def paper_for(frame: Cuboid, plane: Plane, width: float, height: float) -> Paper:
     """The frame as large as fits between the numbers at its left and below and a title above."""
     left, bottom, right, top = frame.rect(plane.right, plane.up)
-    scale = min((width - 58) / (right - left), (height - 60) / (top - bottom))
-    return Paper(frame, plane, scale, 44, 26)
+    margin = max(44.0, 20 + number_width(bottom, top))
+    scale = min((width - margin - 14) / (right - left), (height - 60) / (top - bottom))
+    return Paper(frame, plane, scale, margin, 26)
 
 
 def draw_plane(
@@ -230,8 +233,8 @@ def draw_plane(
 
 def draw_room(paper: Paper) -> list[str]:
     left, bottom, right, top = paper.whole()
-    step = step_for(paper.scale, 24)
-    across, upward = ticks(left, right, step), ticks(bottom, top, step)
+    across = ticks(left, right, step_for(paper.scale, max(24, number_width(left, right))))
+    upward = ticks(bottom, top, step_for(paper.scale, 24))
     grid = [(paper.x(k), paper.y(bottom), paper.x(k), paper.y(top)) for k in across]
     grid += [(paper.x(left), paper.y(k), paper.x(right), paper.y(k)) for k in upward]
     parts = [rectangle(paper.span(paper.whole()), 'class="room"'), lines(grid, "grid")]
@@ -430,7 +433,7 @@ def draw_lanes(place: Lines) -> list[str]:
         parts.append(rectangle((place.left, top, span, place.row), f'class="{kind}"'))
         parts.append(text_at(place.left - 8, top + place.row / 2 + 4, name, "line end"))
     low, high = place.frame.low[place.time], place.frame.high[place.time]
-    marks = ticks(low, high, step_for(span / (high - low), 24))
+    marks = ticks(low, high, step_for(span / (high - low), max(24, number_width(low, high))))
     parts.append(
         lines([(place.x(k), place.top, place.x(k), place.bottom()) for k in marks], "grid")
     )

@@ -17,7 +17,17 @@ from geost_orders import ties, value_of
 from geost_parts import is_fixed, with_objects, without_rule
 from geost_portfolio import Options, Portfolio
 from geost_program import Program
-from geost_runs import Limits, Outcome, Progress, Task, Verdict, has_z3, judged_layout, search_each
+from geost_runs import (
+    NO_LAYOUT,
+    Limits,
+    Outcome,
+    Progress,
+    Task,
+    Verdict,
+    has_z3,
+    judged_layout,
+    search_each,
+)
 from geost_text import Problem
 
 MOST_WAYS = 40
@@ -65,10 +75,13 @@ class Lesson:
         yield from self.rules_in_the_way(reached)
         yield from self.better_way()
 
-    def searched(self, what: str, share: float, tasks: list[Task[What]]) -> dict[What, Outcome]:
-        """The outcomes of tasks within a share of all seconds, without those that come too late."""
+    def searched(
+        self, what: str, share: float, tasks: list[Task[What]], each: float | None = None
+    ) -> dict[What, Outcome]:
+        """The outcomes of tasks within a share of all seconds, without those that come too late;
+        `each` bounds the seconds of one."""
         until = time.monotonic() + min(self.left(), share * self.bounds.seconds)
-        limits = Limits(self.bounds.steps, self.bounds.seconds / RUNS_IN_A_ROW, until)
+        limits = Limits(self.bounds.steps, each or self.bounds.seconds / RUNS_IN_A_ROW, until)
         found: dict[What, Outcome] = {}
         for key, outcome in search_each(self.program, self.bounds.processors, limits, tasks):
             found[key] = outcome
@@ -102,7 +115,7 @@ class Lesson:
     def looked_between(self, reached: Reached) -> Reached:
         counts = spread(reached.found, reached.failed, self.bounds.processors)
         what = f"the first {counts[0]} to {counts[-1]} objects"
-        outcomes = self.searched(what, 0.1, [Task(count, self.first(count)) for count in counts])
+        outcomes = self.searched(what, 0.07, [Task(count, self.first(count)) for count in counts])
         good = [count for count in outcomes if outcomes[count].verdict is Verdict.LAYOUT]
         found = max([reached.found, *good])
         bad = [count for count in outcomes if count > found]
@@ -149,23 +162,27 @@ class Lesson:
 
     def rules_in_the_way(self, reached: Reached) -> Iterator[str]:
         """Without which rule there is a layout: of all objects, else of the first that fail."""
-        helpful = self.helpful_rules(self.problem)
+        outcomes = self.without_each_rule(self.problem)
+        helpful = self.with_layouts(outcomes)
         for name in helpful:
             yield f"without the rule `{name}` all objects {self.have_a_layout()}"
         if helpful:
             return
-        yield "whichever single rule is left out, no layout of all objects is found within them"
+        if outcomes:
+            yield f"without any one of {len(outcomes)} rules no layout of all is found within them"
         if reached.failed < len(self.names()):
             who = f"the first {reached.failed} objects"
-            for name in self.helpful_rules(self.first(reached.failed)):
+            for name in self.with_layouts(self.without_each_rule(self.first(reached.failed))):
                 yield f"without the rule `{name}` {who} {self.have_a_layout()}"
 
-    def helpful_rules(self, problem: Problem) -> list[str]:
-        """The rules without which a layout is found, one at a time."""
+    def without_each_rule(self, problem: Problem) -> dict[str, Outcome]:
         tasks = [Task(rule.name, without_rule(problem, rule.name)) for rule in problem.rules]
-        outcomes = self.searched("without a rule", 0.15, tasks)
-        found = [name for name in outcomes if outcomes[name].verdict is Verdict.LAYOUT]
-        return [rule.name for rule in problem.rules if rule.name in found]
+        return self.searched("without a rule", 0.12, tasks)
+
+    def with_layouts(self, outcomes: dict[str, Outcome]) -> list[str]:
+        """The rules of these outcomes, in the sequence of the text, without which one is found."""
+        names = [rule.name for rule in self.problem.rules if rule.name in outcomes]
+        return [name for name in names if outcomes[name].verdict is Verdict.LAYOUT]
 
     # Which way does better, and what to try next
 
@@ -173,37 +190,58 @@ class Lesson:
         """The first of other orders, sides and narrower problems in which a layout is found."""
         ways = list(itertools.islice(candidates(self.problem), 1, MOST_WAYS))
         tasks = [Task(way, way.of(self.problem)) for way in ways]
-        outcomes = self.searched("other ways", 0.15, tasks)
+        outcomes = self.searched("other ways", 0.12, tasks)
         found = [way for way in ways if way in outcomes and self.has_layout(outcomes[way])]
         if found:
             yield from self.said_way(min(found, key=lambda way: way.is_narrower))
             return
-        yield f"in {len(outcomes)} other orders and ways none is found within them"
+        if outcomes:
+            yield f"in {len(outcomes)} other orders and ways none is found within them"
         yield from self.longer()
 
     def longer(self) -> Iterator[str]:
-        """What the ways of tools/portfolio find of the whole problem, and then without each
-        rule."""
-        if self.layout_of(self.problem, self.left() / 3):
-            yield "tools/portfolio finds a layout, judged good, by other steps and ways;"
+        """What the ways of tools/portfolio find of the whole problem, else what z3 and they find of
+        the problem without each of its rules."""
+        options = Options(
+            self.left() / 3, self.bounds.processors, with_z3=has_z3(), ends_with_z3=True
+        )
+        portfolio = Portfolio(self.program, self.problem, options)
+        found = portfolio.run()
+        self.progress.end()
+        if found is not None and found.layout is not None:
+            yield f"tools/portfolio finds a layout, {found.search.said()}; judged good"
             yield f"next: tools/portfolio --write {self.file}"
             return
-        for name in self.rules_by_portfolio():
-            yield f"without the rule `{name}` all objects have a layout, found by other ways"
+        if NO_LAYOUT in portfolio.said_by_z3:
+            yield portfolio.said_by_z3
+        helpful = self.rules_by_z3()
+        for name in helpful:
+            yield f"without the rule `{name}` all objects have one that z3 proposes, judged good"
+        if not helpful:
+            for name in self.rules_by_portfolio():
+                yield f"without the rule `{name}` all objects have a layout, by other ways"
         yield f"next: tools/portfolio --seconds 60 {self.file} tries more ways, and for longer;"
         yield "docs/SPEED.md says what makes such problems easy"
 
+    def rules_by_z3(self) -> list[str]:
+        """The rules without which z3 proposes a layout that the program judges good."""
+        if not has_z3():
+            return []
+        rules = self.problem.rules
+        each = self.left() * self.bounds.processors / max(1, len(rules))
+        tasks = [Task(rule.name, without_rule(self.problem, rule.name), True) for rule in rules]
+        outcomes = self.searched("without a rule, by z3", 1.0, tasks, min(each, self.left()))
+        return self.with_layouts(outcomes)
+
     def rules_by_portfolio(self) -> Iterator[str]:
+        """The same by the ways of tools/portfolio, one rule after the other."""
         for number, rule in enumerate(self.problem.rules):
             share = self.left() / (len(self.problem.rules) - number)
-            if self.layout_of(without_rule(self.problem, rule.name), share):
+            options = Options(share, self.bounds.processors)
+            shorter = without_rule(self.problem, rule.name)
+            found = Portfolio(self.program, shorter, options).run()
+            if found is not None and found.layout is not None:
                 yield rule.name
-
-    def layout_of(self, problem: Problem, seconds: float) -> bool:
-        """Whether the ways of tools/portfolio find a layout of a problem in some seconds."""
-        options = Options(seconds, self.bounds.processors, with_z3=has_z3())
-        found = Portfolio(self.program, problem, options).run()
-        return found is not None and found.layout is not None
 
     def left(self) -> float:
         return max(0.0, self.began + self.bounds.seconds - time.monotonic())

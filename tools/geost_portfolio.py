@@ -12,7 +12,7 @@ from dataclasses import dataclass, field
 
 from geost_candidates import candidates, in_turn, leading_to
 from geost_program import Program
-from geost_runs import Outcome, Progress, Runs, Task, Verdict, judged_layout
+from geost_runs import NO_LAYOUT, Outcome, Progress, Runs, Task, Verdict, judged_layout
 from geost_strategies import Effort, Search, Strategy, learning, proposed, repairing, repeated
 from geost_text import Problem, read_layout
 
@@ -25,13 +25,15 @@ FIRST_WAYS = 8
 @dataclass(frozen=True)
 class Options:
     """How long is looked for a layout, by how many processors, with how many steps at first,
-    whether z3 is asked, and whether it has to be found by an order that leads to it."""
+    whether z3 is asked, whether a layout has to be found by an order that leads to it, and whether
+    the search ends where z3 says that there is none."""
 
     seconds: float
     processors: int
     steps: int = 1000
     with_z3: bool = False
     only_stated: bool = False
+    ends_with_z3: bool = False
 
 
 @dataclass(order=True)
@@ -84,7 +86,7 @@ class Portfolio:
     def run(self) -> Found | None:
         """The first layout that is found, or that there is none; None where the time is over."""
         with Runs[Turn](self.program, self.options.processors) as runs:
-            while self.seconds() < self.options.seconds and (self.waiting or runs.going):
+            while self.goes_on() and (self.waiting or runs.going):
                 while self.waiting and runs.has_room():
                     self.start_next(runs)
                 for turn, outcome in runs.ended():
@@ -94,6 +96,11 @@ class Portfolio:
                     self.go_on(turn, outcome)
                 time.sleep(PAUSE)
         return self.kept
+
+    def goes_on(self) -> bool:
+        if self.options.ends_with_z3 and NO_LAYOUT in self.said_by_z3:
+            return False
+        return self.seconds() < self.options.seconds
 
     def is_enough(self, found: Found) -> bool:
         """Whether nothing better is to be looked for. A way that is to be written has to lead to a

@@ -23,6 +23,7 @@ from geost_program import ANSWERED, BUDGET, Answer, Program
 from geost_text import Placed, Problem, print_layout, print_problem, read_layout
 
 PROPOSE = str(Path(__file__).resolve().parent / "propose")
+NO_LAYOUT = "that there is no layout"
 PAUSE = 0.004
 LINE = 79
 What = TypeVar("What")

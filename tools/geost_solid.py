@@ -15,6 +15,7 @@ from geost_drawing import (
     area,
     lines,
     n,
+    number_width,
     step_for,
     text_at,
     ticks,
@@ -189,29 +190,31 @@ def with_part(point: tuple[float, ...], place: int, value: float) -> Space:
 def draw_axis(camera: Camera, frame: Cuboid, d: int) -> list[str]:
     """The numbers along that edge in dimension `d` that lies lowest, for the height leftmost."""
     base = edge_for(camera, frame, d)
-    low, high = camera.onto(with_part(base, d, frame.low[d])), camera.onto(
-        with_part(base, d, frame.high[d])
-    )
+    ends = frame.low[d], frame.high[d]
+    low, high = [camera.onto(with_part(base, d, end)) for end in ends]
     middle = (low[0] + high[0]) / 2, (low[1] + high[1]) / 2
+    off = away_from(camera.onto(camera.middle), low, high)
+    wide = number_width(*ends)
+    least = 16 if d == 2 else max(26, wide)
+    step = step_for(hypot(high[0] - low[0], high[1] - low[1]) / (ends[1] - ends[0]), least)
+    spots = [(k, camera.onto(with_part(base, d, k))) for k in ticks(*ends, step)]
+    parts = [lines([(x, y, x + off[0] * 4, y + off[1] * 4) for _, (x, y) in spots], "tick")]
+    far = max(14, 4 + wide / 2)
+    parts += [
+        text_at(x + off[0] * far, y + off[1] * far + 4, str(k), "number") for k, (x, y) in spots
+    ]
+    x, y = middle[0] + off[0] * (18 + far), middle[1] + off[1] * (18 + far) + 4
+    return [*parts, text_at(x, y, f"x{d + 1}", "axis")]
+
+
+def away_from(inner: Point, low: Point, high: Point) -> Point:
+    """The direction across an edge away from a point, one pixel long."""
     length = hypot(high[0] - low[0], high[1] - low[1]) or 1.0
     off = (high[1] - low[1]) / length, (low[0] - high[0]) / length
-    inner = camera.onto(camera.middle)
+    middle = (low[0] + high[0]) / 2, (low[1] + high[1]) / 2
     if off[0] * (middle[0] - inner[0]) + off[1] * (middle[1] - inner[1]) < 0:
-        off = -off[0], -off[1]
-    marks = ticks(
-        frame.low[d],
-        frame.high[d],
-        step_for(length / (frame.high[d] - frame.low[d]), 16 if d == 2 else 26),
-    )
-    spots = [(k, camera.onto(with_part(base, d, k))) for k in marks]
-    parts = [lines([(x, y, x + off[0] * 4, y + off[1] * 4) for _, (x, y) in spots], "tick")]
-    parts += [
-        text_at(x + off[0] * 14, y + off[1] * 14 + 4, str(k), "number") for k, (x, y) in spots
-    ]
-    return [
-        *parts,
-        text_at(middle[0] + off[0] * 32, middle[1] + off[1] * 32 + 4, f"x{d + 1}", "axis"),
-    ]
+        return -off[0], -off[1]
+    return off
 
 
 def edge_for(camera: Camera, frame: Cuboid, d: int) -> tuple[float, ...]:

@@ -206,6 +206,52 @@ def write_program(path: Path, lines: str) -> None:
     path.chmod(0o755)
 
 
+# What .ci/run calls beside the kit and `geost`, each with what it says.
+STEPS = {
+    "examples/check": "true",
+    ".ci/try_geost": "echo tried",
+    "tools/setup": "echo 'missing: vim (a test)'; exit 1",
+    "tools/test": "printf 'skipped: a test: no vim\\n1 skipped\\n9 passed, 0 failed\\n'",
+}
+GATE = """#!/usr/bin/env bash
+mkdir -p crates/geost_cli/out
+printf '#!/usr/bin/env bash\n# {mark}\n' >crates/geost_cli/out/geost_cli
+chmod +x crates/geost_cli/out/geost_cli
+"""
+
+
+def run_gate(folder: Path, mark: str) -> subprocess.CompletedProcess[str]:
+    """Runs .ci/run where the kit builds a program with this mark in it."""
+    checkout = copy_checkout(folder)
+    for name, lines in STEPS.items():
+        (checkout.top / name).parent.mkdir(exist_ok=True)
+        write_program(checkout.top / name, lines)
+    shutil.copy(TOP / ".ci" / "run", checkout.top / ".ci" / "run")
+    write_program(folder / "rt", GATE.format(mark=mark).partition("\n")[2])
+    return subprocess.run(
+        [checkout.top / ".ci" / "run"],
+        env={**checkout.surroundings(), "GEOST_CASES": str(folder / "none")},
+        capture_output=True,
+        text=True,
+    )
+
+
+def check_gate(folder: Path) -> None:
+    """The gate names last what was skipped, and an unproved build does not pass in it."""
+    done = run_gate(folder / "proved", "proved")
+    want(done.returncode, 0, f"the status of the gate: {done.stderr}")
+    last = [
+        "missing: vim (a test)",
+        "skipped: a test: no vim",
+        "skipped: acceptance cases: there is no folder of them",
+        "2 skipped",
+    ]
+    want(done.stdout.splitlines()[-4:], last, "the last lines")
+    refused = run_gate(folder / "unproved", "__asan_init")
+    want(refused.returncode, 1, "the status of the gate with an unproved build")
+    want("tried" in refused.stdout, False, "whether it went on")
+
+
 def check_help(setting: Setting) -> None:
     """The script answers `help`, which names each command of the program, and the version."""
     printed = [run_script(word) for word in ("help", "--help", "-h")]
@@ -358,6 +404,7 @@ def cases(setting: Setting, folder: Path) -> Cases:
         ("a build that fails", check_failed_build),
         ("a build that is stopped", check_stopped),
         ("the proved program", check_proved),
+        ("the gate around it", check_gate),
     ]
     for number, (name, check) in enumerate(tried):
         own = folder / f"front{number}"

@@ -55,6 +55,9 @@ const Flat = (() => {
     return Cells.counted(count).map((k) => first + k * step);
   }
 
+  // The pixels that a number between these takes, with a gap.
+  const numberWidth = (low, high) => 10 + 7.2 * Math.max(String(low).length, String(high).length);
+
   const titleOf = (thing) => `${thing.name} as ${thing.shape} at ${thing.origin.join(" ")}`;
 
   // The classes of a thing's part: whether it is blamed, faded or picked.
@@ -90,9 +93,10 @@ const Flat = (() => {
   // Where the cells of a frame lie on a drawing of at most this size.
   function paperFor(frame, plane, width, height, isPlain) {
     const [left, bottom, right, top] = Cells.rectOf(frame, plane.right, plane.up);
+    const side = Math.max(44, 20 + numberWidth(bottom, top));
     const margin = isPlain
       ? { left: 4, top: 4, across: 8, down: 8 }
-      : { left: 44, top: 26, across: 58, down: 60 };
+      : { left: side, top: 26, across: side + 14, down: 60 };
     const scale = Math.min(
       (width - margin.across) / (right - left),
       (height - margin.down) / (top - bottom),
@@ -108,8 +112,9 @@ const Flat = (() => {
   function roomParts(paper) {
     const { x, y, plane } = paper;
     const [left, bottom, right, top] = paper.whole;
-    const step = stepFor(paper.scale, 24);
-    const [across, upward] = [ticks(left, right, step), ticks(bottom, top, step)];
+    const least = Math.max(24, numberWidth(left, right));
+    const across = ticks(left, right, stepFor(paper.scale, least));
+    const upward = ticks(bottom, top, stepFor(paper.scale, 24));
     const grid = [
       ...across.map((k) => [x(k), y(bottom), x(k), y(top)]),
       ...upward.map((k) => [x(left), y(k), x(right), y(k)]),
@@ -248,7 +253,8 @@ const Flat = (() => {
         textAt(left - 8, y + row / 2 + 4, name, "line end"),
       ];
     });
-    const marks = ticks(frame.low[time], frame.high[time], stepFor(paper.scale, 24));
+    const least = Math.max(24, numberWidth(frame.low[time], frame.high[time]));
+    const marks = ticks(frame.low[time], frame.high[time], stepFor(paper.scale, least));
     const grid = lines(marks.map((k) => [x(k), top, x(k), bottom]), "grid");
     return [...rows, grid, ...marks.map((k) => textAt(x(k), top - 8, k, "number"))];
   }
@@ -317,6 +323,6 @@ const Flat = (() => {
   }
 
   return {
-    SIDES, LETTER, safe, n, svg, plane, timeLine, table, stepFor, ticks, titleOf,
+    SIDES, LETTER, safe, n, svg, plane, timeLine, table, stepFor, ticks, numberWidth, titleOf,
   };
 })();

@@ -14,6 +14,7 @@ const Solid = (() => {
   const START = { turn: -0.95, tilt: 0.5, zoom: 1, shift: [0, 0] };
   const SHARED = "#b00020";
   const [LINE, GREY] = ["#20262d", "#8a949f"];
+  const FONT = '"DejaVu Sans", system-ui, sans-serif';
 
   // ---- faces and their tree
 
@@ -197,23 +198,32 @@ const Solid = (() => {
     return onFloor.reduce((best, corner) => (rank(corner) > rank(best) ? corner : best));
   }
 
+  // The direction across an edge away from a point, one pixel long.
+  function awayFrom(inner, low, high) {
+    const length = Math.hypot(high[0] - low[0], high[1] - low[1]) || 1;
+    const off = [(high[1] - low[1]) / length, (low[0] - high[0]) / length];
+    const middle = [(low[0] + high[0]) / 2, (low[1] + high[1]) / 2];
+    const isInward = off[0] * (middle[0] - inner[0]) + off[1] * (middle[1] - inner[1]) < 0;
+    return isInward ? off.map((part) => -part) : off;
+  }
+
   function drawAxis(pen, camera, frame, d) {
     const base = edgeFor(camera, frame, d);
     const at = (k) => camera.onto(withPart(base, d, k));
-    const [low, high, inner] = [at(frame.low[d]), at(frame.high[d]), camera.onto(camera.middle)];
-    const middle = [(low[0] + high[0]) / 2, (low[1] + high[1]) / 2];
-    const length = Math.hypot(high[0] - low[0], high[1] - low[1]) || 1;
-    let off = [(high[1] - low[1]) / length, (low[0] - high[0]) / length];
-    if (off[0] * (middle[0] - inner[0]) + off[1] * (middle[1] - inner[1]) < 0) {
-      off = off.map((it) => -it);
-    }
+    const ends = [frame.low[d], frame.high[d]];
+    const [low, high] = ends.map(at);
+    const off = awayFrom(camera.onto(camera.middle), low, high);
     const away = (spot, pixels) => [spot[0] + off[0] * pixels, spot[1] + off[1] * pixels];
-    const step = Flat.stepFor(length / (frame.high[d] - frame.low[d]), d === 2 ? 16 : 26);
-    for (const k of Flat.ticks(frame.low[d], frame.high[d], step)) {
+    const wide = Flat.numberWidth(...ends);
+    const length = Math.hypot(high[0] - low[0], high[1] - low[1]);
+    const step = Flat.stepFor(length / (ends[1] - ends[0]), d === 2 ? 16 : Math.max(26, wide));
+    const far = Math.max(14, 4 + wide / 2);
+    for (const k of Flat.ticks(...ends, step)) {
       pen.lines([[at(k), away(at(k), 4)]], { stroke: GREY, width: 1 });
-      pen.note(String(k), away(at(k), 14), { fill: "#5b6570", size: 11 });
+      pen.note(String(k), away(at(k), far), { fill: "#5b6570", size: 11 });
     }
-    pen.note(`x${d + 1}`, away(middle, 32), { fill: "#2b333b", size: 13, isBold: true });
+    const middle = [(low[0] + high[0]) / 2, (low[1] + high[1]) / 2];
+    pen.note(`x${d + 1}`, away(middle, 18 + far), { fill: "#2b333b", size: 13, isBold: true });
   }
 
   // ---- the things
@@ -330,14 +340,15 @@ const Solid = (() => {
 
   // ---- pens
 
+  function writeOn(context, text, [x, y], fill, font) {
+    const place = { textAlign: "center", textBaseline: "middle" };
+    Object.assign(context, { globalAlpha: 1, fillStyle: fill, font, ...place });
+    context.fillText(text, x, y);
+  }
+
   function canvasPen(context) {
     const trace = (points) => {
       points.forEach(([x, y], n) => (n ? context.lineTo(x, y) : context.moveTo(x, y)));
-    };
-    const note = (text, x, y, fill, font) => {
-      const place = { textAlign: "center", textBaseline: "middle" };
-      Object.assign(context, { fillStyle: fill, font, ...place });
-      context.fillText(text, x, y);
     };
     return {
       polygon(points, { fill, stroke, width, alpha = 1 }) {
@@ -360,15 +371,12 @@ const Solid = (() => {
       },
       text({ text, matrix, fill }) {
         context.save();
-        context.globalAlpha = 1;
         context.transform(...matrix);
-        note(text, 0, 0, fill, '1px "DejaVu Sans", system-ui, sans-serif');
+        writeOn(context, text, [0, 0], fill, `1px ${FONT}`);
         context.restore();
       },
-      note(text, [x, y], { fill, size, isBold }) {
-        context.globalAlpha = 1;
-        const font = `${size}px "DejaVu Sans", system-ui, sans-serif`;
-        note(text, x, y, fill, isBold ? `bold ${font}` : font);
+      note(text, spot, { fill, size, isBold }) {
+        writeOn(context, text, spot, fill, `${isBold ? "bold " : ""}${size}px ${FONT}`);
       },
     };
   }
