@@ -397,6 +397,25 @@ def has_function(name: str, call: str) -> bool:
     return file.is_file() and re.search(rf"\bfn {call}\b", file.read_text()) is not None
 
 
+def defined_names() -> Iterator[str]:
+    """The names at the front of each item of docs/DEFINITIONS.md."""
+    text = (TOP / "docs" / "DEFINITIONS.md").read_text()
+    for item in re.findall(
+        r"^- ((?:`[^`]+`(?: \([^)]*\))?,?\s+(?:and )?)*`[^`]+`)", text, re.MULTILINE
+    ):
+        yield from re.findall(r"`(\w+)`", item)
+
+
+def check_definitions() -> None:
+    """Each name that docs/DEFINITIONS.md explains stands in the definitions or in the code."""
+    files = [*(TOP / "crates").glob("*/specs/**/*.antt"), *(TOP / "crates").glob("*/src/**/*.rt")]
+    known = {word for file in files for word in re.findall(r"\w+", file.read_text())}
+    names = list(defined_names())
+    if len(names) < 400:
+        raise Failed(f"docs/DEFINITIONS.md explains {len(names)} names")
+    want([name for name in names if name not in known], [], "names that are defined nowhere")
+
+
 def cases(setting: Setting, folder: Path) -> Cases:
     tried = [
         ("a program that is kept", check_kept),
@@ -417,3 +436,4 @@ def cases(setting: Setting, folder: Path) -> Cases:
     yield Case("front: layers", check_layers)
     yield Case("front: what stands on what", check_order_of_layers)
     yield Case("front: the way of a text", check_ways)
+    yield Case("front: definitions", check_definitions)
