@@ -23,6 +23,7 @@ pub trait Deciding {
     fn decide<S: Source>(&self, alloc: Global, source: &mut S) -> Result<Self::Answer, ReadFault>
         ensures answer { IfOk result (λ reply.
             Decides (question self.now) (S.left source.old) (Self.Answer.says reply)) }
+        ensures ready { IfOk result (λ reply. Self.Answer.ready reply) }
         ensures most { TakesAtMost (question self.now).most
             (S.left source.old) (S.left source.new) }
         ensures cause { ReadCause (S.faults source.old) (S.faults source.new) result }

@@ -19,9 +19,13 @@ pub trait Reply {
     /// The texts that it may come to, each with the status of a run that has written it.
     ghost says: { Self → List ℕ → StatusOf → Type 0 };
 
+    /// That it can be written.
+    ghost ready: { Self → Type 0 };
+
     /// Writes one of these texts, and gives its status. After a fault a front part of one was written. Over a quiet sink memory is
     /// wanted only where nothing was written.
     fn write<W: Sink>(self, alloc: Global, sink: &mut W) -> Result<Status, PutFault>
+        requires { ready self }
         ensures { WritesReply (says self) (W.written sink.old) (W.written sink.new)
             (W.faults sink.old) (W.faults sink.new) (W.quiet sink.old) (W.quiet sink.new) result };
 }
@@ -37,6 +41,8 @@ impl Reply for TextReply {
     ghost use Rattle.command_reply.specs.Reply.{IsSaid};
 
     ghost says = { λ r. IsSaid r.text.items r.status };
+
+    ghost ready = { λ _. Unit {0} };
 
     fn write<W: Sink>(self, _alloc: Global, sink: &mut W) -> Result<Status, PutFault> {
         write_all_bytes(sink, self.text.as_slice())?;

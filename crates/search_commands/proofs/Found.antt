@@ -1,6 +1,6 @@
 -- What a search answered is what is found of the text, and what `make` sums up of it.
 use Rattle.std.proofs.Common.{◌≡◌, ◌∙◌, ℕ, List, ◌++◌, length, refl, sym, ap, subst}
-use Rattle.std.specs.Prelude.{codes}
+use Rattle.std.specs.Prelude.{codes, Err}
 use Rattle.std.proofs.lemmas.List.{length-map}
 use Rattle.geo_base.specs.Tuple.{Tuple}
 use Rattle.derivation.specs.declared.recorder.NoRecord.{NoRecord}
@@ -14,11 +14,18 @@ use Rattle.problem_generator.specs.Made.{made_text}
 use Rattle.problem_data.specs.Cells.{IsTuple, IsShaped}
 use Rattle.rule_ground.specs.Ground.{conditions}
 use Rattle.command_reply.specs.declared.accepted.Accepted.{Accepted}
-use Rattle.command_reply.specs.Accepted.{HasRead}
+use Rattle.command_reply.specs.Accepted.{HasRead, AnswersAccepted}
 use Rattle.search_commands.specs.First.{FindsLayout, FindsNone, RunsOut}
 use Rattle.search_commands.specs.Make.{MakeAnswer, counts}
 use Rattle.search_commands.specs.Summed.{IsShapedFor, answer_lines, outcome_status}
-use Rattle.command_reply.specs.Reply.{IsAnswered}
+use Rattle.command_reply.specs.Reply.{IsAnswered, IsSaid}
+use Rattle.command_reply.specs.Question.{AnswersInput}
+use Rattle.command_reply.specs.Refusal.{refusal}
+use Rattle.command_reply.proofs.Ending.{Refuses, answers_told}
+use Rattle.command_input.specs.declared.command.Status.{Status}
+use Rattle.command_input.specs.declared.command.Status.TheVariants.{Refused}
+use Rattle.geo_tokens.specs.declared.fault.TextFault.{TextFault}
+use Rattle.geo_tokens.specs.declared.fault.TextFault.TheVariants as faults
 
 module _ {R : Type 0} (n : ℕ) (input : List ℕ) (a : Accepted) (read : HasRead input a) (o : Outcome R) (lists : Lists a.problem a.conditions.items n o) (finds : Finds a.problem o) where
   pub layout_found : (t : Tuple) → o ≡ Found t → FindsLayout n input a.problem a.conditions.items t
@@ -80,3 +87,8 @@ shaped_found p OutOfBudget f = tt
 -- the conditions that were read are those of the problem
 pub read_conditions : (text : List ℕ) (a : Accepted) → HasRead text a → AreConditionsOf a.problem a.conditions.items
 read_conditions text a h = record { fit = h.fit; meaning = h.meaning }
+
+-- the text that is made is refused
+pub make_refused : (seed n : ℕ) (input : List ℕ) (fault : TextFault) (own : List ℕ) (mine : Status) → Refuses fault own mine → AnswersAccepted (Err fault) (made_text seed) → AnswersInput (MakeAnswer seed n) input (IsSaid own mine)
+make_refused seed n input fault own mine (place, word, e, o, m) h =
+    answers_told (MakeAnswer seed n) input (refusal place word) own Refused mine o m (place, word, subst (λ (f : TextFault). AnswersAccepted (Err f) (made_text seed)) e h, refl) tt

@@ -3,3 +3,4 @@ pub mod Found
 pub mod OneFirst
 pub mod OnePage
 pub mod Listed
+pub mod Refuting

@@ -4,7 +4,7 @@ use Rattle.std.specs.Prelude.{Bool, IfSome}
 use Rattle.geo_base.specs.Tuple.{Tuple}
 use Rattle.geo_chan.specs.Written.{Writes, Wrote}
 use Rattle.geo_chan.specs.declared.outside.PutFault.{PutFault}
-use Rattle.geo_chan.specs.declared.outside.PutFault.TheVariants.{Memory}
+use Rattle.geo_chan.specs.declared.outside.PutFault.TheVariants.{Failed, Memory}
 use Rattle.geo_chan.proofs.Appending.{err_same, err_stays, wrote_then}
 use Rattle.geo_chan.specs.Causes.{PutCause}
 use Rattle.geo_conditions.specs.Walk.{Tree, EndWord}
@@ -19,8 +19,8 @@ use Rattle.command_reply.specs.declared.accepted.Accepted.{Accepted}
 use Rattle.command_reply.specs.Accepted.{HasRead}
 use Rattle.command_reply.specs.Question.{AnswersInput}
 use Rattle.command_reply.specs.Reply.{IsAnswered, WritesReply}
-use Rattle.search_commands.specs.All.{AllAnswer, IsFrom, ListsLayouts, last_line, last_status}
-use Rattle.search_commands.specs.Listing.{IsListingOf, SaysListing, listing_says}
+use Rattle.search_commands.specs.All.{AllAnswer, IsFrom, ListsLayouts, SaysListing, last_line, last_status}
+use Rattle.search_commands.specs.Listing.{IsListingOf, listing_says}
 use Rattle.search_commands.specs.declared.all.ListingReply.{ListingReply}
 use Rattle.search_commands.specs.declared.all.ListingReply.TheVariants.{Text, Listing}
 
@@ -31,8 +31,8 @@ from_tuple p None (Some t) h = absurd h
 from_tuple p (Some word) None h = absurd h
 from_tuple p (Some word) (Some t) h = h.tuple
 
-cause_of : {T U : Type 0} (f0 f1 : ℕ) (x : PutFault) → PutCause {T = T} f0 f1 (Err x) → PutCause {T = U} f0 f1 (Err x)
-cause_of {T} {U} f0 f1 x c = record { later = c.later; failed = λ e. c.failed (err_same U T x _ e); stays = err_stays T U f0 f0 f1 x refl c.stays }
+pub cause_of : {T U : Type 0} (f0 f1 : ℕ) (x : PutFault) → PutCause {T = T} f0 f1 (Err x) → PutCause {T = U} f0 f1 (Err x)
+cause_of {T} {U} f0 f1 e h = record { later = h.later; failed = λ x. h.failed (err_same T U e Failed x); stays = err_stays T U f0 f0 f1 e refl h.stays }
 
 module _ (p : ProblemData) (W : Tree) (most n : ℕ) (w0 w1 : Option (List ℕ)) (f0 f1 : ℕ) (q0 q1 : Bool) where
   says : (ts : List Tuple) (word : EndWord) → IsPage p W most n ts word → SaysListing p W most n (blocks_of p ts ++ last_line n word) (last_status word)

@@ -2,7 +2,7 @@
 use Rattle.std.specs.Prelude.{◌≡◌, ◌++◌, ℕ, List, Option, None, Some, codes}
 use Rattle.geo_base.specs.Tuple.{Tuple}
 use Rattle.geo_conditions.specs.declared.cond.Cond.{Cond}
-use Rattle.geo_conditions.specs.Walk.{EndWord, More, End, OutOfBudget}
+use Rattle.geo_conditions.specs.Walk.{Tree, EndWord, More, End, OutOfBudget}
 use Rattle.layout_text.specs.Token.{IsTokenOf}
 use Rattle.layout_search.specs.FirstLayout.{walk_after}
 use Rattle.layout_search.specs.Page.{IsPage, blocks_of}
@@ -50,6 +50,14 @@ pub record ListsLayouts (most n : ℕ) (token : Option (List ℕ)) (input text :
   pub from : IsFrom problem token after
   pub page : IsPage problem (walk_after problem conditions after) most n layouts word
   pub says : text ≡ blocks_of problem layouts ++ last_line n word
+  pub ends : status ≡ last_status word
+
+-- the blocks of a listing and the line behind it, with the status that it ends with
+pub record SaysListing (p : ProblemData) (W : Tree) (most n : ℕ) (text : List ℕ) (status : Status) : Type 0 where
+  pub layouts : List Tuple
+  pub word : EndWord
+  pub page : IsPage p W most n layouts word
+  pub says : text ≡ blocks_of p layouts ++ last_line n word
   pub ends : status ≡ last_status word
 
 -- the text is accepted, and the word is the token of no tuple

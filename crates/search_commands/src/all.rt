@@ -1,25 +1,25 @@
 //! `all`: the layouts of a problem by pages. Each block is written as soon as its layout is found.
 
-ghost use Rattle.std.specs.Prelude.{◌≡◌, ◌≤◌, ◌^◌, ℕ, List, IfOk, IfSome, length};
+ghost use Rattle.std.specs.Prelude.{◌≡◌, ℕ, List, IfOk, IfSome};
 ghost use Rattle.std.specs.Option.{option_copied};
 ghost use Rattle.geo_chan.specs.Written.{Prints};
-ghost use Rattle.layout_search.specs.FirstLayout.{AreConditionsOf, walk_after};
+ghost use Rattle.layout_search.specs.FirstLayout.{walk_after};
 ghost use Rattle.layout_search.specs.Page.{word_of};
 ghost use Rattle.problem_data.specs.Cells.{IsTuple};
 ghost use Rattle.command_reply.specs.Accepted.{HasRead};
 ghost use Rattle.command_reply.specs.Question.{AnswersInput};
 ghost use Rattle.command_reply.specs.Reply.{WritesReply};
-ghost use Rattle.search_commands.specs.All.{AllAnswer, all_question, last_line, last_status};
-ghost use Rattle.search_commands.specs.Listing.{IsListingOf, SaysListing, listing_says};
+ghost use Rattle.search_commands.specs.All.{AllAnswer, SaysListing, all_question, last_line, last_status};
+ghost use Rattle.search_commands.specs.Listing.{CanList, IsListingOf, is_listing_ready, listing_says};
 
 use crate::budget::write_budget;
+use crate::listing::Listing;
 use command_input::{PageRequest, ReadFault, Status};
 use command_reply::{Accepted, Deciding, Reply, TextReply, refuse, reply_of, take_problem};
 use geo_chan::{Piece, PutFault, Sink, Source, write_all_bytes};
-use geo_conditions::{Cond, Layout};
+use geo_conditions::Layout;
 use layout_search::{Ending, write_listing};
 use layout_text::{TokenFault, read_token};
-use problem_data::problem::Problem;
 use std::alloc::{AllocError, Global};
 
 /// The command `all`.
@@ -58,19 +58,6 @@ pub enum ListingReply {
     Listing(Listing),
 }
 
-/// Layouts that are to be listed: as many as `most`, among `budget` members of the walk behind a tuple, where one is given.
-#[derive(Drop)]
-pub struct Listing {
-    problem: Problem,
-    conditions: Vec<Cond>,
-    after: Option<Layout>,
-    most: u64,
-    budget: u64,
-    ghost means: { AreConditionsOf problem conditions.items },
-    ghost few: { length conditions.items ≤ 10 ^ 9 },
-    ghost from: { IfSome after (IsTuple problem) },
-}
-
 // What is replied to a problem.
 fn listing_of(
     alloc: Global,
@@ -78,15 +65,16 @@ fn listing_of(
     request: PageRequest<'_>,
 ) -> Result<ListingReply, AllocError>
     requires { (input : List ℕ) × HasRead input accepted }
-    ensures { IfOk result (λ reply. (input : List ℕ) → HasRead input accepted → AnswersInput
-        (AllAnswer request.entry.most request.entry.budget (option_copied request.entry.token))
-        input (listing_says reply)) }
+    ensures answers { IfOk result (λ reply. (input : List ℕ) → HasRead input accepted
+        → AnswersInput (AllAnswer request.entry.most request.entry.budget
+        (option_copied request.entry.token)) input (listing_says reply)) }
+    ensures ready { IfOk result is_listing_ready }
 {
     let Some(word) = request.token else {
-        return Ok(listing(accepted, None, request.most, request.budget));
+        return Ok(list_behind(accepted, None, request.most, request.budget));
     };
     match read_token(alloc, &accepted.problem, word.as_bytes()) {
-        Ok(layout) => Ok(listing(accepted, Some(layout), request.most, request.budget)),
+        Ok(layout) => Ok(list_behind(accepted, Some(layout), request.most, request.budget)),
         Err(TokenFault::BadToken) => {
             let pieces = [Piece::Bytes(b"bad token\n")];
             Ok(ListingReply::Text(reply_of(alloc, Status::BadToken, &pieces)?))
@@ -96,10 +84,11 @@ fn listing_of(
 }
 
 // The reply of a listing.
-fn listing(accepted: Accepted, after: Option<Layout>, most: u64, budget: u64) -> ListingReply
+fn list_behind(accepted: Accepted, after: Option<Layout>, most: u64, budget: u64) -> ListingReply
     requires read { (input : List ℕ) × HasRead input accepted }
     requires from { IfSome after (IsTuple accepted.problem) }
-    ensures { IsListingOf accepted after most budget result }
+    ensures lists { IsListingOf accepted after most budget result }
+    ensures ready { is_listing_ready result }
 {
     let Accepted {
         problem,
@@ -118,6 +107,8 @@ fn listing(accepted: Accepted, after: Option<Layout>, most: u64, budget: u64) ->
 impl Reply for ListingReply {
     ghost says = { listing_says };
 
+    ghost ready = { is_listing_ready };
+
     fn write<W: Sink>(self, alloc: Global, sink: &mut W) -> Result<Status, PutFault> {
         match self {
             ListingReply::Text(text) => text.write(alloc, sink),
@@ -128,6 +119,7 @@ impl Reply for ListingReply {
 
 // Writes the layouts, each as soon as it is found, and the line behind them.
 fn write_page<W: Sink>(alloc: Global, listing: Listing, sink: &mut W) -> Result<Status, PutFault>
+    requires { CanList listing }
     ensures { WritesReply (SaysListing listing.problem
         (walk_after listing.problem listing.conditions.items listing.after) listing.most listing.budget)
         (W.written sink.old) (W.written sink.new) (W.faults sink.old) (W.faults sink.new)

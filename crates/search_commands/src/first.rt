@@ -9,10 +9,11 @@ ghost use Rattle.layout_text.specs.Block.{block_of};
 ghost use Rattle.problem_data.specs.Cells.{IsShaped};
 ghost use Rattle.rule_ground.specs.Start.{first_state};
 ghost use Rattle.search_commands.specs.First.{FirstAnswer, SaysNone, ShowsNone, first_question, out_of_budget};
-ghost use Rattle.search_commands.specs.Refuted.{search_says};
+ghost use Rattle.search_commands.specs.Refuted.{is_search_ready, search_says};
 
 use crate::budget::write_budget;
-use crate::refutation::{Refutation, SearchReply};
+use crate::refutation::Refutation;
+use crate::search_reply::SearchReply;
 use crate::shorter::shorter;
 use command_input::{ReadFault, Status};
 use command_reply::{Accepted, Deciding, TextReply, TextSink, refuse, spelled, take_problem};
@@ -54,18 +55,20 @@ impl Deciding for First {
 // What is replied to a problem.
 fn first_of(alloc: Global, accepted: Accepted, most: u64) -> Result<SearchReply, AllocError>
     requires { (input : List ℕ) × HasRead input accepted }
-    ensures { IfOk result (λ reply. (input : List ℕ) → HasRead input accepted
+    ensures answers { IfOk result (λ reply. (input : List ℕ) → HasRead input accepted
         → AnswersInput (FirstAnswer most) input (search_says reply)) }
+    ensures ready { IfOk result is_search_ready }
 {
     let Accepted {
         problem,
         rules: _,
         conditions,
     } = accepted;
+    let searched = search_first(alloc, &problem, conditions, most)?;
     let Searched {
         outcome,
         conditions,
-    } = search_first(alloc, &problem, conditions, most)?;
+    } = searched;
     match outcome {
         Outcome::Found(layout) => Ok(SearchReply::Text(block(alloc, &problem, &layout)?)),
         Outcome::Nothing(log) => refuted(alloc, &problem, conditions.as_slice(), log),
@@ -109,9 +112,10 @@ fn refuted(
 ) -> Result<SearchReply, AllocError>
     requires fits { AllFit conditions.now (first_state problem.now) }
     requires shows { ShowsNone problem.now conditions.now log.events }
-    ensures { IfOk result (λ reply. (text : List ℕ) (status : StatusOf)
+    ensures says { IfOk result (λ reply. (text : List ℕ) (status : StatusOf)
         → search_says reply text status
         → SaysNone problem.now conditions.now text × (status ≡ Status.No)) }
+    ensures ready { IfOk result is_search_ready }
 {
     let names = names(alloc, problem)?;
     let log = shorter(alloc, problem, conditions, &names, log)?;
@@ -119,5 +123,5 @@ fn refuted(
         status: Status::No,
         text: Vec::new(alloc),
     };
-    Ok(SearchReply::Refuted(none, Refutation::new(names, log)))
+    Ok(SearchReply::Refuted(none, Refutation { names, log }))
 }

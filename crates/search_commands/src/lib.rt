@@ -4,8 +4,10 @@
 mod all;
 mod budget;
 mod first;
+mod listing;
 mod make;
 mod refutation;
+mod search_reply;
 mod shorter;
 
 pub use all::All;

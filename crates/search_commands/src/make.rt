@@ -1,6 +1,6 @@
 //! `make`: what the search for the first layout finds of the problem that is made from a seed.
 
-ghost use Rattle.std.specs.Prelude.{◌≡◌, ◌<◌, ◌^◌, ℕ, List, IfOk, length};
+ghost use Rattle.std.specs.Prelude.{◌≡◌, ◌++◌, ◌<◌, ◌^◌, ℕ, List, IfOk, length};
 ghost use Rattle.geo_chan.specs.Written.{Prints};
 ghost use Rattle.problem_data.specs.Cells.{IsShaped};
 ghost use Rattle.problem_generator.specs.Made.{made_text};
@@ -78,13 +78,42 @@ fn summed(alloc: Global, accepted: Accepted, most: u64) -> Result<TextReply, All
     } = accepted;
     let count = conditions.len();
     let outcome = search_first_unrecorded(alloc, &problem, conditions, most)?;
+    summary(alloc, &problem, count, &outcome)
+}
+
+// The numbers of objects and conditions, and what was found.
+fn summary(
+    alloc: Global,
+    problem: &Problem,
+    conditions: usize,
+    outcome: &Outcome<NoRecord>,
+) -> Result<TextReply, AllocError>
+    requires { IsShapedFor problem.now outcome.now }
+    ensures text { IfOk result (λ reply. reply.text.items
+        ≡ counts (length problem.now.objects) conditions ++ answer_lines outcome.now) }
+    ensures status { IfOk result (λ reply. reply.status ≡ outcome_status outcome.now) }
+{
     let mut text = TextSink::new(alloc);
-    spelled(write_counts(problem.objects().len(), count, &mut text))?;
-    spelled(write_answer(&problem, &outcome, &mut text))?;
+    spelled(write_summary(problem, conditions, outcome, &mut text))?;
     Ok(TextReply {
-        status: status_of(&outcome),
+        status: status_of(outcome),
         text: text.into_bytes(),
     })
+}
+
+fn write_summary<W: Sink>(
+    problem: &Problem,
+    conditions: usize,
+    outcome: &Outcome<NoRecord>,
+    sink: &mut W,
+) -> Result<(), PutFault>
+    requires { IsShapedFor problem.now outcome.now }
+    ensures { Prints W.written W.faults W.quiet sink.old sink.new result
+        (counts (length problem.now.objects) conditions ++ answer_lines outcome.now) }
+{
+    let objects = problem.objects().len();
+    write_counts(objects, conditions, sink)?;
+    write_answer(problem, outcome, sink)
 }
 
 fn write_counts<W: Sink>(objects: usize, conditions: usize, sink: &mut W) -> Result<(), PutFault>
