@@ -82,7 +82,7 @@ class Checkout:
 
 def copy_checkout(folder: Path, fault: str = "") -> Checkout:
     """The script with the code of all crates, and a builder that does `fault` first."""
-    top = folder / "checkout"
+    top = folder / "check out"
     top.mkdir(parents=True)
     for name in ("geost", "crates.txt", "VERSION"):
         shutil.copy(TOP / name, top / name)
@@ -119,7 +119,7 @@ def check_kept(folder: Path) -> None:
     named = Path(checkout.call("--program").printed.strip())
     want(named.name, "geost_cli_unproved", "the program that is kept")
     left = [path.name for path in checkout.top.parent.iterdir()]
-    want(sorted(left), ["builds", "checkout", "rt"], "what is left beside the checkout")
+    want(sorted(left), ["builds", "check out", "rt"], "what is left beside the checkout")
 
 
 def check_side_by_side(folder: Path) -> None:

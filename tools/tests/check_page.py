@@ -229,7 +229,7 @@ def check_first(setting: Setting) -> None:
         page.script("document.getElementById('steps').value = '2';")
         page.press("first", "2 steps did not suffice")
         page.click("#more")
-        page.told("20 steps")
+        page.told("the first layout")
         want(page.script("return document.getElementById('steps').value;"), "20", "the steps")
 
 

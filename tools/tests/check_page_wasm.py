@@ -3,6 +3,7 @@ be or stop the rewriting, and numbers of 128 bits are multiplied and shifted as 
 
 from __future__ import annotations
 
+import hashlib
 import json
 import os
 import random
@@ -17,6 +18,7 @@ from harness import TOOLS, Case, Cases, Failed, Setting, want
 PAGE = TOOLS / "page"
 sys.path.insert(0, str(PAGE))
 
+import origin  # noqa: E402
 import retargeting  # noqa: E402
 
 CLANG = Path(os.environ.get("RATTLE_KIT", "/opt/rattle")) / "toolchain" / "bin" / "clang"
@@ -85,6 +87,18 @@ def check_unknown() -> None:
     want(made, entry, "the entry")
 
 
+def check_origin() -> None:
+    """A module names the object file that it was made from, and is the same module otherwise."""
+    empty = b"\0asm\1\0\0\0"
+    named = origin.with_origin(empty, b"abc")
+    content = b"\x0cgeost.object" + hashlib.sha256(b"abc").hexdigest().encode()
+    want(named, empty + b"\0" + bytes([len(content)]) + content, "a module that names its origin")
+    want(origin.origin_of(empty), None, "the origin of a module that names none")
+    long = empty + b"\1" + origin.number(300) + bytes(300)
+    digest = hashlib.sha256(b"x" * 1000).hexdigest()
+    want(origin.origin_of(origin.with_origin(long, b"x" * 1000)), digest, "the origin")
+
+
 def module_of_numbers(folder: Path) -> Path:
     """c/numbers.c as a module of its own, whose functions take and give halves of numbers."""
     parts = []
@@ -139,4 +153,5 @@ def cases(setting: Setting, folder: Path) -> Cases:
     own.mkdir()
     yield Case("page module: lines that are rewritten", check_lines)
     yield Case("page module: lines that are not known", check_unknown)
+    yield Case("page module: its origin", check_origin)
     yield Case("page module: numbers of 128 bits", lambda: check_numbers(own))
