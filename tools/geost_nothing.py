@@ -57,7 +57,8 @@ class Nothing:
     def rules_between(self, names: tuple[str, ...]) -> Iterator[str]:
         """Without which rule these objects have a layout."""
         alone = with_objects(self.lesson.problem, names)
-        for rule in self.lesson.helpful_rules(alone):
+        outcomes = self.lesson.without_each_rule(alone)
+        for rule in self.lesson.with_layouts(outcomes):
             yield f"without the rule `{rule}` there is one for {said(names)}"
 
 
