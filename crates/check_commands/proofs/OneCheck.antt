@@ -25,7 +25,13 @@ use Rattle.command_reply.specs.Texts.{IsRefusedPair}
 use Rattle.command_reply.specs.Refusal.{RefusedPairAnswer}
 use Rattle.command_reply.specs.Question.{IsSound, IsVerdict}
 use Rattle.check_commands.specs.Check.{
-  Derives, HasDerivationFault, CheckAnswer, ChecksValid, ChecksFailing, check_question, failing_node,
+  Derives,
+  HasDerivationFault,
+  CheckAnswer,
+  ChecksValid,
+  ChecksFailing,
+  check_question,
+  failing_node,
 }
 use Rattle.command_reply.proofs.Refusals.{same_problem, not_refused_pair}
 use Rattle.command_reply.proofs.TwoTexts.{one-cut}

@@ -3,7 +3,13 @@ use Rattle.std.specs.Prelude.{◌≡◌, ◌≤◌, ◌<◌, ◌^◌, ℕ, List,
 use Rattle.std.specs.Option.{option_copied, option_to_list}
 use Rattle.command_input.specs.declared.command.Command.{Command}
 use Rattle.command_input.specs.declared.command.Command.TheVariants.{
-  First, Show, Judge, Check, Draw, All, Make,
+  First,
+  Show,
+  Judge,
+  Check,
+  Draw,
+  All,
+  Make,
 }
 
 -- words, and the bounds of the numbers in them

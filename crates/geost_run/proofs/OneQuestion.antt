@@ -3,7 +3,13 @@ use Rattle.std.proofs.Common.{◌≡◌, inl, inr, ℕ, List, refl, ap, subst, s
 use Rattle.std.specs.Option.{option_copied}
 use Rattle.command_input.specs.declared.command.Command.{Command}
 use Rattle.command_input.specs.declared.command.Command.TheVariants.{
-  First, Show, Judge, Check, Draw, All, Make,
+  First,
+  Show,
+  Judge,
+  Check,
+  Draw,
+  All,
+  Make,
 }
 use Rattle.command_input.specs.declared.command.Status.{Status}
 use Rattle.command_input.specs.Words.{HasForm}

@@ -7,7 +7,15 @@ use Rattle.command_input.specs.declared.command.Command.{Command}
 use Rattle.command_input.specs.declared.command.Command.TheVariants.{First, Check}
 use Rattle.command_input.specs.declared.command.Status.{Status}
 use Rattle.command_input.specs.declared.command.Status.TheVariants.{
-  Answered, No, Refused, Budget, BadWords, BadToken, ReadFault, WriteFault, Memory,
+  Answered,
+  No,
+  Refused,
+  Budget,
+  BadWords,
+  BadToken,
+  ReadFault,
+  WriteFault,
+  Memory,
 }
 use Rattle.command_input.specs.Reading.{TakesAtMost, Tells}
 use Rattle.command_input.specs.Words.{HasForm}

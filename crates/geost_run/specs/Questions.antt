@@ -3,7 +3,13 @@ use Rattle.std.specs.Prelude.{List, ℕ}
 use Rattle.std.specs.Option.{option_copied}
 use Rattle.command_input.specs.declared.command.Command.{Command}
 use Rattle.command_input.specs.declared.command.Command.TheVariants.{
-  First, Show, Judge, Check, Draw, All, Make,
+  First,
+  Show,
+  Judge,
+  Check,
+  Draw,
+  All,
+  Make,
 }
 use Rattle.command_input.specs.declared.command.Status.{Status}
 use Rattle.command_reply.specs.Question.{Question, FrontOf}

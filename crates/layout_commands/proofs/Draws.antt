@@ -8,7 +8,15 @@ use Rattle.layout_text.specs.FirstFault as layouts
 use Rattle.problem_data.specs.Problem.{ProblemData}
 use Rattle.command_input.specs.declared.command.Status.{Status}
 use Rattle.command_input.specs.declared.command.Status.TheVariants.{
-  Answered, No, Refused, Budget, BadWords, BadToken, ReadFault, WriteFault, Memory,
+  Answered,
+  No,
+  Refused,
+  Budget,
+  BadWords,
+  BadToken,
+  ReadFault,
+  WriteFault,
+  Memory,
 }
 use Rattle.command_reply.specs.Question.{IsSound, IsVerdict}
 use Rattle.command_reply.proofs.OneRefusal.{one_fault_from, one_refused_pair_text}

@@ -18,9 +18,11 @@ use Rattle.command_reply.proofs.TwoTexts.{one-cut}
 pub given_once : (input : List ℕ) (p q : ProblemData) (t u : Tuple) → Gives input p t → Gives input q u → (q ≡ p) × (u ≡ t)
 given_once input p q t u a b =
     let e = one-cut input a.first a.second b.first b.second a.cut b.cut in
-    let same : q ≡ p = same_problem a.first q p (subst (λ (z : List ℕ). IsAccepted z q) (sym e.0) b.accepted) a.accepted in
-    (same, layout_once p a.second t u a.spells
-    (subst (λ (x : ProblemData). layouts.Accepts x a.second u) same (subst (λ (z : List ℕ). layouts.Accepts q z u) (sym e.1) b.spells)))
+    let same : q ≡ p = same_problem a.first q p (subst (λ (z : List ℕ). IsAccepted z q) (sym e.0) b.accepted) a.accepted in (
+      same,
+      layout_once p a.second t u a.spells
+          (subst (λ (x : ProblemData). layouts.Accepts x a.second u) same (subst (λ (z : List ℕ). layouts.Accepts q z u) (sym e.1) b.spells)),
+    )
 
 -- what is given is well formed
 pub given_formed : (input : List ℕ) (p : ProblemData) (t : Tuple) → Gives input p t → IsWellFormed p

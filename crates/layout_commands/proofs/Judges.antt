@@ -9,12 +9,26 @@ use Rattle.problem_data.specs.Problem.{ProblemData}
 use Rattle.problem_data.specs.Layouts.{IsLayout}
 use Rattle.command_input.specs.declared.command.Status.{Status}
 use Rattle.command_input.specs.declared.command.Status.TheVariants.{
-  Answered, No, Refused, Budget, BadWords, BadToken, ReadFault, WriteFault, Memory,
+  Answered,
+  No,
+  Refused,
+  Budget,
+  BadWords,
+  BadToken,
+  ReadFault,
+  WriteFault,
+  Memory,
 }
 use Rattle.command_reply.specs.Question.{IsSound, IsVerdict}
 use Rattle.command_reply.proofs.OneRefusal.{one_fault_from, one_refused_pair_text}
 use Rattle.layout_commands.specs.Judge.{
-  JudgeAnswer, JudgesGood, JudgesBroken, IsGivenTexts, judge_question, broken_rule, rule_name,
+  JudgeAnswer,
+  JudgesGood,
+  JudgesBroken,
+  IsGivenTexts,
+  judge_question,
+  broken_rule,
+  rule_name,
 }
 use Rattle.layout_commands.proofs.Givens.{given_once, given_or_refused}
 

@@ -1,5 +1,7 @@
 -- Outcomes of searches: with another record, and under the problem's own conditions.
-use Rattle.std.proofs.Common.{◌≡◌, ℕ, List, ap, sym, subst}
+use Rattle.std.proofs.Common.{◌≡◌, ℕ, List, Option, Some, None, ap, sym, subst}
+use Rattle.std.specs.Prelude.{IfSome}
+use Rattle.std.specs.Option.{option_map}
 use Rattle.geo_conditions.specs.declared.cond.Cond.{Cond}
 use Rattle.geo_conditions.specs.Walk.{Tree}
 use Rattle.problem_data.specs.Problem.{ProblemData}
@@ -50,3 +52,8 @@ solutions-are-layouts p cs are (Found t) h = record {
 }
 solutions-are-layouts p cs are (Nothing r) h = λ t l. h t l.tuple ((are.meaning t l.tuple).1 l.rules)
 solutions-are-layouts p cs are OutOfBudget h = tt
+
+-- what holds of what something is made of
+pub some-made : {A B : Type 0} (f : A → B) (P : B → Type 0) (o : Option A) → IfSome o (λ x. P (f x)) → IfSome (option_map f o) P
+some-made f P None h = tt
+some-made f P (Some x) h = h

@@ -1,10 +1,12 @@
 //! The first layout, and when there is none within the budget.
 
-ghost use Rattle.std.specs.Prelude.{◌≡◌, ◌≤◌, ◌<◌, ◌^◌, None, false, true, IfOk, length};
+ghost use Rattle.std.specs.Prelude.{◌≡◌, ◌≤◌, ◌<◌, ◌^◌, None, false, true, IfOk, IfSome, length};
+ghost use Rattle.std.specs.Option.{option_map};
 ghost use Rattle.geo_conditions.specs.Conditions.{AllFit};
 ghost use Rattle.rule_ground.specs.Start.{first_state};
 ghost use Rattle.layout_search.specs.FirstLayout.{AreConditionsOf, Derives, Finds, FindsSolution, Lists, is_spent, walk_of, with_record};
 
+use crate::bounded::Bounded;
 use crate::in_dimensions;
 use crate::start::{found_layout, start_search};
 use derivation::{Log, NoRecord, Recorder};
@@ -17,6 +19,9 @@ use trail_search::{Parts, Search, Step};
 
 /// The number of members of its walk up to which a search is made with a record at once.
 const RECORDED_MEMBERS: u64 = 100_000;
+
+/// The number of events that such a record has room for: 128 MB.
+const RECORDED_EVENTS: usize = 8_000_000;
 
 /// How a search for a layout ends.
 #[derive(Drop)]
@@ -47,6 +52,13 @@ impl<R: Recorder> Outcome<R> {
 pub struct Searched<R: Recorder> {
     pub outcome: Outcome<R>,
     pub conditions: Vec<Cond>,
+}
+
+// What a search with a record found, where that had room for all events, and the conditions that the search was given.
+#[derive(Drop)]
+struct Tried {
+    outcome: Option<Outcome<Log>>,
+    conditions: Vec<Cond>,
 }
 
 /// The first layout of the problem in its search order, where these are its conditions: the first full member of the walk
@@ -134,8 +146,8 @@ fn unrecorded_in<const K: usize>(
 /// these conditions, among its first `budget` members. Where there is none, the search's record shows it. K is the number of
 /// dimensions. The conditions are given back.
 ///
-/// A search of few members is made once. A longer one is made again without a record, whose size nothing bounds, and only where
-/// it ends without a solution once more with one.
+/// A search of few members and events is made once. A longer one is made again without a record, whose size nothing bounds, and
+/// only where it ends without a solution once more with one.
 pub fn first_solution<const K: usize>(
     alloc: Global,
     problem: &Problem,
@@ -152,14 +164,22 @@ pub fn first_solution<const K: usize>(
         Derives problem.now conditions.items (λ log. log.events) s.outcome) }
     ensures conditions { IfOk result (λ s. s.conditions.items ≡ conditions.items) }
 {
-    if budget <= RECORDED_MEMBERS {
-        return recorded_once::<K>(alloc, problem, conditions, budget);
-    }
-    let searched = recorded_once::<K>(alloc, problem, conditions, RECORDED_MEMBERS)?;
-    if searched.outcome.is_out_of_budget() {
-        searched_again::<K>(alloc, problem, searched.conditions, budget)
-    } else {
-        Ok(searched)
+    let within = budget.min(RECORDED_MEMBERS);
+    let Tried {
+        outcome,
+        conditions,
+    } = recorded_within::<K>(alloc, problem, conditions, within, RECORDED_EVENTS)?;
+    match outcome {
+        None => searched_again::<K>(alloc, problem, conditions, budget),
+        Some(outcome) => {
+            if within < budget && outcome.is_out_of_budget() {
+                return searched_again::<K>(alloc, problem, conditions, budget);
+            }
+            Ok(Searched {
+                outcome,
+                conditions,
+            })
+        }
     }
 }
 
@@ -214,16 +234,49 @@ fn recorded_once<const K: usize>(
         Derives problem.now conditions.items (λ log. log.events) s.outcome) }
     ensures conditions { IfOk result (λ s. s.conditions.items ≡ conditions.items) }
 {
-    let record = Log::new(alloc);
-    let mut search = start_search::<K, Log>(alloc, problem, conditions, None, budget, record)?;
+    let Tried {
+        outcome,
+        conditions,
+    } = recorded_within::<K>(alloc, problem, conditions, budget, usize::MAX)?;
+    match outcome {
+        Some(outcome) => Ok(Searched {
+            outcome,
+            conditions,
+        }),
+        None => Err(AllocError),
+    }
+}
+
+// What one search with a record of at most so many events found; none where it wanted more.
+fn recorded_within<const K: usize>(
+    alloc: Global,
+    problem: &Problem,
+    conditions: Vec<Cond>,
+    budget: u64,
+    most: usize,
+) -> Result<Tried, AllocError>
+    requires k { (0 < K) × (K ≤ MAX_DIMS) }
+    requires dims { problem.now.dims ≡ K }
+    requires fits { AllFit conditions.items (first_state problem.now) }
+    requires few { length conditions.items ≤ 10 ^ 9 }
+    ensures walk { IfOk result (λ t.
+        IfSome t.outcome (Lists problem.now conditions.items budget)) }
+    ensures solution { IfOk result (λ t.
+        IfSome t.outcome (FindsSolution problem.now conditions.items)) }
+    ensures derivation { IfOk result (λ t. IfSome t.outcome
+        (Derives problem.now conditions.items (λ log. log.events))) }
+    ensures conditions { IfOk result (λ t. t.conditions.items ≡ conditions.items) }
+{
+    let record = Bounded::new(alloc, most);
+    let mut search = start_search::<K, Bounded>(alloc, problem, conditions, None, budget, record)?;
     let outcome = first_answer(alloc, problem, &mut search)?;
     let Parts {
         recorder,
         propagator,
     } = search.into_parts();
     let conditions = propagator.into_conditions(alloc)?;
-    Ok(Searched {
-        outcome: put_record(outcome, recorder),
+    Ok(Tried {
+        outcome: put_record(outcome, recorder.into_log()),
         conditions,
     })
 }
@@ -245,7 +298,9 @@ fn unrecorded_once<const K: usize>(
 {
     let none = NoRecord::new();
     let mut search = start_search::<K, NoRecord>(alloc, problem, conditions, None, budget, none)?;
-    let outcome = first_answer(alloc, problem, &mut search)?;
+    let Some(outcome) = first_answer(alloc, problem, &mut search)? else {
+        return Err(AllocError);
+    };
     let Parts {
         recorder: _,
         propagator,
@@ -257,12 +312,12 @@ fn unrecorded_once<const K: usize>(
     })
 }
 
-// The first answer of a search that has not set off.
+// The first answer of a search that has not set off; none where its recorder refused an event.
 fn first_answer<const K: usize, R: Recorder + Drop>(
     alloc: Global,
     problem: &Problem,
     search: &mut Search<K, Fixpoint<K>, R>,
-) -> Result<Outcome<NoRecord>, AllocError>
+) -> Result<Option<Outcome<NoRecord>>, AllocError>
     requires k { K ≤ MAX_DIMS }
     requires dims { problem.now.dims ≡ K }
     requires walk { search.old.walk ≡ walk_of problem.now search.old.walk.conditions }
@@ -270,30 +325,35 @@ fn first_answer<const K: usize, R: Recorder + Drop>(
     requires few { length search.old.walk.conditions ≤ 10 ^ 9 }
     requires walked { search.old.walked ≡ 0 }
     requires over { search.old.over ≡ None }
-    ensures walk { IfOk result
-        (Lists problem.now search.old.walk.conditions search.old.budget) }
-    ensures solution { IfOk result (FindsSolution problem.now search.old.walk.conditions) }
+    ensures walk { IfOk result (λ o. IfSome o
+        (Lists problem.now search.old.walk.conditions search.old.budget)) }
+    ensures solution { IfOk result (λ o. IfSome o
+        (FindsSolution problem.now search.old.walk.conditions)) }
     ensures derivation { R.keeps ≡ true → search.old.some_found ≡ false
-        → search.old.began_empty ≡ true → IfOk result
-        (Derives problem.now search.old.walk.conditions (λ _. search.new.events)) }
+        → search.old.began_empty ≡ true → IfOk result (λ o. IfSome o
+        (Derives problem.now search.old.walk.conditions (λ _. search.new.events))) }
     ensures conditions { search.new.walk.conditions ≡ search.old.walk.conditions }
 {
     problem.is_said();
     match search.next() {
-        Step::Found => Ok(Outcome::Found(found_layout(alloc, problem, search)?)),
-        Step::Ended => Ok(Outcome::Nothing(NoRecord::new())),
-        Step::Budget => Ok(Outcome::OutOfBudget),
-        Step::Memory => Err(AllocError),
+        Step::Found => Ok(Some(Outcome::Found(found_layout(alloc, problem, search)?))),
+        Step::Ended => Ok(Some(Outcome::Nothing(NoRecord::new()))),
+        Step::Budget => Ok(Some(Outcome::OutOfBudget)),
+        Step::Memory => Ok(None),
     }
 }
 
 // The same outcome with that record.
-fn put_record<R: Recorder + Drop>(outcome: Outcome<NoRecord>, recorder: R) -> Outcome<R>
-    ensures { result ≡ with_record outcome recorder }
+fn put_record<R: Recorder + Drop>(
+    outcome: Option<Outcome<NoRecord>>,
+    recorder: R,
+) -> Option<Outcome<R>>
+    ensures { result ≡ option_map (λ o. with_record o recorder) outcome }
 {
     match outcome {
-        Outcome::Found(layout) => Outcome::Found(layout),
-        Outcome::Nothing(_) => Outcome::Nothing(recorder),
-        Outcome::OutOfBudget => Outcome::OutOfBudget,
+        Some(Outcome::Found(layout)) => Some(Outcome::Found(layout)),
+        Some(Outcome::Nothing(_)) => Some(Outcome::Nothing(recorder)),
+        Some(Outcome::OutOfBudget) => Some(Outcome::OutOfBudget),
+        None => None,
     }
 }

@@ -2,6 +2,7 @@
 //! its layouts are found.
 #![tactic(auto)]
 
+mod bounded;
 mod dimensions;
 mod first;
 mod laws;

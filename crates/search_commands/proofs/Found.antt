@@ -54,25 +54,34 @@ as_many text a h = sym (length-map a.conditions.items cond_view) ∙ ap length h
 -- what is written of a search over a problem that was made from a seed
 pub summed : (seed n : ℕ) (input : List ℕ) (a : Accepted) → HasRead (made_text seed) a → (o : Outcome NoRecord) → Lists a.problem a.conditions.items n o → Finds a.problem o
     → MakeAnswer seed n input (counts (length a.problem.objects) (length a.conditions.items) ++ answer_lines o) (outcome_status o) × IsAnswered (outcome_status o)
-summed seed n input a h (Found t) l f = (record {
-  problem = a.problem;
-  conditions = a.conditions.items;
-  tuple = t;
-  found = layout_found {R = NoRecord} n (made_text seed) a h (Found t) l f t refl;
-  says = ap (λ k. counts (length a.problem.objects) k ++ (codes "answer layout\n" ++ token_line t)) (as_many (made_text seed) a h);
-}, tt)
-summed seed n input a h (Nothing r) l f = (record {
-  problem = a.problem;
-  conditions = a.conditions.items;
-  found = none_found {R = NoRecord} n (made_text seed) a h (Nothing r) l f r refl;
-  says = ap (λ k. counts (length a.problem.objects) k ++ codes "answer none\n") (as_many (made_text seed) a h);
-}, tt)
-summed seed n input a h OutOfBudget l f = (record {
-  problem = a.problem;
-  conditions = a.conditions.items;
-  found = ran_out {R = NoRecord} n (made_text seed) a h OutOfBudget l f refl;
-  says = ap (λ k. counts (length a.problem.objects) k ++ codes "answer budget\n") (as_many (made_text seed) a h);
-}, tt)
+summed seed n input a h (Found t) l f = (
+  record {
+    problem = a.problem;
+    conditions = a.conditions.items;
+    tuple = t;
+    found = layout_found {R = NoRecord} n (made_text seed) a h (Found t) l f t refl;
+    says = ap (λ k. counts (length a.problem.objects) k ++ (codes "answer layout\n" ++ token_line t)) (as_many (made_text seed) a h);
+  },
+  tt,
+)
+summed seed n input a h (Nothing r) l f = (
+  record {
+    problem = a.problem;
+    conditions = a.conditions.items;
+    found = none_found {R = NoRecord} n (made_text seed) a h (Nothing r) l f r refl;
+    says = ap (λ k. counts (length a.problem.objects) k ++ codes "answer none\n") (as_many (made_text seed) a h);
+  },
+  tt,
+)
+summed seed n input a h OutOfBudget l f = (
+  record {
+    problem = a.problem;
+    conditions = a.conditions.items;
+    found = ran_out {R = NoRecord} n (made_text seed) a h OutOfBudget l f refl;
+    says = ap (λ k. counts (length a.problem.objects) k ++ codes "answer budget\n") (as_many (made_text seed) a h);
+  },
+  tt,
+)
 
 -- a tuple has the form of one
 pub shaped_tuple : (p : ProblemData) (t : Tuple) → IsTuple p t → IsShaped p t

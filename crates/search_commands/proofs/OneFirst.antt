@@ -17,7 +17,15 @@ use Rattle.rule_ground.specs.Start.{first_state}
 use Rattle.rule_ground.proofs.Starts.{names-each}
 use Rattle.command_input.specs.declared.command.Status.{Status}
 use Rattle.command_input.specs.declared.command.Status.TheVariants.{
-  Answered, No, Refused, Budget, BadWords, BadToken, ReadFault, WriteFault, Memory,
+  Answered,
+  No,
+  Refused,
+  Budget,
+  BadWords,
+  BadToken,
+  ReadFault,
+  WriteFault,
+  Memory,
 }
 use Rattle.command_reply.specs.Accepted.{IsAccepted, AreConditions}
 use Rattle.command_reply.specs.Question.{IsSound, IsVerdict}
@@ -25,7 +33,17 @@ use Rattle.command_reply.specs.Refusal.{RefusedAnswer}
 use Rattle.command_reply.proofs.OneRefusal.{one_refused_text}
 use Rattle.command_reply.proofs.Refusals.{same_problem, refused_too}
 use Rattle.search_commands.specs.First.{
-  BothSayNone, FindsLayout, FindsNone, FirstAnswer, RunsOut, SaysNone, WritesLayout, WritesNone, WritesSpent, first_question, out_of_budget,
+  BothSayNone,
+  FindsLayout,
+  FindsNone,
+  FirstAnswer,
+  RunsOut,
+  SaysNone,
+  WritesLayout,
+  WritesNone,
+  WritesSpent,
+  first_question,
+  out_of_budget,
 }
 use Rattle.search_commands.specs.Make.{IsNoneSummary, MakeAnswer, budget_summary, layout_summary, make_question}
 use Rattle.search_commands.proofs.Shown.{shows-alike}

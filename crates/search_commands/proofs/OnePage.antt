@@ -25,13 +25,29 @@ use Rattle.rule_ground.proofs.Starts.{names-each}
 use Rattle.walk_listings.proofs.Listings.{lists_listing, one_listing}
 use Rattle.command_input.specs.declared.command.Status.{Status}
 use Rattle.command_input.specs.declared.command.Status.TheVariants.{
-  Answered, No, Refused, Budget, BadWords, BadToken, ReadFault, WriteFault, Memory,
+  Answered,
+  No,
+  Refused,
+  Budget,
+  BadWords,
+  BadToken,
+  ReadFault,
+  WriteFault,
+  Memory,
 }
 use Rattle.command_reply.specs.Accepted.{IsAccepted, AreConditions}
 use Rattle.command_reply.specs.Question.{IsSound, IsVerdict}
 use Rattle.command_reply.proofs.OneRefusal.{one_refused_text}
 use Rattle.search_commands.specs.All.{
-  AllAnswer, HasBadToken, HasPage, IsFrom, IsNoToken, ListsLayouts, all_question, last_line, last_status,
+  AllAnswer,
+  HasBadToken,
+  HasPage,
+  IsFrom,
+  IsNoToken,
+  ListsLayouts,
+  all_question,
+  last_line,
+  last_status,
 }
 use Rattle.command_reply.proofs.Refusals.{same_problem, refused_too}
 

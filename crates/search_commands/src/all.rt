@@ -35,11 +35,7 @@ impl<'a> Deciding for All<'a> {
     ghost question = { λ a. all_question a.request.most a.request.budget
         (option_copied a.request.token) };
 
-    fn decide<S: Source>(
-        &self,
-        alloc: Global,
-        source: &mut S,
-    ) -> Result<ListingReply, ReadFault> {
+    fn decide<S: Source>(&self, alloc: Global, source: &mut S) -> Result<ListingReply, ReadFault> {
         match take_problem(alloc, source)? {
             Ok(accepted) => Ok(listing_of(alloc, accepted, self.request)?),
             Err(fault) => Ok(ListingReply::Text(refuse(alloc, fault)?)),
@@ -132,7 +128,15 @@ fn write_page<W: Sink>(alloc: Global, listing: Listing, sink: &mut W) -> Result<
         most,
         budget,
     } = listing;
-    let ending = write_listing(alloc, &problem, conditions, after.as_ref(), most, budget, sink)?;
+    let ending = write_listing(
+        alloc,
+        &problem,
+        conditions,
+        after.as_ref(),
+        most,
+        budget,
+        sink,
+    )?;
     write_last_line(sink, ending, budget)?;
     Ok(status_of(ending))
 }

@@ -38,11 +38,7 @@ impl Deciding for First {
 
     ghost question = { λ f. first_question f.most };
 
-    fn decide<S: Source>(
-        &self,
-        alloc: Global,
-        source: &mut S,
-    ) -> Result<SearchReply, ReadFault> {
+    fn decide<S: Source>(&self, alloc: Global, source: &mut S) -> Result<SearchReply, ReadFault> {
         match take_problem(alloc, source)? {
             Ok(accepted) => Ok(first_of(alloc, accepted, self.most)?),
             Err(fault) => Ok(SearchReply::Text(refuse(alloc, fault)?)),

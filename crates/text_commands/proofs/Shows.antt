@@ -5,7 +5,15 @@ use Rattle.problem_data.specs.Problem.{ProblemData}
 use Rattle.problem_text.specs.Canonical.{problem_text}
 use Rattle.command_input.specs.declared.command.Status.{Status}
 use Rattle.command_input.specs.declared.command.Status.TheVariants.{
-  Answered, No, Refused, Budget, BadWords, BadToken, ReadFault, WriteFault, Memory,
+  Answered,
+  No,
+  Refused,
+  Budget,
+  BadWords,
+  BadToken,
+  ReadFault,
+  WriteFault,
+  Memory,
 }
 use Rattle.command_reply.specs.Accepted.{IsAccepted}
 use Rattle.command_reply.specs.Question.{IsSound, IsVerdict}
