@@ -138,7 +138,7 @@ def stopped(setting: Setting, words: list[str], line: str) -> tuple[str, int]:
         if not more:
             raise Failed(f"{line!r} does not come: {before}")
         before += more
-    time.sleep(1)
+    time.sleep(0.1 if line else 1)  # it starts, where no line is waited for
     os.kill(process.pid, signal.SIGINT)
     after, _ = process.communicate(timeout=LONGEST_WAIT)
     return before + after.decode(), process.returncode
