@@ -179,6 +179,10 @@ class Page:
     def keys(self, *keys: str) -> None:
         self.actions().send_keys(*keys).perform()
 
+    def insert(self, text: str) -> None:
+        """Puts a text in where the cursor is, as one that is pasted."""
+        self.browser.execute_cdp_cmd("Input.insertText", {"text": text})
+
     def with_control(self, key: str) -> None:
         self.actions().key_down(CONTROL).send_keys(key).key_up(CONTROL).perform()
 

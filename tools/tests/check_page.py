@@ -10,7 +10,6 @@ import random
 import shutil
 import subprocess
 import threading
-import time
 from collections.abc import Iterator
 from concurrent.futures import ThreadPoolExecutor
 from dataclasses import dataclass
@@ -34,8 +33,8 @@ from harness import TOOLS, TOP, Case, Cases, Failed, Setting, want, want_in
 
 EXAMPLES = TOP / "examples"
 RANDOM_RUNS = 500
-MOST_STOPPING = 1.0  # seconds until a search has stopped
-LEAST_FRAMES = 24  # a second, while 200 boxes are turned
+MOST_STOPPING = 1000  # milliseconds until a search has stopped
+MOST_LOOPS = 4  # of ten million steps, for a picture of 200 boxes
 SMALL = ("rack_of_four", "schedule", "kitchen", "too_narrow", "corners_in_a_container", "six_drums")
 HARD = "large/container_from_the_smallest"
 MARKS = "az09 ;:.,[]()@$#<=>-\u00e9\n"
@@ -367,19 +366,32 @@ def check_files(setting: Setting, folder: Path) -> None:
         want(page.script("return Editors.problemText();"), read("warehouse.geost"), "the example")
 
 
+STOPPED = """
+document.getElementById('steps').value = '1000000000000';
+const said = () => document.getElementById('message').innerText;
+const until = async (words) => {
+  while (!said().includes(words)) await new Promise((done) => setTimeout(done, 10));
+};
+Commands.first();
+await until('1000000000000');
+await new Promise((done) => setTimeout(done, 700));
+const began = performance.now();
+document.getElementById('stop').click();
+await until('stopped');
+return performance.now() - began;
+"""
+
+
 def check_stop(setting: Setting) -> None:
     """A search of 10^12 steps is stopped within a second, and the page answers again."""
     with opened(made_page(), "#kitchen") as page:
         page.told("the text is a problem")
         page.write(read(f"{HARD}.geost"))
-        page.script("document.getElementById('steps').value = '1000000000000';")
-        page.press("first", "1000000000000")
-        time.sleep(1)
-        began = time.monotonic()
-        page.press("stop", "stopped")
-        took = time.monotonic() - began
-        if took > MOST_STOPPING:
-            raise Failed(f"it took {took:.2f} s to stop")
+        page.told("the text is a problem")
+        # the best of three, since other processes may take the processor
+        best = min(page.later(STOPPED) for _ in range(3))
+        if best > MOST_STOPPING:
+            raise Failed(f"it took {best:.0f} ms to stop")
         page.script("document.getElementById('steps').value = '1000';")
         page.write(read("schedule.geost"))
         page.press("first", "the first layout")
@@ -395,20 +407,35 @@ def boxes_200() -> tuple[str, str]:
     return "\n".join([*head, *objects, *tail]), "\n".join(["layout", *lines, ""])
 
 
+PAINTED = """
+const timed = (work) => {
+  const began = performance.now();
+  work();
+  return performance.now() - began;
+};
+let sum = 0;
+const count = () => { for (let n = 0; n < 1e7; n++) sum = (sum * 3 + n) | 0; };
+const paint = () => { Turning.turn(0.02, 0); Picture.paintNow(true); };
+const best = [Infinity, Infinity];
+for (let turn = 0; turn < 30; turn++) {
+  best[0] = Math.min(best[0], timed(paint));
+  best[1] = Math.min(best[1], timed(count));
+}
+return [best[0] / best[1], ...best, sum];
+"""
+
+
 def check_turning(setting: Setting) -> None:
-    """200 boxes turn smoothly."""
+    """200 boxes turn smoothly: a picture of them takes as long as a few loops of ten million steps,
+    each of which takes some ten milliseconds where nothing else runs."""
     problem, plan = boxes_200()
     with opened(made_page(), "#kitchen") as page:
         page.told("the text is a problem")
         page.write(problem, plan)
-        page.press("judge", "every rule holds")
-        milliseconds = page.later(
-            "const began = performance.now(); let count = 0;"
-            "for (; performance.now() - began < 1000; count += 1) {"
-            "  Turning.turn(0.02, 0); Picture.paintNow(true); } return 1000 / count;"
-        )
-        if milliseconds > 1000 / LEAST_FRAMES:
-            raise Failed(f"a picture of 200 boxes takes {milliseconds:.0f} ms")
+        page.told("every rule holds")
+        loops, *_ = page.later(PAINTED)
+        if loops > MOST_LOOPS:
+            raise Failed(f"a picture of 200 boxes takes as long as {loops:.1f} loops")
 
 
 # A new user
@@ -434,7 +461,10 @@ def check_new_user(setting: Setting) -> None:
         page.click("#problem .CodeMirror-line")
         page.with_control("a")
         page.keys(DELETE)
-        page.keys(RACK.replace("c3 as crate", "c3 as crat"))
+        written = RACK.replace("c3 as crate", "c3 as crat")
+        front, mark, rest = written.partition("object c4")
+        page.keys(front)
+        page.insert(mark + rest)
         said = page.told("refused, unknown")
         want_in("line 5, column 14", said)
         want_in("did you mean crate?", said)
