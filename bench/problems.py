@@ -225,3 +225,13 @@ def tray(names: str, width: int, height: int) -> Problem:
         shapes |= {form: [Box((x, y), (w, h)) for x, y, w, h in rectangles(those)] for form, those in forms.items()}
         items.append(Item(name, list(forms)))
     return Problem((width - 1, height - 1), shapes, items, (width, height))
+
+
+def rack(boxes: int) -> str:
+    """So many equal boxes on a shelf that is a cell too short for them; each stands before the next."""
+    width = 4 * boxes - 1
+    lines = ["geost 1 dims 1", "shape box4 box 0 size 4 ;"]
+    lines += [f"object b{o} as box4 at 0..{width} ;" for o in range(boxes)]
+    lines += [f"rule shelf : within 0..{width - 1} ;", "rule free : apart ;"]
+    lines += [f"rule r{o} : b{o}.x1 < b{o + 1}.x1 ;" for o in range(boxes - 1)]
+    return "\n".join([*lines, "end"])

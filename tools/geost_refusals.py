@@ -1,4 +1,6 @@
-"""What a refusal of the program means: the line and column, the sentence of docs/FORMAT.md, and what may be meant."""
+"""What a refusal of the program means: the line and column, the sentence of docs/FORMAT.md, and
+what to write instead.
+"""
 
 from __future__ import annotations
 
@@ -9,6 +11,7 @@ from dataclasses import dataclass, replace
 from enum import Enum
 from functools import cached_property
 
+from geost_grammar import first_fault
 from geost_program import TOP
 from geost_slips import advice, marked_statement
 from geost_text import (
@@ -107,8 +110,8 @@ class Source:
 
 @dataclass(frozen=True)
 class Spot:
-    """A place in a file: line and column from 1, the column counted in characters, and what is shown
-    of the line, with the number of characters before the place in it."""
+    """A place in a file: line and column from 1, the column counted in characters, and what is
+    shown of the line, with the number of characters before the place in it."""
 
     file: str
     line: int
@@ -117,7 +120,7 @@ class Spot:
     before: int
 
     def caret(self, width: int) -> str:
-        """A line that marks so many characters under the line of the spot, tabs kept as they are."""
+        """A line that marks so many characters under the line of the spot, tabs kept."""
         lead = "".join("\t" if sign == "\t" else " " for sign in self.content[: self.before])
         return lead + "^" * max(1, min(width, len(self.content) - self.before))
 
@@ -144,7 +147,9 @@ def spot_of(source: Source, place: int) -> Spot:
 
 def visible(text: bytes) -> str:
     """A text in which what is no sign stands as such a mark as a wrong byte does."""
-    return "".join(sign if sign.isprintable() or sign == "\t" else "\ufffd" for sign in decoded(text))
+    return "".join(
+        sign if sign.isprintable() or sign == "\t" else "\ufffd" for sign in decoded(text)
+    )
 
 
 def decoded(text: bytes) -> str:
@@ -153,7 +158,8 @@ def decoded(text: bytes) -> str:
 
 @dataclass(frozen=True)
 class Refusal:
-    """A refusal in one of the two texts, with the tokens of that text and the number of the token at the place."""
+    """A refusal in one of the two texts, with the tokens of that text and the number of the token
+    at the place."""
 
     word: str
     source: Source
@@ -168,11 +174,18 @@ class Refusal:
     @cached_property
     def index(self) -> int:
         """The number of the first token that begins at the place or behind it."""
-        return next((number for number, token in enumerate(self.tokens) if token.start >= self.at), len(self.tokens))
+        return next(
+            (number for number, token in enumerate(self.tokens) if token.start >= self.at),
+            len(self.tokens),
+        )
 
     @property
     def token(self) -> str:
-        return self.tokens[self.index].text if self.index < len(self.tokens) and self.tokens[self.index].start == self.at else ""
+        return (
+            self.tokens[self.index].text
+            if self.index < len(self.tokens) and self.tokens[self.index].start == self.at
+            else ""
+        )
 
     def before(self, steps: int = 1) -> str:
         return self.tokens[self.index - steps].text if self.index >= steps else ""
@@ -194,9 +207,13 @@ class Refusal:
         return self.tokens[self.first].text if self.first < len(self.tokens) else ""
 
     def made(self, word: str) -> list[str]:
-        """The names behind such a word at the beginning of a statement, in the sequence of the problem."""
+        """The names behind such a word at the beginning of a statement, in file order."""
         tokens = read_tokens(self.problem, strict=False)
-        starts = [n for n, token in enumerate(tokens) if token.text == word and (n == 4 or n > 4 and tokens[n - 1].text == ";")]
+        starts = [
+            n
+            for n, token in enumerate(tokens)
+            if token.text == word and (n == 4 or n > 4 and tokens[n - 1].text == ";")
+        ]
         return [tokens[n + 1].text for n in starts if n + 1 < len(tokens)]
 
     def attributes(self) -> list[str]:
@@ -213,8 +230,14 @@ class Refusal:
         """The variables and parameters that this statement has up to the place."""
         before = self.tokens[self.first : self.index]
         pairs = list(zip(before, before[1:]))
-        quantified = [name.text for name, mark in pairs if name.kind == "name" and mark.text == "in"]
-        parameters = [name.text for name, mark in pairs[2:] if name.kind == "name" and mark.text == ":" and self.statement == "macro"]
+        quantified = [
+            name.text for name, mark in pairs if name.kind == "name" and mark.text == "in"
+        ]
+        parameters = [
+            name.text
+            for name, mark in pairs[2:]
+            if name.kind == "name" and mark.text == ":" and self.statement == "macro"
+        ]
         return list(dict.fromkeys(quantified + parameters))
 
     def dims(self) -> int:
@@ -257,7 +280,10 @@ def limit_needle(refusal: Refusal) -> str:
         return "the number behind `div`"
     if refusal.token == "box" or refusal.tokens[refusal.index].kind == "name":
         return "a name past its limit"
-    if refusal.before() in ("box", "size", "at", "within", "sides") and members(refusal) != refusal.dims():
+    if (
+        refusal.before() in ("box", "size", "at", "within", "sides")
+        and members(refusal) != refusal.dims()
+    ):
         return "the first token of offsets"
     return "an end of a range or an offset"
 
@@ -288,7 +314,9 @@ def is_in_collection(refusal: Refusal) -> bool:
 
 
 def near(name: str, others: list[str]) -> list[str]:
-    return difflib.get_close_matches(name, [other for other in others if other != name], n=3, cutoff=0.6)
+    return difflib.get_close_matches(
+        name, [other for other in others if other != name], n=3, cutoff=0.6
+    )
 
 
 def did_you_mean(name: str, others: list[str]) -> list[str]:
@@ -309,7 +337,8 @@ def hints(refusal: Refusal) -> list[str]:
     """Lines that say what to write instead, what stands there, and what may stand there."""
     own = [] if refusal.kind is Kind.DERIVATION else finders_of(refusal)(refusal)
     first = slip_hints(refusal, f"{refusal.word}-first") if refusal.index == 0 else []
-    return (first or slip_hints(refusal, refusal.word)) + own
+    slips = first or slip_hints(refusal, refusal.word)
+    return slips or own if refusal.word == "byte" else slips + own
 
 
 def finders_of(refusal: Refusal) -> Finder:
@@ -318,7 +347,7 @@ def finders_of(refusal: Refusal) -> Finder:
 
 
 def slip_hints(refusal: Refusal, word: str) -> list[str]:
-    """What to write in place of a slip that is known; `word` is that of the refusal or a finer one."""
+    """What to write in place of a known slip; `word` is that of the refusal or a finer one."""
     if refusal.kind is Kind.DERIVATION or word == "syntax" and is_unended(refusal):
         return []
     names = {
@@ -341,39 +370,72 @@ def byte_hints(refusal: Refusal) -> list[str]:
             f"`{sign}` is no letter of names, which are made of a to z, A to Z, digits and `_`:"
             " write another; it may stand in a comment"
         ]
-    return [f"`{sign}` may stand in a comment alone"] if sign.isprintable() else []
+    told = f"`{sign}` may stand in a comment alone: write it there, or leave it out"
+    return [told] if sign.isprintable() else []
 
 
 def number_hints(refusal: Refusal) -> list[str]:
     word = refusal.token
-    touches = refusal.index + 1 < len(refusal.tokens) and refusal.tokens[refusal.index + 1].start == refusal.at + len(word)
+    touches = refusal.index + 1 < len(refusal.tokens) and refusal.tokens[
+        refusal.index + 1
+    ].start == refusal.at + len(word)
     if not touches:
-        return [f"{word} is above {LARGEST_NUMBER}"]
+        return [f"{word} is above {LARGEST_NUMBER}: write a lesser number, in a larger unit"]
     whole = word + refusal.after()
-    return [f"`{whole}` is neither a number nor a name; units are not written, and a name begins with a letter or `_`, such as `_{whole}`"]
+    return [
+        f"`{whole}` is neither a number nor a name; units are not written, and a name begins with"
+        f" a letter or `_`, such as `_{whole}`"
+    ]
 
 
 def name_hints(refusal: Refusal) -> list[str]:
-    return [f"the name has {len(refusal.token)} bytes: write a shorter one, of {LONGEST_NAME} at most"]
+    return [
+        f"the name has {len(refusal.token)} bytes: write a shorter one, of {LONGEST_NAME} at most"
+    ]
 
 
 def syntax_hints(refusal: Refusal) -> list[str]:
     fault = syntax_fault(refusal)
-    lines: list[str] = []
     if fault is None or fault.place != refusal.at:
-        return lines
+        return []
     expected = [word.strip("`") for word in fault.expected]
-    token = refusal.token
-    lines.append("here may stand " + ", ".join(fault.expected))
-    if token in RESERVED and "a name" in expected:
-        other = f": write `{token}_` or another" if expected == ["a name"] else ""
-        lines.append(f"`{token}` is a reserved word and no name{other}")
-    elif token and token not in expected:
-        lines.extend(did_you_mean(token, [word for word in expected if word.isalpha()]))
+    lines = ["here may stand " + ", ".join(fault.expected)]
     if is_unended(refusal):
         before = refusal.before()
         lines.append(f"the statement before is not ended: a `;` is missing behind `{before}`")
+        return lines
+    lines.extend(word_hints(refusal.token, expected))
+    if len(lines) == 1 and not slip_hints(refusal, "syntax"):
+        lines.append(wanted_hint(expected))
     return lines
+
+
+def word_hints(token: str, expected: list[str]) -> list[str]:
+    """What may be meant by the word that stands there."""
+    if token in RESERVED and "a name" in expected:
+        other = f": write `{token}_` or another" if expected == ["a name"] else ""
+        return [f"`{token}` is a reserved word and no name{other}"]
+    if token and token not in expected:
+        return did_you_mean(token, [word for word in expected if word.isalpha()])
+    return []
+
+
+def wanted_hint(expected: list[str]) -> str:
+    """What is wanted where so much may stand, said in general."""
+    if len(expected) == 1:
+        word = expected[0] if " " in expected[0] else f"`{expected[0]}`"
+        return f"write {word} here"
+    if "rule" in expected:
+        return "a statement begins here: write one of these words first"
+    if "<=" in expected:
+        return "two sides are compared: write `=`, `<` or another mark of comparison between them"
+    if "and" in expected:
+        return "what stands before is whole: write `and`, `or` or `implies` here, or its end"
+    if "[" in expected:
+        return "a formula is wanted here: write one, such as `a.x1 = 0`"
+    if "(" in expected:
+        return "a number is wanted here: write one, or a field, such as `a.x1`"
+    return "write one of these here"
 
 
 def is_unended(refusal: Refusal) -> bool:
@@ -385,24 +447,23 @@ def is_unended(refusal: Refusal) -> bool:
 
 
 def syntax_fault(refusal: Refusal) -> TextFault | None:
-    """The fault of the grammar as the reader of these scripts finds it."""
-    reader = Reader(refusal.tokens, len(refusal.source.text))
-    try:
-        reader.layout() if refusal.kind is Kind.LAYOUT else reader.problem()
-        reader.finish()
-    except TextFault as fault:
-        return fault
-    return None
+    """The fault of the grammar, with what may stand at its place."""
+    rule = "layout" if refusal.kind is Kind.LAYOUT else "problem"
+    return first_fault(rule, refusal.tokens, len(refusal.source.text))
 
 
 def unknown_hints(refusal: Refusal) -> list[str]:
     name, before = refusal.token, refusal.before()
     if refusal.statement == "object" or before == "shape":
         made = [f"write `shape {name} box ..` somewhere, or another name"]
-        return did_you_mean(name, refusal.made("shape")) or made + listed("shapes", refusal.made("shape"))
+        return did_you_mean(name, refusal.made("shape")) or made + listed(
+            "shapes", refusal.made("shape")
+        )
     if refusal.statement == "order" or is_in_collection(refusal):
         made = [f"write `object {name} as ..` somewhere, or another name"]
-        return did_you_mean(name, refusal.made("object")) or made + listed("objects", refusal.made("object"))
+        return did_you_mean(name, refusal.made("object")) or made + listed(
+            "objects", refusal.made("object")
+        )
     if before == ".":
         return field_hints(refusal)
     if before in ("@", "$"):
@@ -413,7 +474,9 @@ def unknown_hints(refusal: Refusal) -> list[str]:
             " put a compound body in `[ ]`, so write `: [ .. ]`",
         ]
     known = refusal.variables() + refusal.made("object")
-    return did_you_mean(name, known) or far_hints(refusal) + listed("objects", refusal.made("object"))
+    return did_you_mean(name, known) or far_hints(refusal) + listed(
+        "objects", refusal.made("object")
+    )
 
 
 def far_hints(refusal: Refusal) -> list[str]:
@@ -432,7 +495,10 @@ def field_hints(refusal: Refusal) -> list[str]:
 def macro_hints(refusal: Refusal) -> list[str]:
     names = refusal.made("macro")
     if refusal.token in names:
-        return [f"the macro `{refusal.token}` is made further down, or is this one: put its statement above"]
+        return [
+            f"the macro `{refusal.token}` is made further down, or is this one:"
+            " put its statement above"
+        ]
     made = [f"write `macro {refusal.token}(..)` further up, or the name of another"]
     return did_you_mean(refusal.token, names) or made + listed("macros", names)
 
@@ -441,7 +507,14 @@ def twice_hints(refusal: Refusal) -> list[str]:
     token = refusal.token
     if token in ("id", "sid") or len(token) == 2 and token[0] == "x" and token[1] in "123456789":
         return [f"every object has the field `{token}` anyway: write another name"]
-    earlier = next((n for n in range(refusal.index) if refusal.tokens[n].text == token and is_same_list(refusal, n)), None)
+    earlier = next(
+        (
+            n
+            for n in range(refusal.index)
+            if refusal.tokens[n].text == token and is_same_list(refusal, n)
+        ),
+        None,
+    )
     if earlier is None:
         return []
     spot = spot_of(refusal.source, refusal.tokens[earlier].start)
@@ -472,7 +545,9 @@ def kind_hints(refusal: Refusal) -> list[str]:
     if refusal.before() == "of":
         return listed("objects", refusal.made("object"))
     if token in refusal.made("object") + refusal.variables():
-        return [f"`{token}` alone is no number here; a field of it may be meant, such as `{token}.x1`"]
+        return [
+            f"`{token}` alone is no number here; a field of it may be meant, such as `{token}.x1`"
+        ]
     return []
 
 
@@ -506,9 +581,15 @@ def range_hints(refusal: Refusal) -> list[str]:
 
 
 def order_hints(refusal: Refusal) -> list[str]:
-    end = next((n for n in range(refusal.index, len(refusal.tokens)) if refusal.tokens[n].text == ";"), len(refusal.tokens))
+    end = next(
+        (n for n in range(refusal.index, len(refusal.tokens)) if refusal.tokens[n].text == ";"),
+        len(refusal.tokens),
+    )
     listed_names = {token.text for token in refusal.tokens[refusal.index : end]}
-    return listed("write them too; it leaves out", [name for name in refusal.made("object") if name not in listed_names])
+    return listed(
+        "write them too; it leaves out",
+        [name for name in refusal.made("object") if name not in listed_names],
+    )
 
 
 def product_hints(refusal: Refusal) -> list[str]:
@@ -525,10 +606,13 @@ def product_hints(refusal: Refusal) -> list[str]:
 def in_place_of(part: object) -> str:
     """What to write in place of a part that has coordinates where none may stand."""
     if isinstance(part, Extreme):
-        return "write `[ a.x1 <= 3 and b.x1 <= 3 ]` in place of `max(a.x1, b.x1) <= 3`, and `or` for `min`"
+        both = "write `[ a.x1 <= 3 and b.x1 <= 3 ]`"
+        return f"{both} in place of `max(a.x1, b.x1) <= 3`, and `or` for `min`"
     if isinstance(part, Chain) and any(mark != "*" for mark, _ in part.steps):
-        return "write `[ 6 <= e and e < 9 ]` in place of `e div 3 = 2`; under `mod` stand attributes alone"
-    return "write `[ a.x1 = 0 or b.x1 = 0 ]` for a product that is 0, and else one comparison a coordinate"
+        both = "write `[ 6 <= e and e < 9 ]`"
+        return f"{both} in place of `e div 3 = 2`; under `mod` stand attributes alone"
+    either = "write `[ a.x1 = 0 or b.x1 = 0 ]`"
+    return f"{either} for a product that is 0, and else one comparison a coordinate"
 
 
 def parsed_problem(refusal: Refusal) -> Problem | None:
@@ -540,11 +624,15 @@ def parsed_problem(refusal: Refusal) -> Problem | None:
 
 def has_coordinate(part: Formula | Expr) -> bool:
     fields = [found for found in all_parts(part) if isinstance(found, FieldOf)]
-    return any(len(found.name) == 2 and found.name[0] == "x" and found.name[1].isdigit() for found in fields)
+    return any(
+        len(found.name) == 2 and found.name[0] == "x" and found.name[1].isdigit()
+        for found in fields
+    )
 
 
 def multiplies(part: Formula | Expr) -> bool:
-    """Whether this part multiplies coordinates or has them where only numbers may stand, as far as it is seen without its calls."""
+    """Whether this part multiplies coordinates or has them where only numbers may stand, as far as
+    it is seen without its calls."""
     if isinstance(part, Extreme):
         return has_coordinate(part)
     if not isinstance(part, Chain) or part.steps[0][0] in "+-":
@@ -558,8 +646,11 @@ def layout_order_hints(refusal: Refusal) -> list[str]:
     names = refusal.made("object")
     before = [n for n in range(refusal.index) if refusal.tokens[n].text == "as"]
     if len(before) < len(names):
-        return [f"the line of `{names[len(before)]}` has to stand here: one line for each object, in the sequence of the problem"]
-    return [f"the problem has {len(names)} objects, and each has its line already"]
+        return [
+            f"the line of `{names[len(before)]}` has to stand here: write one line for each object,"
+            " in the sequence of the problem"
+        ]
+    return [f"the problem has {len(names)} objects, and each has its line already: write no other"]
 
 
 def layout_object(refusal: Refusal) -> str:
@@ -573,7 +664,9 @@ def layout_unknown_hints(refusal: Refusal) -> list[str]:
     if made is None:
         return []
     shapes = list(made.object(layout_object(refusal)).shapes)
-    return did_you_mean(refusal.token, shapes) + listed(f"shapes of `{layout_object(refusal)}`", shapes)
+    return did_you_mean(refusal.token, shapes) + listed(
+        f"shapes of `{layout_object(refusal)}`", shapes
+    )
 
 
 def layout_range_hints(refusal: Refusal) -> list[str]:
@@ -583,7 +676,12 @@ def layout_range_hints(refusal: Refusal) -> list[str]:
     start = next(n for n in range(refusal.index, 0, -1) if refusal.tokens[n].text == "at")
     dimension = sum(token.kind == "number" for token in refusal.tokens[start : refusal.index])
     low, high = made.object(layout_object(refusal)).ranges[dimension]
-    return [f"x{dimension + 1} of `{layout_object(refusal)}` lies in {low}..{high}"]
+    where = f"x{dimension + 1} of `{layout_object(refusal)}` lies in {low}..{high}"
+    return [f"{where}: write a number from there, or another range into the problem"]
+
+
+def layout_limit_hints(refusal: Refusal) -> list[str]:
+    return [f"{refusal.dims()} coordinates are wanted: write one for each dimension"]
 
 
 PROBLEM_HINTS: dict[str, Finder] = {
@@ -603,7 +701,7 @@ PROBLEM_HINTS: dict[str, Finder] = {
 LAYOUT_HINTS: dict[str, Finder] = {
     "order": layout_order_hints,
     "unknown": layout_unknown_hints,
-    "limit": lambda refusal: [f"{refusal.dims()} coordinates are wanted: one for each dimension"],
+    "limit": layout_limit_hints,
     "range": layout_range_hints,
     "token": lambda refusal: [],
 }
@@ -632,9 +730,7 @@ def explain_refusal(
     ]
 
 
-def refusal_of(
-    word: str, place: int, whole: bytes, second_from: int | None, kind: Kind
-) -> Refusal:
+def refusal_of(word: str, place: int, whole: bytes, second_from: int | None, kind: Kind) -> Refusal:
     if second_from is None:
         return Refusal(word, Source("", whole), place, whole, Kind.PROBLEM)
     problem = whole[:second_from]
@@ -646,4 +742,6 @@ def refusal_of(
 
 def source_at(sources: list[Source], place: int) -> Source:
     """The file in which the byte at this place stands; the last one for the end of the input."""
-    return next((source for source in sources if place < source.before + len(source.text)), sources[-1])
+    return next(
+        (source for source in sources if place < source.before + len(source.text)), sources[-1]
+    )

@@ -106,8 +106,14 @@ def compiled(pattern: str, names: dict[str, list[str]]) -> re.Pattern[str]:
     for word, stands in CLASSES.items():
         pattern = pattern.replace(f"<{word}>", stands)
     for word in NAMED:
-        listed = "|".join(re.escape(name) for name in names.get(word, []))
-        pattern = pattern.replace(f"<{word}>", rf"({listed})\b" if listed else r"((?!))")
+        if f"<{word}>" in pattern:
+            listed = "|".join(map(re.escape, names.get(word, [])))
+            pattern = pattern.replace(f"<{word}>", rf"({listed})\b" if listed else r"((?!))")
+    return made_pattern(pattern)
+
+
+@cache
+def made_pattern(pattern: str) -> re.Pattern[str]:
     return re.compile(pattern)
 
 

@@ -1,8 +1,10 @@
 """Each problem that stands in a document runs, and its answer is the one that stands under it.
 
-A document's blocks are fenced. `geost` is a problem, which holds until the next one. Under it stand, in any number: `text first N`, what
-that prints; `text plan`, a layout, and then `text judged`, its verdict; `text explained WORDS`, what tools/explain prints for a command
-over the problem (and the plan). Answers and verdicts are also those of the second meaning.
+A document's blocks are fenced. `geost` is a problem, which holds until the next one. Under it
+stand, in any number: `text first N`, what that prints; `text plan`, a layout, and then `text
+judged`, its verdict; `text explained WORDS`, what tools/explain prints for a command over the
+problem (and the plan); `text rows N`, the table of its first layout. `text table SPACE` is a table
+whose problem stands in the document too. Answers and verdicts are also those of the second meaning.
 """
 
 from __future__ import annotations
@@ -16,7 +18,8 @@ import oracle
 from geost_candidates import narrower
 from geost_orders import stated_orders
 from geost_text import TextFault, print_layout, print_problem, read_layout, read_problem
-from harness import TOP, Case, Cases, Failed, Setting, Skipped, first_of, run_tool, want
+from harness import TOP, Case, Cases, Failed, Setting, Skipped, first_of
+from harness import run_plain, run_tool, want, want_in
 
 DOCUMENTS = ["TUTORIAL.md", "COOKBOOK.md", "SPEED.md"]
 FENCE = re.compile(r"^```(.*)\n((?:.*\n)*?)```$", re.MULTILINE)
@@ -48,7 +51,11 @@ class Snippet:
 
 def blocks_of(document: str) -> list[Block]:
     return [
-        Block(tuple(match.group(1).split()), match.group(2), document.count("\n", 0, match.start()) + 1)
+        Block(
+            tuple(match.group(1).split()),
+            match.group(2),
+            document.count("\n", 0, match.start()) + 1,
+        )
         for match in FENCE.finditer(document)
     ]
 
@@ -75,10 +82,23 @@ def check_snippet(setting: Setting, snippet: Snippet, folder: Path) -> None:
         case ("text", "judged"):
             verdict = setting.program.judge(snippet.problem, snippet.plan)
             want(snippet.block.text, verdict.text, "the verdict")
-            broken = oracle.broken_rules(read_problem(snippet.problem.encode()), read_layout(snippet.plan.encode()))
-            want(snippet.block.text, f"broken {broken[0]}\n" if broken else "good\n", "the verdict of the second meaning")
+            broken = oracle.broken_rules(
+                read_problem(snippet.problem.encode()), read_layout(snippet.plan.encode())
+            )
+            want(
+                snippet.block.text,
+                f"broken {broken[0]}\n" if broken else "good\n",
+                "the verdict of the second meaning",
+            )
         case ("text", "explained", *words):
             check_explained(setting, snippet, list(words), folder)
+        case ("text", "table", space):
+            words = ["problem", "--space", space, "-"]
+            printed = run_plain("csv", words, snippet.block.text)
+            document = (TOP / "docs" / snippet.document).read_text(encoding="utf-8")
+            want_in(f"```geost\n{printed}```", document)
+        case ("text", "rows", steps):
+            check_rows(setting, snippet, steps, folder)
         case ("text", "lint"):
             printed, _ = run_tool("lint", setting, ["-"], snippet.problem)
             want(snippet.block.text, printed.replace("standard input: ", ""), "what lint prints")
@@ -92,6 +112,15 @@ def check_first(snippet: Snippet) -> None:
     found = oracle.first_layout(read_problem(snippet.problem.encode()), MOST_PLACES)
     wanted = "none\n" if found is None else print_layout(found)
     want(first_of(snippet.block.text), wanted, "the first layout by a listing")
+
+
+def check_rows(setting: Setting, snippet: Snippet, steps: str, folder: Path) -> None:
+    """The table of the problem's first layout."""
+    folder.mkdir()
+    (folder / "my.geost").write_text(snippet.problem)
+    answer = setting.program.ask(["first", steps], snippet.problem.encode())
+    printed = run_plain("csv", ["table", str(folder / "my.geost")], answer.text)
+    want(snippet.block.text, printed, "what tools/csv prints")
 
 
 def check_explained(setting: Setting, snippet: Snippet, words: list[str], folder: Path) -> None:
@@ -112,14 +141,22 @@ def statement_blocks() -> list[str]:
     document = (TOP / "docs" / "FORMAT.md").read_text(encoding="utf-8")
     blocks = re.findall(r"(?:^    .*\n)+", document, re.MULTILINE)
     starts = ("    shape ", "    object ", "    order ", "    rule ", "    macro ")
-    return [re.sub("^    ", "", block, flags=re.MULTILINE) for block in blocks if block.startswith(starts)]
+    return [
+        re.sub("^    ", "", block, flags=re.MULTILINE)
+        for block in blocks
+        if block.startswith(starts)
+    ]
 
 
 def check_format(setting: Setting) -> None:
-    """All statements of the document together are one problem, whose first layout stands in the document."""
+    """All statements of the document are one problem, whose first layout stands in it."""
     text = "geost 1 dims 2\n" + "".join(statement_blocks()) + "end\n"
     try:
-        want(setting.program.ask(["show"], text.encode()).text, print_problem(read_problem(text.encode())), "the canonical text")
+        want(
+            setting.program.ask(["show"], text.encode()).text,
+            print_problem(read_problem(text.encode())),
+            "the canonical text",
+        )
     except TextFault as fault:
         raise Failed(f"the statements are no problem: {fault}") from fault
     answer = setting.program.ask(["first", "1000"], text.encode())
@@ -127,7 +164,11 @@ def check_format(setting: Setting) -> None:
     shown = "".join(f"    {line}\n" for line in answer.text.splitlines())
     if answer.status != 0 or shown not in document:
         raise Failed(f"the document has another layout than\n{answer.text}")
-    want(oracle.broken_rules(read_problem(text.encode()), read_layout(answer.text.encode())), [], "broken rules")
+    want(
+        oracle.broken_rules(read_problem(text.encode()), read_layout(answer.text.encode())),
+        [],
+        "broken rules",
+    )
 
 
 # docs/SPEED.md: its tables of steps
@@ -159,8 +200,16 @@ def check_steps(setting: Setting, row: Steps) -> None:
     problem = read_problem((TOP / "examples" / f"{row.problem}.geost").read_bytes())
     order = next(order for name, order in stated_orders(problem) if name == row.order)
     text = print_problem(replace(problem, order=order, sides=row.sides or problem.sides)).encode()
-    want(setting.program.ask(["first", str(row.steps)], text).status, 0, f"the status of first {row.steps}")
-    want(setting.program.ask(["first", str(row.steps - 1)], text).status, 3, f"the status of first {row.steps - 1}")
+    want(
+        setting.program.ask(["first", str(row.steps)], text).status,
+        0,
+        f"the status of first {row.steps}",
+    )
+    want(
+        setting.program.ask(["first", str(row.steps - 1)], text).status,
+        3,
+        f"the status of first {row.steps - 1}",
+    )
 
 
 def check_zones(setting: Setting, cells: list[str]) -> None:
@@ -186,7 +235,9 @@ def rows_of_zones() -> list[list[str]]:
 
 def check_links(document: Path) -> None:
     """The files that a document names are there."""
-    named = re.findall(r"`((?:docs|examples|tools|bench)/[A-Za-z0-9_./]+)`", document.read_text(encoding="utf-8"))
+    named = re.findall(
+        r"`((?:docs|examples|tools|bench)/[A-Za-z0-9_./]+)`", document.read_text(encoding="utf-8")
+    )
     missing = [name for name in named if not (TOP / name).exists()]
     want(missing, [], "files that are named and not there")
 
@@ -211,13 +262,19 @@ def cases(setting: Setting, folder: Path) -> Cases:
         for snippet in snippets_of(name):
             number += 1
             own = folder / f"document{number}"
-            yield Case(snippet.name(), lambda snippet=snippet, own=own: check_snippet(setting, snippet, own))
+            yield Case(
+                snippet.name(),
+                lambda snippet=snippet, own=own: check_snippet(setting, snippet, own),
+            )
     yield Case("document FORMAT.md: its statements", lambda: check_format(setting))
     for cells in rows_of_zones():
         name = f"document SPEED.md: {cells[0]}, {cells[1]}, zones"
         yield Case(name, lambda cells=cells: check_zones(setting, cells))
     for row in rows_of_steps():
-        yield Case(f"document SPEED.md: {row.problem}, {row.order}", lambda row=row: check_steps(setting, row))
+        yield Case(
+            f"document SPEED.md: {row.problem}, {row.order}",
+            lambda row=row: check_steps(setting, row),
+        )
     for path in all_documents():
         name = path.relative_to(TOP)
         yield Case(f"document {name}: files that it names", lambda path=path: check_links(path))

@@ -5,15 +5,26 @@ from __future__ import annotations
 import os
 import re
 import shutil
+import signal
 import subprocess
 import time
 from collections.abc import Iterator
 from dataclasses import dataclass
 from pathlib import Path
 
-from harness import TOP, Case, Cases, Failed, Setting, want, want_in
+from harness import TOP, Case, Cases, Failed, Setting, hear_interrupts, want, want_in
 
 MOST_README_LINES = 80
+LONGEST_WAIT = 30
+# what the script says of words that the program does not know
+HINTS = {
+    "": "no such command (./geost help)",
+    "solve": "no such command (./geost help)",
+    "first": "digits alone, as in first 1000",
+    "first 1e6": "digits alone, as in first 1000",
+    "all 10 x": "digits alone, as in first 1000",
+    f"first 100 {__file__}": f"./geost first 100 < {__file__}",
+}
 LAWS, TESTS = "laws", "tests and measurement"
 CHANGING = "crates/geo_base/src/lib.rt"
 
@@ -50,15 +61,17 @@ class Checkout:
     def builds(self) -> Path:
         return self.top.parent / "builds"
 
+    def surroundings(self) -> dict[str, str]:
+        """The environment in which the builder stands first in the search path."""
+        return {**os.environ, "PATH": f"{self.top.parent}{os.pathsep}{os.environ['PATH']}"}
+
     def call(self, *words: str) -> Said:
-        tools = str(self.top.parent)
-        surroundings = {**os.environ, "PATH": f"{tools}{os.pathsep}{os.environ['PATH']}"}
         done = subprocess.run(
             [self.top / "geost", *words],
             stdin=subprocess.DEVNULL,
             capture_output=True,
             text=True,
-            env=surroundings,
+            env=self.surroundings(),
         )
         return Said(done.stdout, done.stderr, done.returncode)
 
@@ -69,7 +82,7 @@ class Checkout:
 
 def copy_checkout(folder: Path, fault: str = "") -> Checkout:
     """The script with the code of all crates, and a builder that does `fault` first."""
-    top = folder / "checkout"
+    top = folder / "check out"
     top.mkdir(parents=True)
     for name in ("geost", "crates.txt", "VERSION"):
         shutil.copy(TOP / name, top / name)
@@ -106,7 +119,7 @@ def check_kept(folder: Path) -> None:
     named = Path(checkout.call("--program").printed.strip())
     want(named.name, "geost_cli_unproved", "the program that is kept")
     left = [path.name for path in checkout.top.parent.iterdir()]
-    want(sorted(left), ["builds", "checkout", "rt"], "what is left beside the checkout")
+    want(sorted(left), ["builds", "check out", "rt"], "what is left beside the checkout")
 
 
 def check_side_by_side(folder: Path) -> None:
@@ -118,7 +131,7 @@ def check_side_by_side(folder: Path) -> None:
             stdin=subprocess.DEVNULL,
             stdout=subprocess.PIPE,
             stderr=subprocess.DEVNULL,
-            env={**os.environ, "PATH": f"{folder}{os.pathsep}{os.environ['PATH']}"},
+            env=checkout.surroundings(),
         )
         for _ in range(3)
     ]
@@ -137,6 +150,34 @@ def check_failed_build(folder: Path) -> None:
     want(checkout.built(), 2, "builds")
 
 
+def check_stopped(folder: Path) -> None:
+    """A build that is stopped leaves neither a process nor a program nor a folder behind."""
+    pid = folder / "pid"
+    rooms = folder / "rooms"
+    checkout = copy_checkout(folder, f'echo $$ >"{pid}.new"; mv "{pid}.new" "{pid}"; exec sleep 60')
+    rooms.mkdir()
+    call = subprocess.Popen(
+        [checkout.top / "geost", "first", "100"],
+        stdin=subprocess.DEVNULL,
+        stdout=subprocess.PIPE,
+        stderr=subprocess.DEVNULL,
+        env={**checkout.surroundings(), "TMPDIR": str(rooms)},
+        preexec_fn=hear_interrupts,
+        start_new_session=True,
+    )
+    until = time.monotonic() + LONGEST_WAIT
+    while not pid.exists() and time.monotonic() < until:
+        time.sleep(0.05)
+    builder = int(pid.read_text())
+    os.killpg(call.pid, signal.SIGINT)  # as Ctrl-C does
+    want(call.communicate(timeout=LONGEST_WAIT)[0], b"", "what is printed")
+    want(call.returncode != 0, True, "a status of failure")
+    want(Path(f"/proc/{builder}").exists(), False, "the builder is there still")
+    want(list(rooms.iterdir()), [], "folders that are left")
+    kept = checkout.top / "crates" / "geost_cli" / "out"
+    want([path.name for path in kept.iterdir() if path.suffix != ".lock"], [], "what is kept")
+
+
 def check_proved(folder: Path) -> None:
     """A program that was built behind the sources answers and says no more; an unproved build in
     its place does not."""
@@ -148,6 +189,8 @@ def check_proved(folder: Path) -> None:
     write_program(program, "echo proved; exit 1")
     want(checkout.call("first", "100"), Said("proved\n", "", 1), "the answer of the proved program")
     want(checkout.call("--proved"), Said(f"{program}\n", "", 0), "what --proved prints")
+    for words, hint in HINTS.items():
+        want_in(hint, checkout.call(*words.split()).told)
     want(checkout.built(), 0, "builds")
     write_program(program, "echo unproved; exit # __asan_init")
     want(checkout.call("--proved").status, 1, "the status of --proved for an unproved build")
@@ -161,6 +204,52 @@ def check_proved(folder: Path) -> None:
 def write_program(path: Path, lines: str) -> None:
     path.write_text(f"#!/usr/bin/env bash\n{lines}\n")
     path.chmod(0o755)
+
+
+# What .ci/run calls beside the kit and `geost`, each with what it says.
+STEPS = {
+    "examples/check": "true",
+    ".ci/try_geost": "echo tried",
+    "tools/setup": "echo 'missing: vim (a test)'; exit 1",
+    "tools/test": "printf 'skipped: a test: no vim\\n1 skipped\\n9 passed, 0 failed\\n'",
+}
+GATE = """#!/usr/bin/env bash
+mkdir -p crates/geost_cli/out
+printf '#!/usr/bin/env bash\n# {mark}\n' >crates/geost_cli/out/geost_cli
+chmod +x crates/geost_cli/out/geost_cli
+"""
+
+
+def run_gate(folder: Path, mark: str) -> subprocess.CompletedProcess[str]:
+    """Runs .ci/run where the kit builds a program with this mark in it."""
+    checkout = copy_checkout(folder)
+    for name, lines in STEPS.items():
+        (checkout.top / name).parent.mkdir(exist_ok=True)
+        write_program(checkout.top / name, lines)
+    shutil.copy(TOP / ".ci" / "run", checkout.top / ".ci" / "run")
+    write_program(folder / "rt", GATE.format(mark=mark).partition("\n")[2])
+    return subprocess.run(
+        [checkout.top / ".ci" / "run"],
+        env={**checkout.surroundings(), "GEOST_CASES": str(folder / "none")},
+        capture_output=True,
+        text=True,
+    )
+
+
+def check_gate(folder: Path) -> None:
+    """The gate names last what was skipped, and an unproved build does not pass in it."""
+    done = run_gate(folder / "proved", "proved")
+    want(done.returncode, 0, f"the status of the gate: {done.stderr}")
+    last = [
+        "missing: vim (a test)",
+        "skipped: a test: no vim",
+        "skipped: acceptance cases: there is no folder of them",
+        "2 skipped",
+    ]
+    want(done.stdout.splitlines()[-4:], last, "the last lines")
+    refused = run_gate(folder / "unproved", "__asan_init")
+    want(refused.returncode, 1, "the status of the gate with an unproved build")
+    want("tried" in refused.stdout, False, "whether it went on")
 
 
 def check_help(setting: Setting) -> None:
@@ -214,6 +303,14 @@ def check_notices() -> None:
     notices = (TOP / "NOTICES.md").read_text()
     unnamed = [name for name in others if f"- `{name}`" not in notices]
     want(unnamed, [], "libraries without a notice")
+
+
+def check_measurements() -> None:
+    """CONTRIBUTING names each measurement of bench/."""
+    text = (TOP / "CONTRIBUTING.md").read_text()
+    scripts = [path for path in (TOP / "bench").iterdir() if path.is_file() and not path.suffix]
+    unnamed = [path.name for path in scripts if not re.search(rf"`(bench/)?{path.name}`", text)]
+    want(sorted(unnamed), [], "measurements that are not named")
 
 
 # Layers
@@ -300,12 +397,33 @@ def has_function(name: str, call: str) -> bool:
     return file.is_file() and re.search(rf"\bfn {call}\b", file.read_text()) is not None
 
 
+def defined_names() -> Iterator[str]:
+    """The names at the front of each item of docs/DEFINITIONS.md."""
+    text = (TOP / "docs" / "DEFINITIONS.md").read_text()
+    for item in re.findall(
+        r"^- ((?:`[^`]+`(?: \([^)]*\))?,?\s+(?:and )?)*`[^`]+`)", text, re.MULTILINE
+    ):
+        yield from re.findall(r"`(\w+)`", item)
+
+
+def check_definitions() -> None:
+    """Each name that docs/DEFINITIONS.md explains stands in the definitions or in the code."""
+    files = [*(TOP / "crates").glob("*/specs/**/*.antt"), *(TOP / "crates").glob("*/src/**/*.rt")]
+    known = {word for file in files for word in re.findall(r"\w+", file.read_text())}
+    names = list(defined_names())
+    if len(names) < 400:
+        raise Failed(f"docs/DEFINITIONS.md explains {len(names)} names")
+    want([name for name in names if name not in known], [], "names that are defined nowhere")
+
+
 def cases(setting: Setting, folder: Path) -> Cases:
     tried = [
         ("a program that is kept", check_kept),
         ("calls side by side", check_side_by_side),
         ("a build that fails", check_failed_build),
+        ("a build that is stopped", check_stopped),
         ("the proved program", check_proved),
+        ("the gate around it", check_gate),
     ]
     for number, (name, check) in enumerate(tried):
         own = folder / f"front{number}"
@@ -314,6 +432,8 @@ def cases(setting: Setting, folder: Path) -> Cases:
     yield Case("front: README", check_readme)
     yield Case("front: VERSION and CHANGELOG", check_version)
     yield Case("front: NOTICES", check_notices)
+    yield Case("front: measurements", check_measurements)
     yield Case("front: layers", check_layers)
     yield Case("front: what stands on what", check_order_of_layers)
     yield Case("front: the way of a text", check_ways)
+    yield Case("front: definitions", check_definitions)

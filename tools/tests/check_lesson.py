@@ -14,7 +14,8 @@ from pathlib import Path
 
 from geost_parts import with_objects
 from geost_text import print_problem, read_problem
-from harness import TOOLS, TOP, Case, Cases, Failed, Setting, run_tool, want, want_in
+from harness import TOOLS, TOP, Case, Cases, Failed, Setting, hear_interrupts, run_tool, want
+from harness import want_in
 
 TOUR = TOP / "examples" / "large" / "removal_tour.geost"
 STEPS = 100
@@ -127,6 +128,7 @@ def stopped(setting: Setting, words: list[str], line: str) -> tuple[str, int]:
         [*command, *words[1:]],
         stdout=subprocess.PIPE,
         stderr=subprocess.STDOUT,
+        preexec_fn=hear_interrupts,
         start_new_session=True,
     )
     assert process.stdout is not None

@@ -110,11 +110,20 @@ def libraries(program: Path) -> list[Path]:
     return found
 
 
+def newest_glibc(program: Path) -> tuple[int, int]:
+    """The newest version of the C library that a program asks for."""
+    found = re.findall(rb"GLIBC_(\d+)\.(\d+)", program.read_bytes())
+    return max((int(major), int(minor)) for major, minor in found)
+
+
 def check_alone(setting: Setting, folder: Path) -> None:
     """The program runs in a folder that has the C library and nothing else."""
     release = released(setting, folder)
     needed = libraries(release.program)
     want({path.name for path in needed} - C_LIBRARY, set(), "libraries beside the C library")
+    said = re.search(r"glibc (\d+)\.(\d+) or newer", (TOP / "README.md").read_text())
+    if said is None or newest_glibc(release.program) > (int(said[1]), int(said[2])):
+        raise Failed(f"it wants glibc {newest_glibc(release.program)}, and README says otherwise")
     if os.geteuid() != 0 or shutil.which("chroot") is None:
         raise Skipped("chroot needs the rights of root")
     room = folder / "room"

@@ -2,6 +2,7 @@
 
 from __future__ import annotations
 
+import signal
 import subprocess
 import sys
 from collections.abc import Callable, Iterator
@@ -43,6 +44,11 @@ class Setting:
 Cases = Iterator[Case]
 
 
+def hear_interrupts() -> None:
+    """Lets Ctrl-C end a process that is started so, also behind a shell that ignores it."""
+    signal.signal(signal.SIGINT, signal.SIG_DFL)
+
+
 UNPROVED_MARK = b"__asan_init"
 
 
@@ -64,6 +70,15 @@ def first_of(text: str) -> str:
 def want_in(part: str, text: str) -> None:
     if part not in text:
         raise Failed(f"{part!r} does not stand in\n{text}")
+
+
+def run_plain(name: str, arguments: list[str], text: str = "") -> str:
+    """What a script that asks no program prints. Failed where it ends with another status than 0."""
+    command = [sys.executable, str(TOOLS / name), *arguments]
+    done = subprocess.run(command, input=text.encode(), capture_output=True)
+    if done.returncode != 0:
+        raise Failed(f"tools/{name}: {done.stderr.decode()}")
+    return done.stdout.decode()
 
 
 def run_tool(name: str, setting: Setting, arguments: list[str], text: bytes | str = b"") -> tuple[str, int]:

@@ -4,3 +4,4 @@ pub mod Under
 pub mod Apart
 pub mod Making
 pub mod Mapped
+pub mod Wholes

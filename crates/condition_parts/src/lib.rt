@@ -5,5 +5,7 @@ mod literals;
 mod names;
 mod parts;
 mod taken;
+mod together;
 
 pub use taken::{TakenApart, take_apart};
+pub use together::put_together;

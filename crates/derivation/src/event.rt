@@ -1,20 +1,20 @@
 use geo_conditions::ObjId;
 
-/// A piece of a derivation, in text order. Dimensions count from 0, places and conditions from 1.
+/// A piece of a derivation, in text order. Dimensions count from 0, places and conditions from 1. It takes 16 bytes.
 #[derive(Clone, Copy)]
 pub enum Event {
     /// Two cases: the object has this place, or it has another one.
     SplitShape(ObjId, u8),
     /// Two cases: the coordinate is at most this, or it is greater.
-    SplitUpto(ObjId, usize, i64),
+    SplitUpto(ObjId, u32, i64),
     /// Two cases: the coordinate is at least this, or it is less.
-    SplitFrom(ObjId, usize, i64),
+    SplitFrom(ObjId, u32, i64),
     /// The object has no point at this place. A cover follows.
     Drop(ObjId, u8),
     /// The coordinate is at least this. A list of covers follows.
-    Raise(ObjId, usize, i64),
+    Raise(ObjId, u32, i64),
     /// The coordinate is at most this. A list of covers follows.
-    Lower(ObjId, usize, i64),
+    Lower(ObjId, u32, i64),
     /// The object has no point. A list of covers follows.
     Gone(ObjId),
     /// The condition of this number is refuted.
@@ -26,7 +26,9 @@ pub enum Event {
     /// A cover: the condition of this number is refuted on the whole box.
     By(u32),
     /// A cover: one of the points up to this coordinate, and one of the others.
-    Cut(usize, i64),
+    Cut(u32, i64),
     /// A cover: one of the points from this coordinate on, and one of the others.
-    CutFrom(usize, i64),
+    CutFrom(u32, i64),
 }
+
+const _: () = prove!(size_of::<Event>() == 16);

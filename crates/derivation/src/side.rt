@@ -6,8 +6,8 @@ use super::event::Event;
 /// A side of a number in a dimension: the points up to it, or those from it on.
 #[derive(Clone, Copy)]
 pub enum Side {
-    Upto(usize, i64),
-    From(usize, i64),
+    Upto(u32, i64),
+    From(u32, i64),
 }
 
 impl Side {

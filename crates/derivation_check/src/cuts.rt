@@ -45,10 +45,12 @@ fn keep_near<const K: usize>(s: &mut State<K>, o: ObjId, side: Side)
 {
     match side {
         Side::Upto(d, v) => {
+            let d = d as usize;
             let now = s.interval(o, d);
             s.set_high(o, d, now.hi.min(v));
         }
         Side::From(d, v) => {
+            let d = d as usize;
             let now = s.interval(o, d);
             s.set_low(o, d, now.lo.max(v));
         }
@@ -63,10 +65,12 @@ fn keep_far<const K: usize>(s: &mut State<K>, o: ObjId, side: Side)
 {
     match side {
         Side::Upto(d, v) => {
+            let d = d as usize;
             let now = s.interval(o, d);
             s.set_low(o, d, now.lo.max(v + 1));
         }
         Side::From(d, v) => {
+            let d = d as usize;
             let now = s.interval(o, d);
             s.set_high(o, d, now.hi.min(v - 1));
         }

@@ -26,10 +26,10 @@ fn is_object(o: ObjId, objects: usize) -> bool
     (o.0 as usize) < objects
 }
 
-fn is_coordinate<const K: usize>(o: ObjId, d: usize, v: i64, objects: usize) -> bool
+fn is_coordinate<const K: usize>(o: ObjId, d: u32, v: i64, objects: usize) -> bool
     ensures { IsTrue result ↔ ((o.0 < objects) × (d < K) × IsLimited v) }
 {
-    is_object(o, objects) && d < K && is_limited(v)
+    is_object(o, objects) && (d as usize) < K && is_limited(v)
 }
 
 /// Whether the object, the dimension and the place of an event exist in a state of so many objects, and its number is within the
@@ -46,8 +46,8 @@ fn fits<const K: usize>(e: Event, objects: usize) -> bool
         Event::Lower(o, d, v) => is_coordinate::<K>(o, d, v, objects),
         Event::Gone(o) => is_object(o, objects),
         Event::Cover(place) => is_place(place),
-        Event::Cut(d, v) => d < K && is_limited(v),
-        Event::CutFrom(d, v) => d < K && is_limited(v),
+        Event::Cut(d, v) => (d as usize) < K && is_limited(v),
+        Event::CutFrom(d, v) => (d as usize) < K && is_limited(v),
         Event::Dead(_) => true,
         Event::By(_) => true,
         Event::EndCovers => true,

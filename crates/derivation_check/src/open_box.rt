@@ -74,8 +74,14 @@ impl<const K: usize> OpenBox<K> {
         let lo = self.ends.lo();
         let hi = self.ends.hi();
         let ends = match side {
-            Side::Upto(d, v) => KBox::new(lo, hi.with(d, hi.get(d).min(v))),
-            Side::From(d, v) => KBox::new(lo.with(d, lo.get(d).max(v)), hi),
+            Side::Upto(d, v) => {
+                let d = d as usize;
+                KBox::new(lo, hi.with(d, hi.get(d).min(v)))
+            }
+            Side::From(d, v) => {
+                let d = d as usize;
+                KBox::new(lo.with(d, lo.get(d).max(v)), hi)
+            }
         };
         OpenBox { ends }
     }
@@ -89,8 +95,14 @@ impl<const K: usize> OpenBox<K> {
         let lo = self.ends.lo();
         let hi = self.ends.hi();
         let ends = match side {
-            Side::Upto(d, v) => KBox::new(lo.with(d, lo.get(d).max(above(v))), hi),
-            Side::From(d, v) => KBox::new(lo, hi.with(d, hi.get(d).min(below(v)))),
+            Side::Upto(d, v) => {
+                let d = d as usize;
+                KBox::new(lo.with(d, lo.get(d).max(above(v))), hi)
+            }
+            Side::From(d, v) => {
+                let d = d as usize;
+                KBox::new(lo, hi.with(d, hi.get(d).min(below(v))))
+            }
         };
         OpenBox { ends }
     }

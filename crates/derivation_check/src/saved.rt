@@ -25,10 +25,12 @@ pub fn saved_of<const K: usize>(s: &State<K>, o: ObjId, half: Half) -> Saved
     match half {
         Half::OfPlace(_) => Saved::Places(o, s.places(o)),
         Half::OfSide(Side::Upto(d, _)) => {
+            let d = d as usize;
             let now = s.interval(o, d);
             Saved::Ends(o, d, now.lo, now.hi)
         }
         Half::OfSide(Side::From(d, _)) => {
+            let d = d as usize;
             let now = s.interval(o, d);
             Saved::Ends(o, d, now.lo, now.hi)
         }

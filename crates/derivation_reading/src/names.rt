@@ -60,11 +60,10 @@ pub fn place_of(names: &Names, o: ObjId, name: &[u8]) -> Option<u8>
 }
 
 /// The dimension, from 0, that a text counts from 1.
-pub fn dimension_of(names: &Names, number: u32) -> Option<usize>
+pub fn dimension_of(names: &Names, number: u32) -> Option<u32>
     ensures { result ≡ (lookup names.now).dimension number }
 {
-    let number = number as usize;
-    if 1 <= number && number <= names.dims() {
+    if 1 <= number && number as usize <= names.dims() {
         Some(number - 1)
     } else {
         None

@@ -176,7 +176,7 @@ fn cover_by(word: &[u8]) -> Outcome
     }
 }
 
-fn part_by(o: ObjId, d: usize, word: &[u8]) -> Outcome
+fn part_by(o: ObjId, d: u32, word: &[u8]) -> Outcome
     ensures { said result ≡ part_by o d word.now }
 {
     if word == b"upto".as_slice() {
@@ -226,7 +226,7 @@ fn signed(sign: Sign, number: u32) -> i64
     }
 }
 
-fn split_at(part: Part, o: ObjId, d: usize, value: i64) -> Outcome
+fn split_at(part: Part, o: ObjId, d: u32, value: i64) -> Outcome
     ensures { said result ≡ gives (split_at part o d value) (symbols.Node ∷ symbols.Node ∷ []) }
 {
     let event = match part {
@@ -236,7 +236,7 @@ fn split_at(part: Part, o: ObjId, d: usize, value: i64) -> Outcome
     Outcome::Gives(event, Behind::Two(Symbol::Node, Symbol::Node))
 }
 
-fn bound_at(part: Part, o: ObjId, d: usize, value: i64) -> Outcome
+fn bound_at(part: Part, o: ObjId, d: u32, value: i64) -> Outcome
     ensures { said result ≡ gives (bound_at part o d value) (symbols.Covers o ∷ symbols.Node ∷ []) }
 {
     let event = match part {
@@ -246,7 +246,7 @@ fn bound_at(part: Part, o: ObjId, d: usize, value: i64) -> Outcome
     Outcome::Gives(event, Behind::Two(Symbol::Covers(o), Symbol::Node))
 }
 
-fn cut_at(part: Part, d: usize, value: i64) -> Outcome
+fn cut_at(part: Part, d: u32, value: i64) -> Outcome
     ensures { said result ≡ gives (cut_at part d value) (symbols.Cover ∷ symbols.Cover ∷ []) }
 {
     let event = match part {

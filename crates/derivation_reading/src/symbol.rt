@@ -36,9 +36,9 @@ pub enum Symbol {
     /// The shape of a split.
     SplitShape(ObjId),
     /// The word `upto` or `from`.
-    SplitPart(ObjId, usize),
+    SplitPart(ObjId, u32),
     /// The number of a split, and both nodes.
-    SplitNumber(Part, ObjId, usize, Sign),
+    SplitNumber(Part, ObjId, u32, Sign),
     /// The object that has no point with one of its shapes.
     DropObject,
     /// That shape.
@@ -48,9 +48,9 @@ pub enum Symbol {
     /// The dimension in which the bound moves.
     BoundDimension(Part, ObjId),
     /// The new bound.
-    BoundNumber(Part, ObjId, usize, Sign),
+    BoundNumber(Part, ObjId, u32, Sign),
     /// The list of covers, and the node behind it.
-    BoundCovers(Part, ObjId, usize, i64),
+    BoundCovers(Part, ObjId, u32, i64),
     /// The object that has no point.
     GoneObject,
     /// Its list of covers.
@@ -66,7 +66,7 @@ pub enum Symbol {
     /// The dimension of a cut.
     CutDimension(Part),
     /// The number of a cut, and both covers.
-    CutNumber(Part, usize, Sign),
+    CutNumber(Part, u32, Sign),
 }
 
 /// What a token is in the text of a derivation.

@@ -14,10 +14,10 @@ fn has_object(names: &Names, o: ObjId) -> bool
     (o.0 as usize) < names.objects().len()
 }
 
-fn has_dimension(names: &Names, d: usize) -> bool
+fn has_dimension(names: &Names, d: u32) -> bool
     ensures { IsTrue result ↔ HasDimension names.now d }
 {
-    d < names.dims()
+    (d as usize) < names.dims()
 }
 
 fn has_shape(names: &Names, o: ObjId, place: u8) -> bool
@@ -28,7 +28,7 @@ fn has_shape(names: &Names, o: ObjId, place: u8) -> bool
         && place as usize <= names.objects()[o.0 as usize].shapes().len()
 }
 
-fn has_coordinate(names: &Names, o: ObjId, d: usize) -> bool
+fn has_coordinate(names: &Names, o: ObjId, d: u32) -> bool
     ensures { IsTrue result ↔ ((o.0 < length names.now.objects) × HasDimension names.now d) }
 {
     has_object(names, o) && has_dimension(names, d)

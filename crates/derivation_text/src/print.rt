@@ -60,7 +60,7 @@ const LOWER: Marks = Marks {
 };
 
 // A text counts dimensions from 1.
-fn counted(d: usize) -> i128
+fn counted(d: u32) -> i128
     requires dimension { d < 1000000000 }
     ensures { result ≡ pos (d + 1) }
 {
@@ -71,7 +71,7 @@ fn counted(d: usize) -> i128
 fn write_coordinate<W: Sink>(
     names: &Names,
     o: ObjId,
-    d: usize,
+    d: u32,
     v: i64,
     marks: Marks,
     sink: &mut W,
@@ -118,7 +118,7 @@ fn write_shape<'a, W: Sink>(
     write_pieces(sink, &pieces)
 }
 
-fn write_cut<W: Sink>(word: &[u8], d: usize, v: i64, sink: &mut W) -> Result<(), PutFault>
+fn write_cut<W: Sink>(word: &[u8], d: u32, v: i64, sink: &mut W) -> Result<(), PutFault>
     requires dimension { d < 1000000000 }
     ensures { Prints W.written W.faults W.quiet sink.old sink.new result
         (cut_line word.now d v) }

@@ -96,8 +96,8 @@ impl<'a, const K: usize> Swept<'a, K> {
     {
         let mut good = side;
         let mut bad = match side {
-            Side::Upto(d, _) if d < K => b.hi.get(d),
-            Side::From(d, _) if d < K => b.lo.get(d),
+            Side::Upto(d, _) if (d as usize) < K => b.hi.get(d as usize),
+            Side::From(d, _) if (d as usize) < K => b.lo.get(d as usize),
             _ => return side,
         };
         for _ in 0..64 {

@@ -31,8 +31,8 @@ struct Backwards<'a, const K: usize> {
     covers: Leans<K>,
     /// Where the last list of covers ends.
     covers_end: usize,
-    /// For each event where the derivation goes on if it is left out, or 0 where it stays.
-    jumps: Vec<usize>,
+    /// For each event how many are left out from it on, or 0 where it stays.
+    gaps: Vec<u32>,
 }
 
 // What it takes to refute the condition of this number.
@@ -55,13 +55,15 @@ impl<'a, const K: usize> Backwards<'a, K> {
             spans: Vec::new(alloc),
             covers: Leans::new(),
             covers_end: 0,
-            jumps: vec![in alloc; 0; events]?,
+            gaps: vec![in alloc; 0; events]?,
         })
     }
 
+    // Leaves the events out, where their number is one of 32 bits.
     fn leave_out(&mut self, start: usize, end: usize) {
-        if start < self.jumps.len() {
-            self.jumps[start] = end;
+        let length = end.saturating_sub(start);
+        if start < self.gaps.len() && length <= u32::MAX as usize {
+            self.gaps[start] = length as u32;
         }
     }
 
@@ -143,10 +145,10 @@ impl<'a, const K: usize> Backwards<'a, K> {
     fn take(&mut self, start: usize, end: usize, e: Event) -> Result<bool, AllocError> {
         match e {
             Event::SplitShape(o, _) => self.split(start, o, Aspect::Places, Aspect::Places),
-            Event::SplitUpto(o, d, _) => self.split(start, o, Aspect::High(d), Aspect::Low(d)),
-            Event::SplitFrom(o, d, _) => self.split(start, o, Aspect::Low(d), Aspect::High(d)),
-            Event::Raise(o, d, _) => Ok(self.bound(start, o, Aspect::Low(d), Aspect::High(d))),
-            Event::Lower(o, d, _) => Ok(self.bound(start, o, Aspect::High(d), Aspect::Low(d))),
+            Event::SplitUpto(o, d, _) => self.split(start, o, high(d), low(d)),
+            Event::SplitFrom(o, d, _) => self.split(start, o, low(d), high(d)),
+            Event::Raise(o, d, _) => Ok(self.bound(start, o, low(d), high(d))),
+            Event::Lower(o, d, _) => Ok(self.bound(start, o, high(d), low(d))),
             Event::Drop(o, _) => {
                 self.close_covers(o);
                 Ok(self.link(start, o, Aspect::Places))
@@ -169,6 +171,16 @@ impl<'a, const K: usize> Backwards<'a, K> {
             Event::Cover(_) | Event::Cut(_, _) | Event::CutFrom(_, _) => Ok(true),
         }
     }
+}
+
+// The low end in a dimension that an event names.
+fn low(d: u32) -> Aspect {
+    Aspect::Low(d as usize)
+}
+
+// The high end in it.
+fn high(d: u32) -> Aspect {
+    Aspect::High(d as usize)
 }
 
 // What both parts of a split of the object lean on. The first part has the place or the end that
@@ -197,14 +209,14 @@ fn put_at(log: &mut Log, to: usize, from: usize) {
     }
 }
 
-// Takes out of the record what the jumps leave out.
-fn leave_out(log: &mut Log, jumps: &[usize]) {
+// Takes out of the record what the gaps leave out.
+fn leave_out(log: &mut Log, gaps: &[u32]) {
     let mut next: usize = 0;
     let mut stays: usize = 0;
-    for (at, jump) in jumps.iter().enumerate() {
+    for (at, gap) in gaps.iter().enumerate() {
         if next <= at {
-            if *jump > at {
-                next = *jump;
+            if *gap > 0 {
+                next = at.saturating_add(*gap as usize);
             } else {
                 put_at(log, stays, at);
                 stays = stays.saturating_add(1);
@@ -226,13 +238,13 @@ pub fn copied(alloc: Global, events: &[Event]) -> Result<Log, AllocError>
     Ok(copy)
 }
 
-// For each event where the derivation goes on if it is left out, or 0 where it stays; none where
-// the events are no derivation.
-fn jumps_of<const K: usize>(
+// For each event how many are left out from it on, or 0 where it stays; none where the events are
+// no derivation.
+fn gaps_of<const K: usize>(
     alloc: Global,
     conditions: &[Cond],
     events: &[Event],
-) -> Result<Option<Vec<usize>>, AllocError>
+) -> Result<Option<Vec<u32>>, AllocError>
     requires { K ≤ MAX_DIMS }
 {
     let mut read = Backwards::<K>::start(alloc, conditions, events.len())?;
@@ -244,7 +256,7 @@ fn jumps_of<const K: usize>(
         }
         end = start;
     }
-    Ok(Some(read.jumps))
+    Ok(Some(read.gaps))
 }
 
 /// Takes out of a derivation what no later step leans on. What is no derivation is left as it is.
@@ -255,8 +267,8 @@ pub fn drop_needless<const K: usize>(
 ) -> Result<(), AllocError>
     requires { K ≤ MAX_DIMS }
 {
-    if let Some(jumps) = jumps_of::<K>(alloc, conditions, log.events())? {
-        leave_out(log, jumps.as_slice());
+    if let Some(gaps) = gaps_of::<K>(alloc, conditions, log.events())? {
+        leave_out(log, gaps.as_slice());
     }
     Ok(())
 }

@@ -120,16 +120,16 @@ fn from<const K: usize>(b: &KBox<K>, d: usize, v: i64) -> KBox<K> {
 /// The part of the box on the side.
 pub fn near<const K: usize>(b: &KBox<K>, side: Side) -> KBox<K> {
     match side {
-        Side::Upto(d, v) => upto(b, d, v),
-        Side::From(d, v) => from(b, d, v),
+        Side::Upto(d, v) => upto(b, d as usize, v),
+        Side::From(d, v) => from(b, d as usize, v),
     }
 }
 
 /// The rest of it.
 pub fn far<const K: usize>(b: &KBox<K>, side: Side) -> KBox<K> {
     match side {
-        Side::Upto(d, v) => from(b, d, v.saturating_add(1)),
-        Side::From(d, v) => upto(b, d, v.saturating_sub(1)),
+        Side::Upto(d, v) => from(b, d as usize, v.saturating_add(1)),
+        Side::From(d, v) => upto(b, d as usize, v.saturating_sub(1)),
     }
 }
 

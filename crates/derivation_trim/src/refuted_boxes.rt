@@ -220,13 +220,13 @@ pub fn widest_within<const K: usize>(outer: &KBox<K>, b: &KBox<K>, side: Side) -
         return side;
     }
     match side {
-        Side::Upto(d, v) if d < K => {
-            let last = b.hi.get(d).saturating_sub(1);
-            Side::Upto(d, v.max(outer.hi.get(d).min(last)))
+        Side::Upto(d, v) if (d as usize) < K => {
+            let last = b.hi.get(d as usize).saturating_sub(1);
+            Side::Upto(d, v.max(outer.hi.get(d as usize).min(last)))
         }
-        Side::From(d, v) if d < K => {
-            let first = b.lo.get(d).saturating_add(1);
-            Side::From(d, v.min(outer.lo.get(d).max(first)))
+        Side::From(d, v) if (d as usize) < K => {
+            let first = b.lo.get(d as usize).saturating_add(1);
+            Side::From(d, v.min(outer.lo.get(d as usize).max(first)))
         }
         _ => side,
     }

@@ -5,7 +5,7 @@ ghost use Rattle.geo_base.specs.declared.TheConstants.{MAX_DIMS};
 ghost use Rattle.condition_parts.specs.Apart.{IsTakenApart, wholes_of};
 
 use super::propagation::QueueFixpoint;
-use condition_parts::{TakenApart, take_apart};
+use condition_parts::{TakenApart, put_together, take_apart};
 use derivation::{Recorder, Renumbering};
 use geo_base::MAX_DIMS;
 use geo_conditions::{Cond, MAX_OBJECTS};
@@ -61,6 +61,19 @@ impl<const K: usize> Fixpoint<K> {
             wholes,
             numbers,
         })
+    }
+
+    /// The conditions, at the end.
+    pub fn into_conditions(self, alloc: Global) -> Result<Vec<Cond>, AllocError>
+        ensures { IfOk result (λ v. v.items
+            ≡ ⟦<Fixpoint<K> as Propagate<K>>⟧.conditions self.entry) }
+    {
+        let Fixpoint {
+            parts,
+            wholes,
+            numbers: _numbers,
+        } = self;
+        put_together(alloc, parts.into_list(), wholes)
     }
 }
 

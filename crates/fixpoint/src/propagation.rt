@@ -323,6 +323,23 @@ impl<const K: usize> QueueFixpoint<K> {
             hints,
         })
     }
+
+    /// The list of conditions, at the end.
+    pub fn into_list(self) -> Vec<AnyIndexical<K>>
+        ensures { result ≡ self.entry.list }
+    {
+        let QueueFixpoint {
+            list,
+            links: _links,
+            last: _last,
+            queued: _queued,
+            dirty: _dirty,
+            watched: _watched,
+            kept: _kept,
+            hints: _hints,
+        } = self;
+        list
+    }
 }
 
 impl<const K: usize> Propagate<K> for QueueFixpoint<K> {

@@ -12,11 +12,11 @@ use Rattle.problem_text.proofs.Said.{said_table}
 use Rattle.accepted_fronts.specs.Fronts.{HasFrontThere}
 use Rattle.accepted_fronts.proofs.Fronts.{has_front_there}
 use Rattle.layout_search.specs.FirstLayout.{HasNoLayout}
-use Rattle.geost_run.specs.Accepted.{IsAccepted, AreConditions}
-use Rattle.geost_run.specs.Texts.{AreTextsOf}
-use Rattle.geost_run.specs.Answer.{ShowsNone, SaysNone}
+use Rattle.command_reply.specs.Accepted.{IsAccepted, AreConditions}
+use Rattle.command_reply.specs.Texts.{AreTextsOf}
+use Rattle.search_commands.specs.First.{ShowsNone, SaysNone}
 use Rattle.geost_run.specs.Headline.{IsConfirmed}
-use Rattle.geost_run.proofs.TwoTexts.{one-cut}
+use Rattle.command_reply.proofs.TwoTexts.{one-cut}
 
 -- what is printed is checked, however the input is cut
 checked : (input : List ℕ) (p : ProblemData) (cs : List Cond) (es : List Event) → ShowsNone p cs es → IsAccepted input p → AreConditions p cs → HasNoLayout p → IsConfirmed input (printed (name_table p) es)
@@ -28,22 +28,23 @@ checked input p cs es h a are none first second cut short =
     let same = one-cut (input ++ (codes "\n" ++ printed n es)) f.front behind first second mine cut in
     let few : length behind ≤ 2 ^ 40 = subst (λ (z : List ℕ). length z ≤ 2 ^ 40) (sym same.1) short in
     let reads : IsText n behind es =
-    read_printable_behind n h.root es f.blank (said_table p (record { text = input; accepts = a.spells })) h.tree h.printable f.behind few in (
-      p,
-      cs,
-      h.root,
-      (
-        f.front,
-        behind,
-        mine,
-        record { spells = f.spells; names = a.names; expands = a.expands; grounds = a.grounds },
-        subst (λ (fs : List Event). IsText n behind fs) h.tree reads,
-      ),
-      are,
-      h.valid,
-      none,
-      refl,
-    )
+    read_printable_behind n h.root es f.blank (said_table p (record { text = input; accepts = a.spells })) h.tree h.printable f.behind few in
+    record {
+      problem = p;
+      conditions = cs;
+      root = h.root;
+      derives = record {
+        first = f.front;
+        second = behind;
+        cut = mine;
+        accepted = record { spells = f.spells; names = a.names; expands = a.expands; grounds = a.grounds };
+        spells = subst (λ (fs : List Event). IsText n behind fs) h.tree reads;
+      };
+      are = are;
+      valid = h.valid;
+      none = none;
+      says = refl;
+    }
 
 pub confirmed : (input : List ℕ) (p : ProblemData) (cs : List Cond) (text : List ℕ) → IsAccepted input p → AreConditions p cs → HasNoLayout p → SaysNone p cs text → IsConfirmed input text
 confirmed input p cs text a are none h = subst (λ (t : List ℕ). IsConfirmed input t) (sym h.says) (checked input p cs h.events h.shows a are none)

@@ -1,10 +1,12 @@
-// What the words are answered with, also where they could not be read.
-ghost use Rattle.std.specs.Prelude.{◌≡◌, true, map, string_bytes};
-ghost use Rattle.geost_run.specs.Answer.{Answer, Begins};
-ghost use Rattle.geost_run.specs.Ends.{Ends, EndsUnread};
+//! What the words are answered with, also where they could not be read.
 
+ghost use Rattle.std.specs.Prelude.{◌≡◌, true, map, string_bytes};
+ghost use Rattle.command_reply.specs.Ends.{EndsUnread};
+ghost use Rattle.geost_run.specs.Runs.{RunsWell};
+
+use crate::run;
 use crate::top::refuse_words;
-use crate::{Status, run};
+use command_input::Status;
 use geo_chan::{Sink, Source};
 use std::alloc::Global;
 
@@ -25,10 +27,10 @@ pub fn answer_words<S: Source, W: Sink>(
     source: &mut S,
     sink: &mut W,
 ) -> Status
-    ensures read { (given : _) → words ≡ Ok given
-        → Ends (Answer (map string_bytes given.items)) (Begins (map string_bytes given.items))
-        (S.left source.old) (S.faults source.old) (S.faults source.new)
-        (W.written sink.old) (W.written sink.new) (W.faults sink.old) (W.faults sink.new) result }
+    ensures read { (given : _) → words ≡ Ok given → RunsWell (map string_bytes given.items)
+        (S.left source.old) (S.left source.new) (S.faults source.old) (S.faults source.new)
+        (W.written sink.old) (W.written sink.new) (W.faults sink.old) (W.faults sink.new)
+        (W.quiet sink.old) (source.new ≡ source.old) (sink.new ≡ sink.old) result }
     ensures memory { words ≡ Err Unread.Memory
         → (result ≡ Status.Memory) × (source.new ≡ source.old) × (sink.new ≡ sink.old) }
     ensures no_text { words ≡ Err Unread.NoText → (source.new ≡ source.old)

@@ -4,6 +4,7 @@ pub mod AlikeRows
 pub mod States
 pub mod Members
 pub mod Outcomes
+pub mod Solutions
 pub mod Layouts
 pub mod Listed
 pub mod Pages

@@ -1,5 +1,5 @@
 -- What a search has listed, and how its listing goes on and ends.
-use Rattle.std.proofs.Common.{◌≡◌, ◌≤◌, ◌<◌, ℕ, ℤ, Bool, true, false, List, [], ◌∷◌, ◌++◌, length, map, take, drop, sym, ap, ◌∙◌, subst, arith, refl, None, Some}
+use Rattle.std.proofs.Common.{◌≡◌, ◌≤◌, ◌<◌, ℕ, ℤ, Bool, true, false, List, [], ◌∷◌, ◌++◌, length, map, take, drop, sym, ap, ◌∙◌, subst, arith, refl, None}
 use Rattle.std.specs.Prelude.{All, filter, if◌then◌else◌}
 use Rattle.std.proofs.lemmas.List.{length-map, append-nil, length-take, length-take-le, map-append, take-append-drop}
 use Rattle.std.proofs.Math.Seq.{take-append_seam}

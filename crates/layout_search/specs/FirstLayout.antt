@@ -1,5 +1,5 @@
 -- The first layout of a problem, and the listing of its walk.
-use Rattle.std.specs.Prelude.{◌≡◌, ◌⊎◌, ◌↔◌, ◌≤◌, ◌^◌, ℕ, ℤ, List, [], ◌∷◌, length, Option, None, All}
+use Rattle.std.specs.Prelude.{◌≡◌, ◌⊎◌, ◌↔◌, ◌≤◌, ◌^◌, ℕ, ℤ, Bool, true, false, List, [], ◌∷◌, length, Option, None, All}
 use Rattle.std.specs.Option.{option_map}
 use Rattle.geo_base.specs.Tuple.{Tuple}
 use Rattle.geo_conditions.specs.declared.cond.Cond.{Cond}
@@ -42,6 +42,15 @@ pub record IsFirstLayout (p : ProblemData) (t : Tuple) : Type 0 where
 abbrev pub HasNoLayout : ProblemData → Type 0
 HasNoLayout p = (t : Tuple) → IsLayout p t → ⊥
 
+-- a tuple of the problem on which every condition is true, and which comes before every other one
+pub record IsFirstSolution (p : ProblemData) (cs : List Cond) (t : Tuple) : Type 0 where
+  pub tuple : IsTuple p t
+  pub holds : AllHold cs t
+  pub first : (u : Tuple) → IsTuple p u → AllHold cs u → (u ≡ t) ⊎ ComesBefore p t u
+
+abbrev pub HasNoSolution : ProblemData → List Cond → Type 0
+HasNoSolution p cs = (t : Tuple) → IsTuple p t → AllHold cs t → ⊥
+
 -- the listing of one layout among the first n members of the walk: its full member, and the word that ends it
 abbrev pub Lists : {R : Type 0} → ProblemData → List Cond → ℕ → Outcome R → Type 0
 Lists p cs n (Found t) = IsListing (walk_of p cs) 1 n (values (variables_for p) t ∷ []) More
@@ -53,6 +62,24 @@ abbrev pub Finds : {R : Type 0} → ProblemData → Outcome R → Type 0
 Finds p (Found t) = IsFirstLayout p t
 Finds p (Nothing r) = HasNoLayout p
 Finds p OutOfBudget = Unit {0}
+
+-- the same of any conditions
+abbrev pub FindsSolution : {R : Type 0} → ProblemData → List Cond → Outcome R → Type 0
+FindsSolution p cs (Found t) = IsFirstSolution p cs t
+FindsSolution p cs (Nothing r) = HasNoSolution p cs
+FindsSolution p cs OutOfBudget = Unit {0}
+
+-- the walk goes on past the budget
+abbrev pub is_spent : {R : Type 0} → Outcome R → Bool
+is_spent (Found t) = false
+is_spent (Nothing r) = false
+is_spent OutOfBudget = true
+
+-- the same outcome with another record
+abbrev pub with_record : {Q R : Type 0} → Outcome Q → R → Outcome R
+with_record (Found t) r = Found t
+with_record (Nothing _) r = Nothing r
+with_record OutOfBudget r = OutOfBudget
 
 -- where nothing is found, the events that the recorder kept are a derivation, which is valid on the first state; and there are at most as
 -- many conditions as the numbers of a derivation can name

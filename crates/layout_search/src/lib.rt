@@ -2,11 +2,13 @@
 //! its layouts are found.
 #![tactic(auto)]
 
+mod bounded;
+mod dimensions;
 mod first;
 mod laws;
 mod listing;
 mod start;
 
-pub use first::{Outcome, search_first, search_first_unrecorded};
+pub use first::{Outcome, Searched, first_solution, search_first, search_first_unrecorded};
 pub use laws::listings_are_of_layouts;
 pub use listing::{Ending, write_block, write_listing};

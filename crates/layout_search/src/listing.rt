@@ -8,6 +8,7 @@ ghost use Rattle.problem_data.specs.Cells.{IsShaped, IsTuple};
 ghost use Rattle.layout_search.specs.FirstLayout.{AreConditionsOf, walk_after};
 ghost use Rattle.layout_search.specs.Page.{IsWalkOf, WritesPage};
 
+use crate::in_dimensions;
 use crate::start::{room_for_layout, start_search, take_layout};
 use derivation::NoRecord;
 use fixpoint::Fixpoint;
@@ -52,13 +53,10 @@ pub fn write_listing<W: Sink>(
         (W.quiet sink.old) (W.quiet sink.new) result }
 {
     problem.is_said();
-    match problem.dims() {
-        1 => write_in::<1, W>(alloc, problem, conditions, after, most, budget, sink),
-        2 => write_in::<2, W>(alloc, problem, conditions, after, most, budget, sink),
-        3 => write_in::<3, W>(alloc, problem, conditions, after, most, budget, sink),
-        4 => write_in::<4, W>(alloc, problem, conditions, after, most, budget, sink),
-        _ => unreachable!(),
-    }
+    in_dimensions!(
+        problem.dims(),
+        write_in::<W>(alloc, problem, conditions, after, most, budget, sink)
+    )
 }
 
 // The same, where K is the number of dimensions.

@@ -136,12 +136,13 @@ fn outermost<const K: usize, I: Indexical<K>, R: Recorder>(
 
 // The event of an end of an interval that moves there.
 fn end_event(o: ObjId, d: usize, up: bool, v: i64) -> Event
+    requires { d < MAX_DIMS }
     ensures { result ≡ bound_event o.0 (end_side up d v) }
 {
     if up {
-        Event::Raise(o, d, v)
+        Event::Raise(o, d as u32, v)
     } else {
-        Event::Lower(o, d, v)
+        Event::Lower(o, d as u32, v)
     }
 }
 

@@ -91,7 +91,7 @@ fn record_points<const K: usize, R: Recorder>(
     let _objects = s.objects();
     let last = b.hi.get(d);
     for v in b.lo.get(d)..last {
-        record_event(rec, Event::Cut(d, v))?;
+        record_event(rec, Event::Cut(d as u32, v))?;
         record_points(cs, s, o, place, &cut_to(b, d, v), d + 1, rec)?;
     }
     record_points(cs, s, o, place, &cut_to(b, d, last), d + 1, rec)
@@ -242,7 +242,7 @@ pub fn record_raise<const K: usize, R: Recorder>(
     let low = region.lo.get(d);
     let _high = region.hi.get(d);
     let taken = KBox::new(region.lo, region.hi.with(d, low));
-    record_event(rec, Event::Raise(o, d, low + 1))?;
+    record_event(rec, Event::Raise(o, d as u32, low + 1))?;
     record_places(cs, s, o, &taken, rec)
 }
 
@@ -270,6 +270,6 @@ pub fn record_lower<const K: usize, R: Recorder>(
     let _low = region.lo.get(d);
     let high = region.hi.get(d);
     let taken = KBox::new(region.lo.with(d, high), region.hi);
-    record_event(rec, Event::Lower(o, d, high - 1))?;
+    record_event(rec, Event::Lower(o, d as u32, high - 1))?;
     record_places(cs, s, o, &taken, rec)
 }

@@ -26,9 +26,9 @@ fn cut_before<const K: usize>(way: &Way<K>, n: &Point<K>, j: usize) -> Event
     let d = way.dimension(j);
     let jump = n.get(d);
     if way.up() {
-        Side::Upto(d, jump - 1).cut()
+        Side::Upto(d as u32, jump - 1).cut()
     } else {
-        Side::From(d, jump + 1).cut()
+        Side::From(d as u32, jump + 1).cut()
     }
 }
 

@@ -9,5 +9,5 @@ mod variable;
 mod walk;
 mod walker;
 
-pub use search::Search;
+pub use search::{Parts, Search};
 pub use step::Step;

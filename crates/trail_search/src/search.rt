@@ -34,6 +34,12 @@ pub struct Search<const K: usize, P: Propagate<K>, R: Recorder> {
     over: Option<Step>,
 }
 
+/// What a search is taken apart into: its recorder, and its propagator with the conditions.
+pub struct Parts<P, R> {
+    pub recorder: R,
+    pub propagator: P,
+}
+
 /// Written out, since a derived one is made and proved anew, field by field, at each end of a function that drops a search.
 impl<const K: usize, P: Propagate<K> + Drop, R: Recorder + Drop> Drop for Search<K, P, R> {
     fn drop(self) {
@@ -210,14 +216,15 @@ impl<const K: usize, P: Propagate<K>, R: Recorder> Search<K, P, R> {
 }
 
 impl<const K: usize, P: Propagate<K> + Drop, R: Recorder> Search<K, P, R> {
-    /// The recorder, at the end.
-    pub fn into_recorder(self) -> R
-        ensures events { R.list result ≡ self.events }
-        ensures refusals { R.refusals result ≡ self.refusals }
+    /// The recorder and the propagator, at the end.
+    pub fn into_parts(self) -> Parts<P, R>
+        ensures events { R.list result.recorder ≡ self.events }
+        ensures refusals { R.refusals result.recorder ≡ self.refusals }
+        ensures conditions { P.conditions result.propagator ≡ self.walk.conditions }
     {
         let Search {
-            prop: _prop,
-            rec,
+            prop: propagator,
+            rec: recorder,
             walker: _walker,
             budget: _,
             found: _,
@@ -225,6 +232,9 @@ impl<const K: usize, P: Propagate<K> + Drop, R: Recorder> Search<K, P, R> {
             began_empty: _,
             over: _,
         } = self;
-        rec
+        Parts {
+            recorder,
+            propagator,
+        }
     }
 }

@@ -1,11 +1,12 @@
-ghost use Rattle.std.specs.Prelude.{◌≡◌, ◌+◌, ◌<◌, ◌++◌, length, map, OnOk, IfOk, IsTrue, ◌↔◌, pos, ◌≤ℤ◌};
+ghost use Rattle.std.specs.Prelude.{◌≡◌, ◌+◌, ◌<◌, ◌≤◌, ◌++◌, length, map, OnOk, IfOk, IsTrue, ◌↔◌, pos, ◌≤ℤ◌};
 ghost use Rattle.std.specs.List.{All};
 ghost use Rattle.geo_conditions.specs.Walk.{variables, variables_of, variables_in};
 ghost use Rattle.geo_state.specs.Trail.{IsSmallEnd};
-ghost use Rattle.trail_search.specs.Cursor.{after, bound_at, IsValueOf};
+ghost use Rattle.trail_search.specs.Cursor.{after, bound_at, HasDimension, IsValueOf};
 ghost use Rattle.trail_search.specs.Variables.{variable_of, split_of, IsAt};
 
 use derivation::Event;
+use geo_base::MAX_DIMS;
 use geo_conditions::{ObjId, SearchOrder};
 use std::alloc::{AllocError, Global};
 
@@ -68,17 +69,19 @@ pub fn token_bound(variables: &[Variable], t: &[i64], m: usize) -> i64
 }
 
 /// The event of two cases: the variable has its first value, or a later one.
-pub fn split(x: Variable, u: i64) -> Event
-    requires { IsValueOf (variable_of x) u }
+pub fn split<const K: usize>(x: Variable, u: i64) -> Event
+    requires k { K ≤ MAX_DIMS }
+    requires dimension { HasDimension K (variable_of x) }
+    requires value { IsValueOf (variable_of x) u }
     ensures { result ≡ split_of (variable_of x) u }
 {
     match x {
         Variable::Place(o) => Event::SplitShape(o, u as u8),
         Variable::Coordinate(o, d, down) => {
             if down {
-                Event::SplitFrom(o, d, u)
+                Event::SplitFrom(o, d as u32, u)
             } else {
-                Event::SplitUpto(o, d, u)
+                Event::SplitUpto(o, d as u32, u)
             }
         }
     }

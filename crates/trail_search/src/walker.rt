@@ -168,7 +168,7 @@ impl<const K: usize> Walker<K> {
         ensures grows { Grows R.keeps R.list R.refusals rec.old rec.new result }
     {
         if has_after(self.trail.state(), x, u) {
-            rec.add(split(x, u))
+            rec.add(split::<K>(x, u))
         } else {
             Ok(())
         }

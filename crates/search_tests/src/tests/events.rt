@@ -5,7 +5,7 @@ use derivation::{Event, Log, Recorder};
 use std::alloc::{AllocError, Global};
 
 /// The kind of an event, and its numbers.
-pub fn parts(e: &Event) -> (u8, u16, usize, i64) {
+pub fn parts(e: &Event) -> (u8, u16, u32, i64) {
     match *e {
         Event::SplitShape(o, s) => (0, o.0, 0, i64::from(s)),
         Event::SplitUpto(o, d, v) => (1, o.0, d, v),

@@ -2,7 +2,7 @@ use Rattle.std.proofs.Common.{◌≡◌, ℤ, set, subst}
 use Rattle.geo_base.specs.Tuple.{spot}
 use Rattle.geo_state.proofs.Numbers.{kept64}
 use Rattle.trail_search.specs.Next.{HasFound}
-use Rattle.layout_search.proofs.Spots.{put-place, put-value, long-put, all-put}
+use Rattle.layout_search.proofs.Spots.{put-place, put-value, all-put}
 use Rattle.layout_search.proofs.start.put_spot.Goals as goal
 
 pub loop-d-init : goal.loop-d-init

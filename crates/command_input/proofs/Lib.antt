@@ -1,0 +1,3 @@
+pub mod FrontEnds
+pub mod Taking
+pub mod OneForm

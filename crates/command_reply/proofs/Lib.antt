@@ -1,0 +1,6 @@
+pub mod TwoTexts
+pub mod Refusals
+mod Giving
+pub mod Lifting
+pub mod OneRefusal
+pub mod Ending

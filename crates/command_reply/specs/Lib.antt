@@ -1,0 +1,7 @@
+pub mod Accepted
+pub mod Texts
+pub mod Given
+pub mod Refusal
+pub mod Ends
+pub mod Reply
+pub mod Question

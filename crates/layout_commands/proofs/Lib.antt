@@ -1,0 +1,3 @@
+pub mod Givens
+pub mod Judges
+pub mod Draws

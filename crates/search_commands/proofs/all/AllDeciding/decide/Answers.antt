@@ -1,0 +1,16 @@
+use Rattle.std.specs.Option.{option_copied}
+use Rattle.command_reply.proofs.Ending.{decides_accepted, decides_refused}
+use Rattle.search_commands.specs.All.{all_question}
+use Rattle.search_commands.specs.Listing.{listing_says}
+use Rattle.search_commands.proofs.all.AllDeciding.decide.Goals as goal
+
+pub returns-in_ok-listing_of-in-Ok-clause-answer : goal.returns-in_ok-listing_of-in-Ok-clause-answer
+returns-in_ok-listing_of-in-Ok-clause-answer g c =
+    let a = c.args.self.now.request in
+    decides_accepted (all_question a.most a.budget (option_copied a.token)) (g.S.Source.left c.args.source.now) (listing_says c.in_ok-listing_of-in-Ok.field-0) c.in_ok-accepted.field-0 c.in-Ok.accepted c.in_ok-accepted.ensures.answer c.in-Ok.is c.in_ok-listing_of-in-Ok.ensures.answers
+
+pub returns-in_ok-refuse-in-Err-clause-answer : goal.returns-in_ok-refuse-in-Err-clause-answer
+returns-in_ok-refuse-in-Err-clause-answer g c =
+    let a = c.args.self.now.request in
+    let r = c.in_ok-refuse-in-Err.field-0 in
+    decides_refused (all_question a.most a.budget (option_copied a.token)) (g.S.Source.left c.args.source.now) r.text.items r.status c.in_ok-accepted.field-0 c.in-Err.fault c.in_ok-accepted.ensures.answer c.in-Err.is c.in_ok-refuse-in-Err.ensures (λ input text h. h)

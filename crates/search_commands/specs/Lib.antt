@@ -1,0 +1,6 @@
+pub mod First
+pub mod Make
+pub mod Refuted
+pub mod All
+pub mod Listing
+pub mod Summed

@@ -1,0 +1,157 @@
+"""What stands under the program in the page: lines of the LLVM module are rewritten as they have to
+be or stop the rewriting, and numbers of 128 bits are multiplied and shifted as Python does it."""
+
+from __future__ import annotations
+
+import hashlib
+import json
+import os
+import random
+import shutil
+import subprocess
+import sys
+from pathlib import Path
+
+from browser import needed
+from harness import TOOLS, Case, Cases, Failed, Setting, want
+
+PAGE = TOOLS / "page"
+sys.path.insert(0, str(PAGE))
+
+import origin  # noqa: E402
+import retargeting  # noqa: E402
+
+CLANG = Path(os.environ.get("RATTLE_KIT", "/opt/rattle")) / "toolchain" / "bin" / "clang"
+TARGET = "--target=wasm32-unknown-unknown -O2 -nostdlib --no-default-config".split()
+LINKED = "--no-entry --export-all".split()
+NUMBERS = 400
+LINES = [
+    (
+        "  %a = load ptr, ptr %b, align 8, !noundef !3",
+        ["  %a.wide = load i64, ptr %b, align 8", "  %a = inttoptr i64 %a.wide to ptr"],
+    ),
+    (
+        "  store ptr %a, ptr %b, align 8",
+        ["  %wide.7 = ptrtoint ptr %a to i64", "  store i64 %wide.7, ptr %b, align 8"],
+    ),
+    (
+        "  store ptr @name, ptr %b, align 8",
+        ["  store i64 ptrtoint (ptr @name to i64), ptr %b, align 8"],
+    ),
+    ("  %a = alloca ptr, align 8", ["  %a = alloca i64, align 8"]),
+    (
+        "  call void @llvm.memmove.p0.p0.i64(ptr %a, ptr %b, i64 %n, i1 false)",
+        [
+            "  %length.7 = trunc i64 %n to i32",
+            "  call void @llvm.memmove.p0.p0.i32(ptr %a, ptr %b, i32 %length.7, i1 false)",
+        ],
+    ),
+    ("  %a = add i64 %b, 1", ["  %a = add i64 %b, 1"]),
+    ("  %a = load i64, ptr %b, align 8", ["  %a = load i64, ptr %b, align 8"]),
+]
+UNKNOWN = [
+    "  %a = load { ptr, ptr }, ptr %b, align 8",
+    "  store { i8, ptr } %a, ptr %b, align 8",
+    "  %a = alloca { ptr, i64 }, align 8",
+    "  %a = alloca [4 x ptr], align 8",
+    "  %a = inttoptr i64 %b to ptr",
+    "  %a = ptrtoint ptr %b to i32",
+]
+
+
+def check_lines() -> None:
+    for line, wanted in LINES:
+        want(retargeting.rewritten_line(line, 7), wanted, line)
+    constant = (
+        "@a = private constant <{ ptr, [8 x i8] }> <{ ptr @b, [8 x i8] zeroinitializer }>, align 8"
+    )
+    wide = constant.replace("<{ ptr,", "<{ ptr, i32,").replace("ptr @b,", "ptr @b, i32 0,")
+    want(retargeting.rewritten_constant(constant), wide, "a constant")
+
+
+def check_unknown() -> None:
+    for line in UNKNOWN:
+        try:
+            retargeting.rewritten_line(line, 1)
+        except retargeting.UnknownLine:
+            continue
+        raise Failed(f"{line} is taken")
+    for module in ("", "define i32 @main() {\n  ret i32 0\n}\n"):
+        try:
+            retargeting.retargeted(module)
+        except retargeting.UnknownLine:
+            continue
+        raise Failed("a module without the entry is taken")
+    entry = f"define i32 @{retargeting.ENTRY}()"
+    made = retargeting.retargeted(entry.replace("define", "define internal"))
+    want(made, entry, "the entry")
+
+
+def check_origin() -> None:
+    """A module names the object file that it was made from, and is the same module otherwise."""
+    empty = b"\0asm\1\0\0\0"
+    named = origin.with_origin(empty, b"abc")
+    content = b"\x0cgeost.object" + hashlib.sha256(b"abc").hexdigest().encode()
+    want(named, empty + b"\0" + bytes([len(content)]) + content, "a module that names its origin")
+    want(origin.origin_of(empty), None, "the origin of a module that names none")
+    long = empty + b"\1" + origin.number(300) + bytes(300)
+    digest = hashlib.sha256(b"x" * 1000).hexdigest()
+    want(origin.origin_of(origin.with_origin(long, b"x" * 1000)), digest, "the origin")
+
+
+def module_of_numbers(folder: Path) -> Path:
+    """c/numbers.c as a module of its own, whose functions take and give halves of numbers."""
+    parts = []
+    for file in (PAGE / "c" / "numbers.c", TOOLS / "tests" / "try_numbers.c"):
+        parts.append(folder / f"{file.stem}.o")
+        subprocess.run([str(CLANG), *TARGET, "-c", str(file), "-o", str(parts[-1])], check=True)
+    linker = folder / "wasm-ld"
+    linker.symlink_to(CLANG)
+    module = folder / "numbers.wasm"
+    subprocess.run([str(linker), *LINKED, "-o", str(module), *map(str, parts)], check=True)
+    return module
+
+
+def halves(number: int) -> list[str]:
+    return [str(number % 2**64), str(number // 2**64 % 2**64)]
+
+
+def wanted_of(name: str, one: int, other: int) -> int:
+    signed = one - 2**128 if one >= 2**127 else one
+    results = {
+        "multiply": one * other,
+        "left": one << (other % 128),
+        "right": one >> (other % 128),
+        "right_signed": signed >> (other % 128),
+    }
+    return results[name] % 2**128
+
+
+def check_numbers(folder: Path) -> None:
+    needed("node", shutil.which("node") is not None)
+    needed("the Rattle kit", CLANG.exists())
+    chance = random.Random("numbers")
+    asked = []
+    for _ in range(NUMBERS):
+        name = chance.choice(["multiply", "left", "right", "right_signed"])
+        one = chance.getrandbits(chance.choice([8, 63, 64, 65, 127, 128]))
+        other = chance.getrandbits(128) if name == "multiply" else chance.randrange(128)
+        asked.append((name, one, other))
+    file = folder / "numbers.json"
+    given = [
+        {"name": name, "one": halves(one), "other": halves(other)} for name, one, other in asked
+    ]
+    file.write_text(json.dumps({"module": str(module_of_numbers(folder)), "asked": given}))
+    driver = str(TOOLS / "tests" / "try_numbers.js")
+    done = subprocess.run(["node", driver, str(file)], stdout=subprocess.PIPE, check=True)
+    for (name, one, other), (low, high) in zip(asked, json.loads(done.stdout), strict=True):
+        want(int(high) * 2**64 + int(low), wanted_of(name, one, other), f"{name} {one} {other}")
+
+
+def cases(setting: Setting, folder: Path) -> Cases:
+    own = folder / "page_wasm"
+    own.mkdir()
+    yield Case("page module: lines that are rewritten", check_lines)
+    yield Case("page module: lines that are not known", check_unknown)
+    yield Case("page module: its origin", check_origin)
+    yield Case("page module: numbers of 128 bits", lambda: check_numbers(own))
