@@ -5,7 +5,7 @@ from __future__ import annotations
 from dataclasses import dataclass
 from pathlib import Path
 
-from harness import TOP, Case, Cases, Setting, run_tool, want
+from harness import TOP, Case, Cases, Setting, Skipped, is_unproved, run_tool, want
 
 
 @dataclass(frozen=True)
@@ -94,6 +94,8 @@ def check_silent(setting: Setting, problem: Path) -> None:
 
 def check_by_any(setting: Setting, problem: Path) -> None:
     """Of this example nothing is said but that any other carton may bear one."""
+    if is_unproved(setting.program):
+        raise Skipped("an unproved build takes minutes for it")
     printed, status = run_tool("lint", setting, [str(problem)])
     want((len(printed.splitlines()), status), (1, 1), f"the lines and the status of {printed}")
     want("`borne` is kept by any other object" in printed, True, f"the warning in {printed}")
