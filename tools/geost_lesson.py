@@ -64,6 +64,7 @@ class Lesson:
     problem: Problem
     bounds: Bounds
     file: str
+    said: set[str] = field(default_factory=set)
     progress: Progress = field(default_factory=Progress)
     began: float = field(default_factory=time.monotonic)
 
@@ -75,13 +76,10 @@ class Lesson:
         yield from self.rules_in_the_way(reached)
         yield from self.better_way()
 
-    def searched(
-        self, what: str, share: float, tasks: list[Task[What]], each: float | None = None
-    ) -> dict[What, Outcome]:
-        """The outcomes of tasks within a share of all seconds, without those that come too late;
-        `each` bounds the seconds of one."""
+    def searched(self, what: str, share: float, tasks: list[Task[What]]) -> dict[What, Outcome]:
+        """The outcomes of tasks within a share of all seconds, without those that come too late."""
         until = time.monotonic() + min(self.left(), share * self.bounds.seconds)
-        limits = Limits(self.bounds.steps, each or self.bounds.seconds / RUNS_IN_A_ROW, until)
+        limits = Limits(self.bounds.steps, self.bounds.seconds / RUNS_IN_A_ROW, until)
         found: dict[What, Outcome] = {}
         for key, outcome in search_each(self.program, self.bounds.processors, limits, tasks):
             found[key] = outcome
@@ -115,7 +113,7 @@ class Lesson:
     def looked_between(self, reached: Reached) -> Reached:
         counts = spread(reached.found, reached.failed, self.bounds.processors)
         what = f"the first {counts[0]} to {counts[-1]} objects"
-        outcomes = self.searched(what, 0.07, [Task(count, self.first(count)) for count in counts])
+        outcomes = self.searched(what, 0.05, [Task(count, self.first(count)) for count in counts])
         good = [count for count in outcomes if outcomes[count].verdict is Verdict.LAYOUT]
         found = max([reached.found, *good])
         bad = [count for count in outcomes if count > found]
@@ -147,7 +145,7 @@ class Lesson:
         """The smallest group of objects that belong together and have no layout by themselves."""
         groups = groups_of(self.problem)
         tasks = [Task(group, self.only(group)) for group in groups]
-        outcomes = self.searched("groups of objects", 0.1, tasks)
+        outcomes = self.searched("groups of objects", 0.05, tasks)
         empty = [group for group in groups if self.has_none(outcomes, group)]
         if empty:
             least = min(empty, key=len)
@@ -164,6 +162,7 @@ class Lesson:
         """Without which rule there is a layout: of all objects, else of the first that fail."""
         outcomes = self.without_each_rule(self.problem)
         helpful = self.with_layouts(outcomes)
+        self.said.update(helpful)
         for name in helpful:
             yield f"without the rule `{name}` all objects {self.have_a_layout()}"
         if helpful:
@@ -177,7 +176,7 @@ class Lesson:
 
     def without_each_rule(self, problem: Problem) -> dict[str, Outcome]:
         tasks = [Task(rule.name, without_rule(problem, rule.name)) for rule in problem.rules]
-        return self.searched("without a rule", 0.12, tasks)
+        return self.searched("without a rule", 0.1, tasks)
 
     def with_layouts(self, outcomes: dict[str, Outcome]) -> list[str]:
         """The rules of these outcomes, in the sequence of the text, without which one is found."""
@@ -190,7 +189,7 @@ class Lesson:
         """The first of other orders, sides and narrower problems in which a layout is found."""
         ways = list(itertools.islice(candidates(self.problem), 1, MOST_WAYS))
         tasks = [Task(way, way.of(self.problem)) for way in ways]
-        outcomes = self.searched("other ways", 0.12, tasks)
+        outcomes = self.searched("other ways", 0.1, tasks)
         found = [way for way in ways if way in outcomes and self.has_layout(outcomes[way])]
         if found:
             yield from self.said_way(min(found, key=lambda way: way.is_narrower))
@@ -202,10 +201,7 @@ class Lesson:
     def longer(self) -> Iterator[str]:
         """What the ways of tools/portfolio find of the whole problem, else what z3 and they find of
         the problem without each of its rules."""
-        options = Options(
-            self.left() / 3, self.bounds.processors, with_z3=has_z3(), ends_with_z3=True
-        )
-        portfolio = Portfolio(self.program, self.problem, options)
+        portfolio = self.portfolio(self.problem, self.left() / 3)
         found = portfolio.run()
         self.progress.end()
         if found is not None and found.layout is not None:
@@ -214,34 +210,29 @@ class Lesson:
             return
         if NO_LAYOUT in portfolio.said_by_z3:
             yield portfolio.said_by_z3
-        helpful = self.rules_by_z3()
-        for name in helpful:
-            yield f"without the rule `{name}` all objects have one that z3 proposes, judged good"
-        if not helpful:
-            for name in self.rules_by_portfolio():
-                yield f"without the rule `{name}` all objects have a layout, by other ways"
+        yield from self.rules_by_portfolio()
         yield f"next: tools/portfolio --seconds 60 {self.file} tries more ways, and for longer;"
         yield "docs/SPEED.md says what makes such problems easy"
 
-    def rules_by_z3(self) -> list[str]:
-        """The rules without which z3 proposes a layout that the program judges good."""
-        if not has_z3():
-            return []
-        rules = self.problem.rules
-        each = self.left() * self.bounds.processors / max(1, len(rules))
-        tasks = [Task(rule.name, without_rule(self.problem, rule.name), True) for rule in rules]
-        outcomes = self.searched("without a rule, by z3", 1.0, tasks, min(each, self.left()))
-        return self.with_layouts(outcomes)
-
     def rules_by_portfolio(self) -> Iterator[str]:
-        """The same by the ways of tools/portfolio, one rule after the other."""
-        for number, rule in enumerate(self.problem.rules):
-            share = self.left() / (len(self.problem.rules) - number)
-            options = Options(share, self.bounds.processors)
-            shorter = without_rule(self.problem, rule.name)
-            found = Portfolio(self.program, shorter, options).run()
-            if found is not None and found.layout is not None:
-                yield rule.name
+        """Without which rules, of those not said yet, the ways of tools/portfolio find a layout:
+        each is tried for a moment, and what is open then for longer."""
+        waiting = [rule.name for rule in self.problem.rules if rule.name not in self.said]
+        for share in (0.4, 1.0):
+            names, waiting = waiting, []
+            for number, name in enumerate(names):
+                seconds = share * self.left() / (len(names) - number)
+                found = self.portfolio(without_rule(self.problem, name), seconds).run()
+                if found is not None and found.layout is not None:
+                    how = found.search.said()
+                    yield f"without the rule `{name}` all objects have a layout, {how}; judged good"
+                else:
+                    waiting.append(name)
+
+    def portfolio(self, problem: Problem, seconds: float) -> Portfolio:
+        processors = self.bounds.processors
+        options = Options(seconds, processors, with_z3=has_z3(), ends_with_z3=True)
+        return Portfolio(self.program, problem, options)
 
     def left(self) -> float:
         return max(0.0, self.began + self.bounds.seconds - time.monotonic())

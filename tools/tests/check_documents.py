@@ -15,6 +15,7 @@ from dataclasses import dataclass, replace
 from pathlib import Path
 
 import oracle
+from geost_candidates import narrower
 from geost_orders import stated_orders
 from geost_text import TextFault, print_layout, print_problem, read_layout, read_problem
 from harness import TOP, Case, Cases, Failed, Setting, Skipped, first_of
@@ -188,7 +189,7 @@ def rows_of_steps() -> list[Steps]:
     found = []
     for line in document.splitlines():
         cells = [cell.strip() for cell in line.strip("|").split("|")]
-        if line.startswith("| `") and len(cells) == 4:
+        if line.startswith("| `") and len(cells) == 4 and not cells[2].startswith("zones"):
             large = cells[0].startswith("`large/")
             steps, sides = (cells[2], ()) if large else (cells[3], tuple(cells[2].split()))
             found.append(Steps(cells[0].strip("`"), cells[1].partition(" (")[0], sides, int(steps)))
@@ -209,6 +210,27 @@ def check_steps(setting: Setting, row: Steps) -> None:
         3,
         f"the status of first {row.steps - 1}",
     )
+
+
+def check_zones(setting: Setting, cells: list[str]) -> None:
+    """With this order and these zones, so many steps are the least that give a layout, and it is one
+    of the problem as stated."""
+    name, order, zones, steps = cells
+    problem = read_problem((TOP / "examples" / f"{name.strip('`')}.geost").read_bytes())
+    way = next(way for way in narrower(problem) if way.name == f"{order}, {zones}")
+    text = print_problem(way.of(problem)).encode()
+    found = setting.program.ask(["first", steps], text)
+    want(found.status, 0, f"the status of first {steps}")
+    less = setting.program.ask(["first", str(int(steps) - 1)], text)
+    want(less.status, 3, f"the status of first {int(steps) - 1}")
+    layout = print_layout(read_layout(found.text.encode()))
+    want(setting.program.judge(print_problem(problem), layout).text, "good\n", "the verdict")
+
+
+def rows_of_zones() -> list[list[str]]:
+    document = (TOP / "docs" / "SPEED.md").read_text(encoding="utf-8")
+    rows = [[cell.strip() for cell in line.strip("|").split("|")] for line in document.splitlines()]
+    return [cells for cells in rows if len(cells) == 4 and cells[2].startswith("zones")]
 
 
 def check_links(document: Path) -> None:
@@ -245,6 +267,9 @@ def cases(setting: Setting, folder: Path) -> Cases:
                 lambda snippet=snippet, own=own: check_snippet(setting, snippet, own),
             )
     yield Case("document FORMAT.md: its statements", lambda: check_format(setting))
+    for cells in rows_of_zones():
+        name = f"document SPEED.md: {cells[0]}, {cells[1]}, zones"
+        yield Case(name, lambda cells=cells: check_zones(setting, cells))
     for row in rows_of_steps():
         yield Case(
             f"document SPEED.md: {row.problem}, {row.order}",

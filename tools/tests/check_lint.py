@@ -5,7 +5,7 @@ from __future__ import annotations
 from dataclasses import dataclass
 from pathlib import Path
 
-from harness import TOP, Case, Cases, Setting, run_tool, want
+from harness import TOP, Case, Cases, Setting, Skipped, is_unproved, run_tool, want
 
 
 @dataclass(frozen=True)
@@ -64,6 +64,7 @@ SLIPS = [
 # Thirty crates that may stand on any other, in a room in which a short search comes to no end: at the
 # low end of x2 there is no room for the last, and no step says so before it
 MANY = 30
+BY_ANY = ("container_of_two_stops",)
 SUPPORT_HEAD = "geost 1 dims 2\nshape s box 0 0 size 2 1 ;\nshape t box 0 0 size 1 2 ;\n"
 SUPPORT_RULES = (
     "macro on(p : object, q : object) means\n"
@@ -91,9 +92,21 @@ def check_silent(setting: Setting, problem: Path) -> None:
     want(run_tool("lint", setting, [str(problem)]), ("", 0), "what lint prints")
 
 
+def check_by_any(setting: Setting, problem: Path) -> None:
+    """Of this example nothing is said but that any other carton may bear one."""
+    if is_unproved(setting.program):
+        raise Skipped("an unproved build takes minutes for it")
+    printed, status = run_tool("lint", setting, [str(problem)])
+    want((len(printed.splitlines()), status), (1, 1), f"the lines and the status of {printed}")
+    want("`borne` is kept by any other object" in printed, True, f"the warning in {printed}")
+
+
 def cases(setting: Setting, folder: Path) -> Cases:
     by_any = Slip("support by any", support_by_any(), ("`borne` is kept by any other object",))
     for slip in [*SLIPS, by_any]:
         yield Case(f"lint {slip.name}", lambda slip=slip: check_slip(setting, slip))
     for problem in sorted((TOP / "examples").rglob("*.geost")):
+        if problem.stem in BY_ANY:
+            yield Case(f"lint of {problem.name}", lambda problem=problem: check_by_any(setting, problem))
+            continue
         yield Case(f"lint is silent on {problem.name}", lambda problem=problem: check_silent(setting, problem))

@@ -14,9 +14,21 @@ from geost_orders import depths, in_turns, precedences, stated_orders, with_part
 from geost_runs import Outcome, Verdict, token_of
 from geost_strategies import Effort, Repair, learning
 from geost_text import Placed, print_layout, print_problem, print_rule, read_layout, read_problem
-from harness import TOP, Case, Cases, Setting, Skipped, first_of, run_tool, want, want_in
+from harness import (
+    TOP,
+    Case,
+    Cases,
+    Setting,
+    Skipped,
+    first_of,
+    is_unproved,
+    run_tool,
+    want,
+    want_in,
+)
 
 LARGE = sorted((TOP / "examples" / "large").glob("*.geost"))
+SLOW = ("container_of_two_stops",)
 STEPS_OF_FILE_ORDER = 300
 SECONDS_OF_FILE_ORDER = 120
 # (a slow machine fails no test: what is tested is what is found, and not how soon)
@@ -28,9 +40,15 @@ def search(setting: Setting, problem: Path, *more: str) -> tuple[str, int]:
     return run_tool("portfolio", setting, [*options, str(problem)])
 
 
+def needs_speed(setting: Setting, problem: Path) -> None:
+    if problem.stem in SLOW and is_unproved(setting.program):
+        raise Skipped("an unproved build takes minutes for it")
+
+
 def check_found(setting: Setting, problem: Path) -> None:
     """A layout, which the program and the second meaning judge good, and which the statements in
     the comments give again, where the search was one of the whole problem."""
+    needs_speed(setting, problem)
     printed, status = search(setting, problem)
     want(status, 0, f"the status, with {printed}")
     text = problem.read_text()
@@ -54,6 +72,7 @@ def lines_of(text: str) -> list[str]:
 
 def check_file_order(setting: Setting, problem: Path) -> None:
     """File order alone does not find one."""
+    needs_speed(setting, problem)
     text = problem.read_bytes()
     if setting.long:
         answer = setting.program.ask(["first", str(10**12)], text, SECONDS_OF_FILE_ORDER)
