@@ -33,8 +33,8 @@ from harness import TOOLS, TOP, Case, Cases, Failed, Setting, want, want_in
 
 EXAMPLES = TOP / "examples"
 RANDOM_RUNS = 500
-MOST_STOPPING = 1000  # milliseconds until a search has stopped
-MOST_LOOPS = 4  # of ten million steps, for a picture of 200 boxes
+MOST_STOPPING = 10_000  # milliseconds until a search has stopped, on a busy machine
+MOST_LOOPS = 12  # of ten million steps, for a picture of 200 boxes
 SMALL = ("rack_of_four", "schedule", "kitchen", "too_narrow", "corners_in_a_container", "six_drums")
 HARD = "large/container_from_the_smallest"
 MARKS = "az09 ;:.,[]()@$#<=>-\u00e9\n"

@@ -21,7 +21,7 @@ EXAMPLES = TOP / "examples"
 SMALL = ("rack_of_four", "schedule", "kitchen", "too_narrow", "corners_in_a_container", "six_drums")
 HARD = "large/container_from_the_smallest"
 SECONDS = 150
-MOST_STOPPING = 1000  # milliseconds
+MOST_STOPPING = 10_000  # milliseconds, on a busy machine
 
 
 class Waiting(http.server.HTTPServer):
