@@ -383,7 +383,7 @@ return performance.now() - began;
 
 
 def check_stop(setting: Setting) -> None:
-    """A search of 10^12 steps is stopped within a second, and the page answers again."""
+    """A search of 10^12 steps is stopped within ten seconds, and the page answers again."""
     with opened(made_page(), "#kitchen") as page:
         page.told("the text is a problem")
         page.write(read(f"{HARD}.geost"))
@@ -426,7 +426,7 @@ return [best[0] / best[1], ...best, sum];
 
 
 def check_turning(setting: Setting) -> None:
-    """200 boxes turn smoothly: a picture of them takes as long as a few loops of ten million steps,
+    """200 boxes turn: a picture of them takes at most as long as twelve loops of ten million steps,
     each of which takes some ten milliseconds where nothing else runs."""
     problem, plan = boxes_200()
     with opened(made_page(), "#kitchen") as page:
