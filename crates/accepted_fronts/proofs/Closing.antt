@@ -8,7 +8,7 @@ use Rattle.geo_tokens.specs.declared.token.Keyword.TheVariants as keywords
 use Rattle.geo_tokens.specs.declared.token.Sym.TheVariants as symbols
 use Rattle.geo_tokens.specs.Class.{class_of}
 use Rattle.geo_tokens.specs.Words.{Of, word, Lang, Pure, Tok, Bind, cut, both}
-use Rattle.problem_data.specs.Grammar.{problem_tree, StatementWords, ProblemWords}
+use Rattle.problem_data.specs.Grammar.{problem_tree, is_second, StatementWords, ProblemWords}
 use Rattle.accepted_fronts.proofs.Alike.{AreSame, HaveNoEnd, Alike, same_apart, no_end_both, many_alike}
 use Rattle.accepted_fronts.proofs.RuleParts.{word_alike, numbers_alike}
 use Rattle.accepted_fronts.proofs.ProblemParts.{statement_alike}
@@ -80,4 +80,4 @@ unfolding ProblemWords
 problem_closing text other n =
     bind_closing _ _ _ _ (word_alike keywords.Geost refl) (λ a. bind_closing _ _ _ _ numbers_alike (λ v.
     bind_closing _ _ _ _ (word_alike keywords.Dims refl) (λ b. bind_closing _ _ _ _ numbers_alike (λ d.
-    bind_closing _ _ _ _ (many_alike (StatementWords text n) (StatementWords other n) (statement_alike n)) (λ ss. last_closing (λ e. problem_tree v d ss))))))
+    bind_closing _ _ _ _ (many_alike (StatementWords text n (is_second v)) (StatementWords other n (is_second v)) (statement_alike n (is_second v))) (λ ss. last_closing (λ e. problem_tree v d ss))))))

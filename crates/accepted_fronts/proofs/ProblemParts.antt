@@ -1,11 +1,11 @@
 -- Statements and problems of two texts.
-use Rattle.std.proofs.Common.{ℕ, List, [], refl}
+use Rattle.std.proofs.Common.{ℕ, List, [], Bool, true, false, refl}
 use Rattle.geo_tokens.specs.declared.token.Keyword.TheVariants as keywords
 use Rattle.geo_tokens.specs.declared.token.Sym.TheVariants as symbols
 use Rattle.geo_tokens.specs.Words.{Lang}
 use Rattle.rule_syntax.specs.Grammar.{ExprWords, FormulaWords}
 use Rattle.problem_data.specs.Marks.{side_words, param_words}
-use Rattle.problem_data.specs.Grammar.{OneOrMore, Listed, IntWords, RangeWords, BoxWords, ShapeWords, AttributeWords, Attributes, ObjectWords, OrderWords, SidesWords, ParamWords, Params, BodyWords, MacroWords, DemandWords, RuleWords, StatementWords}
+use Rattle.problem_data.specs.Grammar.{OneOrMore, Listed, IntWords, RangeWords, BoxWords, ShapeWords, AttributeWords, Attributes, PiecesWords, ObjectWords, OrderWords, SidesWords, ParamWords, Params, BodyWords, MacroWords, DemandWords, RuleWords, StatementWords}
 use Rattle.accepted_fronts.proofs.Alike.{Alike, pure_alike, bind_alike, either_alike, opt_alike, many_alike, named_alike}
 use Rattle.accepted_fronts.proofs.RuleParts.{kinds_alike, word_alike, symbol_alike, numbers_alike, expr_alike, formula_alike}
 
@@ -31,6 +31,11 @@ module _ {text other : List ℕ} where
   unfolding RangeWords
   range_alike = bind_alike _ _ _ _ int_alike (λ a. bind_alike _ _ _ _ (symbol_alike symbols.DotDot refl) (λ d. bind_alike _ _ _ _ int_alike (λ b. pure_alike _)))
 
+  pieces_alike : (second : Bool) → Alike text other (PiecesWords second) (PiecesWords second)
+  unfolding PiecesWords
+  pieces_alike false = bind_alike _ _ _ _ range_alike (λ r. pure_alike _)
+  pieces_alike true = listed_alike _ _ range_alike
+
   box_alike : Alike text other BoxWords BoxWords
   unfolding BoxWords
   box_alike = bind_alike _ _ _ _ (word_alike keywords.Box refl) (λ b. bind_alike _ _ _ _ (one_or_more_alike _ _ int_alike) (λ os. bind_alike _ _ _ _ (word_alike keywords.Size refl) (λ c. bind_alike _ _ _ _ (one_or_more_alike _ _ int_alike) (λ ss. pure_alike _))))
@@ -53,12 +58,12 @@ module _ {text other : List ℕ} where
   unfolding Attributes
   attributes_alike = opt_alike _ _ [] (bind_alike _ _ _ _ (word_alike keywords.With refl) (λ t. listed_alike _ _ attribute_alike))
 
-  object_alike : Alike text other (ObjectWords text) (ObjectWords other)
+  object_alike : (second : Bool) → Alike text other (ObjectWords text second) (ObjectWords other second)
   unfolding ObjectWords
-  object_alike =
+  object_alike second =
       bind_alike _ _ _ _ (word_alike keywords.Object refl) (λ t. bind_alike _ _ _ _ named_alike (λ a.
       bind_alike _ _ _ _ (word_alike keywords.As refl) (λ u. bind_alike _ _ _ _ (listed_alike _ _ named_alike) (λ ss.
-      bind_alike _ _ _ _ (word_alike keywords.At refl) (λ v. bind_alike _ _ _ _ (one_or_more_alike _ _ range_alike) (λ rs.
+      bind_alike _ _ _ _ (word_alike keywords.At refl) (λ v. bind_alike _ _ _ _ (one_or_more_alike _ _ (pieces_alike second)) (λ ps.
       bind_alike _ _ _ _ attributes_alike (λ vs. bind_alike _ _ _ _ (symbol_alike symbols.Semicolon refl) (λ e. pure_alike _))))))))
 
   order_alike : Alike text other (OrderWords text) (OrderWords other)
@@ -96,6 +101,6 @@ module _ {text other : List ℕ} where
     unfolding RuleWords
     rule_alike = bind_alike _ _ _ _ (word_alike keywords.Rule refl) (λ t. bind_alike _ _ _ _ named_alike (λ a. bind_alike _ _ _ _ (symbol_alike symbols.Colon refl) (λ c. bind_alike _ _ _ _ demand_alike (λ d. bind_alike _ _ _ _ (symbol_alike symbols.Semicolon refl) (λ e. pure_alike _)))))
 
-    pub statement_alike : Alike text other (StatementWords text n) (StatementWords other n)
+    pub statement_alike : (second : Bool) → Alike text other (StatementWords text n second) (StatementWords other n second)
     unfolding StatementWords
-    statement_alike = either_alike _ _ _ _ shape_alike (either_alike _ _ _ _ object_alike (either_alike _ _ _ _ order_alike (either_alike _ _ _ _ sides_alike (either_alike _ _ _ _ macro_alike rule_alike))))
+    statement_alike second = either_alike _ _ _ _ shape_alike (either_alike _ _ _ _ (object_alike second) (either_alike _ _ _ _ order_alike (either_alike _ _ _ _ sides_alike (either_alike _ _ _ _ macro_alike rule_alike))))

@@ -18,8 +18,11 @@ use Rattle.derivation_reading.specs.declared.feeder.Feeder.{Feeder}
 use Rattle.derivation_reading.specs.FirstFault.{IsText, HasFaultFrom}
 use Rattle.stream_check.specs.Streaming.{HasChecked, IsDecided}
 use Rattle.problem_data.specs.Problem.{ProblemData}
+use Rattle.problem_data.specs.Cells.{IsWideTuple}
 use Rattle.problem_data.specs.Layouts.{IsLayout}
+use Rattle.problem_data.specs.WellFormed.{IsWellFormed}
 use Rattle.problem_data.proofs.Accepted.{accepted_well_formed}
+use Rattle.problem_data.proofs.Hulls.{tuple_is_wide}
 use Rattle.problem_text.specs.NameTable.{name_table}
 use Rattle.rule_ground.specs.Start.{first_state}
 use Rattle.rule_ground.proofs.Starts.{tuples-are}
@@ -59,11 +62,14 @@ finds_fault p cs n q text from faults.Memory same at h = tt
 module _ (text : List ℕ) (a : Accepted) (h : HasRead text a) where
   -- a solution of the conditions is a layout
   solves : (t : Tuple) → IsLayout a.problem t → Solves a.conditions.items (first_state a.problem) t
-  solves t l = record {
-    fits = h.fit;
-    inside = (tuples-are a.problem t (accepted_well_formed text a.problem h.accepted.spells)).1 l.tuple;
-    holds = (h.meaning t l.tuple).1 l.rules;
-  }
+  solves t l =
+      let well : IsWellFormed a.problem = accepted_well_formed text a.problem h.accepted.spells in
+      let wide : IsWideTuple a.problem t = tuple_is_wide a.problem t well l.tuple in
+      record {
+        fits = h.fit;
+        inside = (tuples-are a.problem t well).1 wide;
+        holds = (h.meaning t wide).1 l;
+      }
 
   finds_second : (second : List ℕ) (from : ℕ) (answer : Checked) → IsDecided (name_table a.problem) a.conditions.items (first_state a.problem) second answer
       → FindsOf a.problem a.conditions.items second from (Ok answer)

@@ -1,4 +1,4 @@
-// What the program is asked for, and how it ends.
+//! What the program is asked for, and how it ends.
 ghost use Rattle.std.specs.Prelude.{◌≡◌};
 ghost use Rattle.command_input.specs.Status.{status_number};
 

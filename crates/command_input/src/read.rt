@@ -1,4 +1,4 @@
-// The bounded reading of texts.
+//! The bounded reading of texts.
 ghost use Rattle.std.specs.Prelude.{◌≡◌, ◌≤◌, ◌-◌, ℕ, Ok, Err, IfOk, OnErr, IsErr, length};
 ghost use Rattle.command_input.specs.declared.read.ReadFault.TheVariants.{Memory, Failed as ReadFailed};
 ghost use Rattle.command_input.specs.Reading.{AreReadFrom, IsReadFrom, ReadsOn, ReadsUpTo, TakesAtMost, ReadCause};

@@ -1,4 +1,4 @@
-// From the words of the command line to a command.
+//! From the words of the command line to a command.
 ghost use Rattle.std.specs.Prelude.{◌≡◌, ◌≤◌, ◌^◌, ℕ, List, [], ◌∷◌, codes, map, decimal, string_bytes, IfOk, OnErr, MatchOption};
 ghost use Rattle.std.specs.Option.{option_copied, option_to_list};
 ghost use Rattle.command_input.specs.Words.{HasForm, HasNoForm};

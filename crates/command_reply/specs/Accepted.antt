@@ -1,23 +1,23 @@
 -- Which texts are accepted, and what the first fault of another text is. Behind the phases of reading come those of the rules:
 -- names and kinds, then rules without macros that are too large, then such that multiply coordinates, then conditions that are
 -- too many or have too large numbers.
-use Rattle.std.specs.Prelude.{◌≡◌, ◌≤◌, ◌^◌, ◌↔◌, ℕ, List, All, length, map, None, Some, Result, Ok, Err}
+use Rattle.std.specs.Prelude.{◌≡◌, ◌≤◌, ◌^◌, ◌↔◌, ℕ, List, length, map, None, Some, Result, Ok, Err}
 use Rattle.geo_tokens.specs.declared.fault.FaultWord.{FaultWord}
 use Rattle.geo_tokens.specs.declared.fault.TextFault.{TextFault}
 use Rattle.geo_tokens.specs.declared.fault.TextFault.TheVariants as faults
-use Rattle.problem_data.specs.Problem.{ProblemData, RuleData}
+use Rattle.problem_data.specs.Problem.{ProblemData}
 use Rattle.problem_data.specs.Accepted.{Accepts}
 use Rattle.problem_text.specs.FirstFault.{HasFirstFault}
 use Rattle.rule_names.specs.Answers.{AreNamesRight, HasFirstMistake}
 use Rattle.rule_expand.specs.Rules.{AllAskSame, expansion_fault, plain_rule_data, rules_expanded}
 use Rattle.geo_base.specs.Tuple.{Tuple}
-use Rattle.problem_data.specs.Cells.{IsTuple}
+use Rattle.problem_data.specs.Cells.{IsTuple, IsWideTuple}
 use Rattle.rule_values.specs.Calm.{AreCalm}
 use Rattle.geo_conditions.specs.declared.cond.Cond.{Cond}
 use Rattle.linear_conditions.specs.CondTree.{cond_view}
 use Rattle.rule_ground.specs.Ground.{conditions, ground_fault}
 use Rattle.geo_conditions.specs.Conditions.{AllFit, AllHold}
-use Rattle.problem_data.specs.Layouts.{DemandHolds}
+use Rattle.problem_data.specs.Layouts.{IsLayout}
 use Rattle.rule_ground.specs.Start.{first_state}
 use Rattle.command_reply.specs.declared.accepted.Accepted.{Accepted}
 
@@ -46,8 +46,7 @@ pub record HasRead (text : List ℕ) (a : Accepted) : Type 0 where
   pub rules : map plain_rule_data a.rules.items ≡ rules_expanded a.problem
   pub are : AreConditions a.problem a.conditions.items
   pub fit : AllFit a.conditions.items (first_state a.problem)
-  pub meaning : (t : Tuple) → IsTuple a.problem t
-      → AllHold a.conditions.items t ↔ All (λ (r : RuleData). DemandHolds a.problem t r.demand) a.problem.rules
+  pub meaning : (t : Tuple) → IsWideTuple a.problem t → AllHold a.conditions.items t ↔ IsLayout a.problem t
   pub few : length a.conditions.items ≤ 10 ^ 9
   pub asks : (t : Tuple) → AllAskSame a.problem t a.problem.rules (map plain_rule_data a.rules.items)
   pub calm : (t : Tuple) → IsTuple a.problem t → AreCalm a.problem t (map plain_rule_data a.rules.items)

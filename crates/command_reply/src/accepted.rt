@@ -1,4 +1,4 @@
-// The problem that a text spells, where all its rules are right.
+//! The problem that a text spells, where all its rules are right.
 
 ghost use Rattle.command_reply.specs.Accepted.{AnswersAccepted};
 

@@ -1,4 +1,4 @@
-// The problem and the layout of two texts.
+//! The problem and the layout of two texts.
 
 ghost use Rattle.std.specs.Prelude.{◌≤◌, length};
 ghost use Rattle.command_reply.specs.Given.{AnswersGiven};

@@ -8,7 +8,7 @@ ghost use Rattle.geo_conditions.specs.declared.cond.Cond.{Cond};
 ghost use Rattle.condition_parts.specs.Literals.{AddsAll};
 ghost use Rattle.condition_parts.specs.Parts.{AreUnder, AreUnderAll, IsAllOf, PutsUnder, PutsUnderAll};
 
-use super::literals::{one_of, put_all, put_literals};
+use crate::literals::{one_of, put_all, put_literals};
 use geo_conditions::{Cond, Conds};
 use std::alloc::{AllocError, Global};
 

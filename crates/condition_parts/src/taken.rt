@@ -7,8 +7,8 @@ ghost use Rattle.condition_parts.specs.Parts.{IsAllOf};
 ghost use Rattle.condition_parts.specs.Apart.{IsTakenApart, wholes_of};
 ghost use Rattle.condition_parts.specs.Made.{HasMade, AddsMade};
 
-use super::names::names_some;
-use super::parts::{Parts, parts_of};
+use crate::names::names_some;
+use crate::parts::{Parts, parts_of};
 use derivation::Renumbering;
 use geo_conditions::Cond;
 use indexical::AnyIndexical;

@@ -1,3 +1,7 @@
+//! The events of a derivation: its nodes and the pieces of its covers, in the order of its text. A
+//! derivation is a flat list of 16 bytes an event, without pointers, so that it is written, cut
+//! and read back from its end as fast as memory goes.
+
 use geo_conditions::ObjId;
 
 /// A piece of a derivation, in text order. Dimensions count from 0, places and conditions from 1. It takes 16 bytes.

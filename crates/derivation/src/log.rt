@@ -1,8 +1,10 @@
+//! The recorder that keeps its events in one list.
+
 ghost use Rattle.std.specs.Prelude.{◌≡◌, []};
 
-use super::event::Event;
-use super::recorder::Recorder;
-use super::renumbering::Renumbering;
+use crate::event::Event;
+use crate::recorder::Recorder;
+use crate::renumbering::Renumbering;
 use std::alloc::{AllocError, Global};
 use std::marker::Model;
 

@@ -1,8 +1,11 @@
+//! What takes a derivation down while a search goes on. A search is generic in its recorder, so
+//! the one that keeps nothing costs it nothing.
+
 ghost use Rattle.std.specs.Prelude.{◌≡◌, ℕ, ◌+◌, ◌-◌, ◌^◌, min, ◌<◌, ◌≤◌, Bool, true, false, IsOk, List, [], ◌∷◌, ◌++◌, length, map, take, drop, slice_set, OnOk, OnErr};
 ghost use Rattle.derivation.specs.Renumbered.{renumbered};
 
-use super::event::Event;
-use super::renumbering::Renumbering;
+use crate::event::Event;
+use crate::renumbering::Renumbering;
 use std::alloc::AllocError;
 
 /// Takes down events, or lets them go. A count tells how often it refused an event for want of

@@ -3,7 +3,7 @@
 ghost use Rattle.std.specs.Prelude.{◌≡◌, map};
 ghost use Rattle.derivation.specs.Renumbered.{number_for, renumbered};
 
-use super::event::Event;
+use crate::event::Event;
 
 /// Numbers of conditions that stand for others: up to a number each stands for itself, and each one behind it for one of a list.
 pub struct Renumbering {

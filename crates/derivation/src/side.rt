@@ -1,7 +1,9 @@
+//! The two sides of a number in a dimension.
+
 ghost use Rattle.std.specs.Prelude.{◌≡◌};
 ghost use Rattle.derivation.specs.Covers.{cut_event};
 
-use super::event::Event;
+use crate::event::Event;
 
 /// A side of a number in a dimension: the points up to it, or those from it on.
 #[derive(Clone, Copy)]

@@ -1,4 +1,4 @@
-// What the names and dimensions of a text stand for.
+//! What the names and dimensions of a text stand for.
 ghost use Rattle.std.specs.Prelude.{◌≡◌, ◌<◌, ◌≤◌, suc, All, MatchOption, ⊤, length, option_map};
 ghost use Rattle.std.specs.List.{position};
 ghost use Rattle.derivation_reading.specs.Grammar.{has_name, lookup};

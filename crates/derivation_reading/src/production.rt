@@ -1,4 +1,4 @@
-// The productions of the grammar: what may come behind a token.
+//! The productions of the grammar: what may come behind a token.
 ghost use Rattle.std.specs.Prelude.{◌≡◌, ℕ, List, [], ◌∷◌};
 ghost use Rattle.derivation.specs.declared.event.Event.TheVariants as events;
 ghost use Rattle.derivation_reading.specs.declared.symbol.Symbol.{Symbol as SymbolOf};

@@ -4,7 +4,7 @@ ghost use Rattle.std.specs.Prelude.{◌≡◌, ◌<◌, ◌≤◌, length, map, 
 ghost use Rattle.geo_base.specs.declared.TheConstants.{MAX_DIMS};
 ghost use Rattle.condition_parts.specs.Apart.{IsTakenApart, wholes_of};
 
-use super::propagation::QueueFixpoint;
+use crate::propagation::QueueFixpoint;
 use condition_parts::{TakenApart, put_together, take_apart};
 use derivation::{Recorder, Renumbering};
 use geo_base::MAX_DIMS;

@@ -7,8 +7,8 @@ ghost use Rattle.fixpoint.specs.Links.{AreLinks};
 ghost use Rattle.fixpoint.specs.Marks.{IsSquare, NotesChanges};
 ghost use Rattle.fixpoint.specs.Queue.{CatchesUp};
 
-use super::links::Links;
-use super::waking::wake;
+use crate::links::Links;
+use crate::waking::wake;
 use geo_base::MAX_DIMS;
 use geo_conditions::{ObjId, State};
 use indexical::AnyIndexical;

@@ -13,8 +13,8 @@ ghost use Rattle.fixpoint.specs.Kept.{AllStand, AsksSlot, IsBlank, IsKnown, Retr
 ghost use Rattle.fixpoint.specs.Marks.{IsCleared, IsSquare};
 ghost use Rattle.fixpoint.specs.declared.kept.TheConstants.{BLOCK};
 
-use super::links::Links;
-use super::pairs::{Pairs, RowGroup};
+use crate::links::Links;
+use crate::pairs::{Pairs, RowGroup};
 use geo_base::MAX_DIMS;
 use geo_conditions::{ObjId, State};
 use indexical::{AnyIndexical, Watched};

@@ -4,7 +4,7 @@ ghost use Rattle.std.specs.Prelude.{◌≡◌, ℕ, ◌<◌, ◌≤◌, [], leng
 ghost use Rattle.sweep.specs.Picks.{ArePicks};
 ghost use Rattle.fixpoint.specs.Links.{AreLinks, HaveRows, NamedBy, Numbers, SortAllRows, row};
 
-use super::pairs::{Pairs, pairs_of};
+use crate::pairs::{Pairs, pairs_of};
 use geo_conditions::{MAX_OBJECTS, ObjId};
 use indexical::AnyIndexical;
 use object_pruning::{Rows, rows_of};

@@ -19,11 +19,11 @@ ghost use Rattle.fixpoint.specs.Near.{BarePossible, Unhindered};
 ghost use Rattle.fixpoint.specs.Queue.{Prunes, Queues, RestFine};
 ghost use Rattle.fixpoint.specs.Record.{NoneLower, RecordsPruning};
 
-use super::differences::queue_changed;
-use super::kept::{all_blank, blank_slots, refresh};
-use super::links::{Links, links_of};
-use super::queue::pop;
-use super::waking::{no_marks, wake};
+use crate::differences::queue_changed;
+use crate::kept::{all_blank, blank_slots, refresh};
+use crate::links::{Links, links_of};
+use crate::queue::pop;
+use crate::waking::{no_marks, wake};
 use derivation::{Event, Recorder};
 use geo_base::{KBox, MAX_DIMS, Point};
 use geo_conditions::{MAX_OBJECTS, ObjId, State};

@@ -12,7 +12,7 @@ ghost use Rattle.fixpoint.specs.Marks.{IsSquare, MarksAt, is_marked};
 ghost use Rattle.fixpoint.specs.Near.{IsPair, Unhindered, UnhinderedBy, Unhinders};
 ghost use Rattle.fixpoint.specs.Queue.{Queues};
 
-use super::links::Links;
+use crate::links::Links;
 use geo_base::MAX_DIMS;
 use geo_conditions::{ObjId, State};
 use indexical::AnyIndexical;

@@ -8,11 +8,12 @@ use Rattle.std.proofs.lemmas.Int.{ints}
 use Rattle.geo_tokens.specs.Names.{AllDifferent}
 use Rattle.rule_syntax.specs.declared.tree.PlacedName.{PlacedName}
 use Rattle.problem_data.specs.declared.fault.Fault.{Fault}
+use Rattle.problem_data.specs.declared.tree.RangeText.{RangeText}
 use Rattle.problem_data.specs.Tree.{BoxTree}
-use Rattle.problem_data.specs.Faults.{Among, text_of, Repeated, PastLimit, NamesFault, OffsetFault, SizeFault, OffsetsFault, SizesFault, RangeFault, RangesFault, BoxFault, ShapeFault, FieldFault, AttributesFault, ObjectFault, RuleFault, RulesFault, rule_name}
+use Rattle.problem_data.specs.Faults.{Among, text_of, Repeated, PastLimit, NamesFault, OffsetFault, SizeFault, OffsetsFault, SizesFault, RangeFault, RangesFault, IsLast, PieceFault, PiecesFault, OriginFault, BoxFault, ShapeFault, FieldFault, AttributesFault, ObjectFault, RuleFault, RulesFault, rule_name}
 use Rattle.problem_data.proofs.NoFault.{NoFault}
 use Rattle.rule_print.proofs.Respelled.{AllOf}
-use Rattle.problem_text.proofs.PrintingParts.{int_of, range_of, box_of}
+use Rattle.problem_text.proofs.PrintingParts.{int_of, range_of, pieces_of, box_of}
 use Rattle.problem_text.proofs.Consistent.{map_at}
 use Rattle.problem_text.proofs.CanonicalParts.{shape_tree_of, object_tree_of, rule_tree_of}
 use Rattle.generated_problems.specs.Problem.{shape, rack, object, rules}
@@ -105,6 +106,28 @@ rack_right : NoFault (RangesFault 3 (map range_of rack))
 rack_right f (inl w) = w.0 refl
 rack_right f (inr w) = each_right RangeFault (map range_of rack) (range_right 19 (lit≤ tt), (range_right 19 (lit≤ tt), (range_right 9 (lit≤ tt), tt))) f w
 
+-- a range of one piece has no fault where the piece has none
+piece_right : (r : RangeText) → NoFault (RangeFault r) → NoFault (PiecesFault (r ∷ []))
+piece_right r h f w = go w.wrong
+  where
+    only : (take w.index (r ∷ []) ≡ []) × (r ≡ w.item)
+    only = alone r w.index w.item w.there
+
+    nothing_before : (s : RangeText) → IsLast [] s → ⊥
+    nothing_before s e = cc
+
+    go : PieceFault (take w.index (r ∷ [])) w.item f → ⊥
+    go (inl v) = (let none : length (take w.index (r ∷ [])) ≡ 0 = ap length only.0 in let some : 8 ≤ length (take w.index (r ∷ [])) = v.0 in absurd (omega arith))
+    go (inr (inl v)) = h f (subst (λ (t : RangeText). RangeFault t f) (sym only.1) v)
+    go (inr (inr v)) = nothing_before v.0.0 (subst (λ (rs : List RangeText). IsLast rs v.0.0) only.0 v.0.1)
+
+-- the ranges of an object, of which each is one piece
+origin_right : NoFault (OriginFault 3 (map pieces_of (map (λ range. range ∷ []) rack)))
+origin_right f (inl w) = w.0 refl
+origin_right f (inr w) =
+    each_right PiecesFault (map pieces_of (map (λ range. range ∷ []) rack))
+    (piece_right _ (range_right 19 (lit≤ tt)), (piece_right _ (range_right 19 (lit≤ tt)), (piece_right _ (range_right 9 (lit≤ tt)), tt))) f w
+
 none_differ : AllDifferent {X = List ℕ} []
 none_differ j k d less there e = let p : k < 0 = there in absurd (omega arith)
 
@@ -146,7 +169,7 @@ module _ (n : ℕ) (small : n < 1000) (i : ℕ) (low : 1 ≤ i) (high : 2 * i �
       let p : 2 * i - 2 < n = omega arith in
       let q : 2 * i - 1 < n = omega arith in
       each_right (λ m g. (Contains (shape_list n) m.name → ⊥) × (g ≡ _)) (object_tree_of (shape_list n) (object i)).shapes ((λ g v. v.0 (name_of_one (2 * i - 2) p)), ((λ g v. v.0 (name_of_one (2 * i - 1) q)), tt)) f w
-  object_right f (inr (inr (inl w))) = rack_right f w
+  object_right f (inr (inr (inl w))) = origin_right f w
   object_right f (inr (inr (inr w))) = no_attributes_right f w
 
 -- ---- rules

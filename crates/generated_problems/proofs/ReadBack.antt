@@ -1,5 +1,5 @@
 -- The text that is made is read as the problem that it is made of, and printed again as it is.
-use Rattle.std.proofs.Common.{◌≡◌, ℕ, zero, suc, ◌<◌, ◌≤◌, List, [], ◌∷◌, ◌++◌, map, length, Some, refl, sym, ap, ◌∙◌, subst, arith}
+use Rattle.std.proofs.Common.{◌≡◌, ℕ, zero, suc, ◌<◌, ◌≤◌, List, [], ◌∷◌, ◌++◌, map, length, Some, false, refl, sym, ap, ◌∙◌, subst, arith}
 use Rattle.std.specs.Prelude.{flat_map, not}
 use Rattle.std.specs.List.{All, list_any}
 use Rattle.geo_tokens.specs.declared.token.Token.{Token}
@@ -7,7 +7,7 @@ use Rattle.geo_tokens.specs.declared.token.Keyword.TheVariants as keywords
 use Rattle.geo_tokens.proofs.Good.{reads_all}
 use Rattle.rule_print.specs.Canonical.{word}
 use Rattle.rule_print.proofs.Respelled.{AllOf}
-use Rattle.problem_data.specs.Tree.{ObjectTree, ProblemTree}
+use Rattle.problem_data.specs.Tree.{ProblemTree}
 use Rattle.problem_data.specs.Grammar.{ProblemWords}
 use Rattle.problem_data.specs.Whole.{IsWhole}
 use Rattle.problem_data.specs.Parts.{Parts, parts_of}
@@ -16,6 +16,7 @@ use Rattle.problem_data.specs.Meaning.{problem_of}
 use Rattle.problem_data.specs.WellFormed.{IsWellFormed}
 use Rattle.problem_data.specs.Problem.{MacroData, DemandData, apart, within, plain, RuleData, ProblemData, runs_down}
 use Rattle.problem_data.proofs.Sound.{sound}
+use Rattle.problem_data.proofs.Yielded.{HasPieces, HasParts}
 use Rattle.problem_syntax.specs.Reading.{problem_at}
 use Rattle.problem_syntax.proofs.Right.{problem_good}
 use Rattle.problem_syntax.proofs.Levels.{problem_reading}
@@ -29,7 +30,7 @@ use Rattle.problem_text.proofs.OneProblem.{accepted_once}
 use Rattle.problem_text.proofs.PrintingProblem.{problem_again}
 use Rattle.problem_text.proofs.ReadStatements.{mapped}
 use Rattle.problem_generator.specs.Made.{made_text}
-use Rattle.generated_problems.specs.Problem.{made_problem}
+use Rattle.generated_problems.specs.Problem.{object, made_problem}
 use Rattle.generated_problems.proofs.Parts.{each_object}
 use Rattle.generated_problems.proofs.Right.{made_right}
 use Rattle.generated_problems.proofs.Written.{made_written, made_consistent}
@@ -46,6 +47,13 @@ spells_whole : (text : List ℕ) (list : List Token) (tree : ProblemTree) → Pr
 spells_whole text list tree w =
     is_whole (ProblemWords text) 64 _ _ (problem_good text 64).facts (problem_at text 64) (problem_good text 64).reads (problem_reading text 64) (length text) list tree [] (reads_all (problem_good text 64) tree list w) refl
 
+-- a made object has shapes, and each of its ranges is one piece
+has_parts : (names : List (List ℕ)) (i : ℕ) → HasParts false (object_tree_of names (object i))
+has_parts names i = record {
+  shapes = omega arith;
+  pieces = all_of (HasPieces false) (object_tree_of names (object i)).pieces ((omega arith, λ _. refl), ((omega arith, λ _. refl), ((omega arith, λ _. refl), tt)));
+}
+
 pub made_reads_back : (seed : ℕ) → ReadsBack (made_problem seed)
 made_reads_back seed =
     let p : ProblemData = made_problem seed in
@@ -53,9 +61,9 @@ made_reads_back seed =
     let x = problem_again p (made_written seed) in
     let parts : bare_parts (parts_of x.tree) ≡ o = sym (parts_bare x.tree) ∙ ap parts_of x.same ∙ parts_canonical p in
     let means : problem_of o ≡ p = canonical_meaning p (made_consistent seed) in
-    let shaped : All (λ (t : ObjectTree). 0 < length t.shapes) o.objects =
-    all_of (λ (t : ObjectTree). 0 < length t.shapes) o.objects (mapped (λ (t : ObjectTree). 0 < length t.shapes) (object_tree_of (shape_names p)) p.objects (each_object (λ u. 0 < length (object_tree_of (shape_names p) u).shapes) seed (λ i low high. omega arith))) in
-    let well : IsWellFormed (problem_of o) = sound o shaped (made_right seed) in
+    let filled : All (HasParts false) o.objects =
+    all_of (HasParts false) o.objects (mapped (HasParts false) (object_tree_of (shape_names p)) p.objects (each_object (λ u. HasParts false (object_tree_of (shape_names p) u)) seed (λ i low high. has_parts (shape_names p) i))) in
+    let well : IsWellFormed (problem_of o) = sound o filled (made_right seed) in
     let same : bare_parts (parts_of x.tree) ≡ canonical_parts (problem_of o) = parts ∙ ap canonical_parts (sym means) in
     let short : length (problem_text p) ≤ most_bytes = subst (λ (text : List ℕ). length text ≤ most_bytes) (made_is_canonical seed) (made_short seed) in
     record {

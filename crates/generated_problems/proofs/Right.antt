@@ -55,7 +55,7 @@ module _ (seed : ℕ) where
 
   -- the canonical statements
   pub made_right : NoFault (IsFault (canonical_parts (made_problem seed)))
-  made_right f (version w) = w.0 refl
+  made_right f (version w) = w.0 (inl refl)
   made_right f (dims w) = w.0 (omega (arith, ints), omega (arith, ints))
   made_right f (shapes (inl w)) = listed_right 256 80 (map shape_name shape_trees) (shape_list 80) (shape_texts (made_problem seed).shapes ∙ shape_names_are seed) (length-shape_list 80) (lit≤ tt) (shape_names_differ 80 (lit< tt)) f w
   made_right f (shapes (inr w)) = each_right (ShapeFault 3) shape_trees each_shape_right f w

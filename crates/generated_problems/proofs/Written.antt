@@ -1,5 +1,5 @@
 -- The made problem can be written, and its positions are those of its names.
-use Rattle.std.proofs.Common.{◌≡◌, ℕ, ◌-◌, ◌*◌, ◌<◌, ◌≤◌, List, [], ◌∷◌, ◌++◌, length, true, false, ◌⊎◌, inl, inr, refl, sym, ap, ◌∙◌, subst, arith, lit≤}
+use Rattle.std.proofs.Common.{◌≡◌, ℕ, ◌-◌, ◌*◌, ◌<◌, ◌≤◌, List, [], ◌∷◌, ◌++◌, length, map, true, false, ◌⊎◌, inl, inr, refl, sym, ap, ◌∙◌, subst, arith, lit≤}
 use Rattle.std.specs.Prelude.{codes, decimal}
 use Rattle.std.specs.List.{Contains, range_with_len}
 use Rattle.geo_tokens.specs.Names.{IsNameText}
@@ -8,7 +8,7 @@ use Rattle.problem_data.specs.Problem.{ObjectData}
 use Rattle.problem_data.specs.Meaning.{position_of}
 use Rattle.rule_print.proofs.Respelled.{AllOf}
 use Rattle.problem_text.specs.Canonical.{name_at}
-use Rattle.problem_text.proofs.PrintingParts.{name_of, CanWriteRanges}
+use Rattle.problem_text.proofs.PrintingParts.{name_of, CanWriteRanges, CanWriteEachPieces}
 use Rattle.problem_text.proofs.PrintingStatements.{CanWriteShape, CanWriteObject}
 use Rattle.problem_text.proofs.PrintingProblem.{CanWriteProblem}
 use Rattle.problem_text.proofs.Positions.{Made, made_or_not}
@@ -54,7 +54,14 @@ rack_written = record {
   each = (record { low = lit≤ tt; high = lit≤ tt }, (record { low = lit≤ tt; high = lit≤ tt }, (record { low = lit≤ tt; high = lit≤ tt }, tt)));
 }
 
-object_written : (i : ℕ) → 1 ≤ i → i ≤ 40 → CanWriteObject (shape_list 80) (object i)
+-- the ranges of an object are those of the rack, each as one piece
+pieces_written : CanWriteEachPieces false (map (λ range. range ∷ []) rack)
+pieces_written = record {
+  some = λ e. cc;
+  each = (record { low = lit≤ tt; high = lit≤ tt }, (record { low = lit≤ tt; high = lit≤ tt }, (record { low = lit≤ tt; high = lit≤ tt }, tt)));
+}
+
+object_written : (i : ℕ) → 1 ≤ i → i ≤ 40 → CanWriteObject false (shape_list 80) (object i)
 object_written i low high =
     let p : 2 * i - 2 < 80 = omega arith in
     let q : 2 * i - 1 < 80 = omega arith in
@@ -64,18 +71,19 @@ object_written i low high =
         some = λ e. cc;
         each = (subst IsNameText (sym (shape_at 80 (2 * i - 2) [] p)) (shape_is_name (2 * i - 2) p), (subst IsNameText (sym (shape_at 80 (2 * i - 1) [] q)) (shape_is_name (2 * i - 1) q), tt));
       };
-      ranges = rack_written;
+      pieces = pieces_written;
       attributes = tt;
     }
 
 pub made_written : (seed : ℕ) → CanWriteProblem (made_problem seed)
 made_written seed = record {
+  version = lit≤ tt;
   dims = lit≤ tt;
   shapes = each_shape CanWriteShape seed (λ i low high w d h a b c. (
     shape_written i (codes "a") w d h (first_is_name i low high) a b c,
     shape_written i (codes "b") d w h (second_is_name i low high) b a c,
   ));
-  objects = subst (λ (names : List (List ℕ)). AllOf (CanWriteObject names) (made_problem seed).objects) (sym (shape_names_are seed)) (each_object (CanWriteObject (shape_list 80)) seed object_written);
+  objects = subst (λ (names : List (List ℕ)). AllOf (CanWriteObject false names) (made_problem seed).objects) (sym (shape_names_are seed)) (each_object (CanWriteObject false (shape_list 80)) seed object_written);
   macros = tt;
   order = λ e. absurd (no_order e);
   rules = (record { name = rack_is_name; demand = rack_written }, (record { name = free_is_name; demand = tt }, tt));

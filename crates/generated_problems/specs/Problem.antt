@@ -41,7 +41,7 @@ abbrev pub object : ℕ → ObjectData
 object i = record {
   name = codes "o" ++ decimal i;
   shapes = (2 * i - 2) ∷ (2 * i - 1) ∷ [];
-  ranges = rack;
+  pieces = map (λ range. range ∷ []) rack;
   attributes = [];
 }
 
@@ -55,6 +55,7 @@ rules = rule (codes "rack") (within rack) ∷ rule (codes "free") apart ∷ []
 -- forty objects, which lie apart in the rack
 abbrev pub made_problem : ℕ → ProblemData
 made_problem seed = record {
+  version = 1;
   dims = 3;
   shapes = flat_map (shapes seed) (numbers_to 40);
   objects = map object (numbers_to 40);

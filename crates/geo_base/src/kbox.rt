@@ -1,8 +1,10 @@
+//! Boxes of points in K dimensions.
+
 ghost use Rattle.std.specs.Prelude.{◌≡◌, ℕ, ℤ, List, ◌<◌, ◌≤ℤ◌, ◌<ℤ◌, ◌↔◌, IsTrue, MatchBool};
 ghost use Rattle.std.specs.Int.{int_min, int_max};
 ghost use Rattle.geo_base.specs.Boxes.{coordinate, Has, HasNone, IsCrossed, IsUncrossed};
 
-use super::point::Point;
+use crate::point::Point;
 
 /// The points between two corners, both included. There is none where in some dimension `hi` is
 /// below `lo`.

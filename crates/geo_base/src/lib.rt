@@ -13,4 +13,4 @@ pub use steps::Steps;
 pub use way::{Way, advance, advance_between, before};
 
 /// The greatest number of dimensions.
-pub const MAX_DIMS: usize = 4;
+pub const MAX_DIMS: usize = 6;

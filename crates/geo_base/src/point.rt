@@ -1,3 +1,5 @@
+//! Points and intervals of whole numbers.
+
 ghost use Rattle.std.specs.Prelude.{◌≡◌, ◌≢◌, ℕ, ◌<◌, length, slice_set};
 ghost use Rattle.geo_base.specs.Boxes.{coordinate};
 

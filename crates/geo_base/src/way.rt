@@ -1,12 +1,15 @@
+//! Orders of points for sweeps: one dimension leads, the others follow around, all upwards or all
+//! downwards. What is said of a way upwards holds of one downwards with the ends exchanged.
+
 ghost use Rattle.std.specs.Prelude.{◌≡◌, ◌≢◌, ℕ, ◌+◌, ◌<◌, ◌≤◌, pos, negsuc, ◌+ℤ◌, ◌≤ℤ◌, ◌<ℤ◌, ◌↔◌, IsTrue, MatchBool};
 ghost use Rattle.std.specs.Int.{int_min};
 ghost use Rattle.geo_base.specs.Boxes.{coordinate};
 ghost use Rattle.geo_base.specs.Ways.{dimension, toward, key, Before, start, end, one_past, Advances, RunsOut, IsSmallPoint};
 ghost use Rattle.geo_base.specs.declared.TheConstants.{MAX_DIMS};
 
-use super::MAX_DIMS;
-use super::kbox::KBox;
-use super::point::Point;
+use crate::MAX_DIMS;
+use crate::kbox::KBox;
+use crate::point::Point;
 
 /// An order of points: lexicographic, the lead dimension first, then those after it, and around;
 /// upwards in each dimension, or downwards in each.

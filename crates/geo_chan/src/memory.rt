@@ -1,4 +1,4 @@
-// A source and a sink in memory, which move at most so many bytes in a call and fail at chosen calls.
+//! A source and a sink in memory, which move at most so many bytes in a call and fail at chosen calls.
 ghost use Rattle.std.specs.Prelude.{◌≡◌, ◌≤◌, Option, Some, List, [], ℕ, length, drop, take, min, IfOk, false};
 
 use crate::{Failed, PutFault, Sink, Source};

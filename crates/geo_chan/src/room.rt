@@ -1,4 +1,4 @@
-// A sink in memory that takes all its memory at once.
+//! A sink in memory that takes all its memory at once.
 ghost use Rattle.std.specs.Prelude.{◌≡◌, ◌≤◌, Option, Some, List, [], ℕ, length, take, min, IfOk, true};
 
 use crate::{PutFault, Sink};

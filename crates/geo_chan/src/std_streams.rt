@@ -1,4 +1,4 @@
-// A source over any reader of std and a sink over any writer: the edge to the outside.
+//! A source over any reader of std and a sink over any writer: the edge to the outside.
 ghost use Rattle.std.specs.Prelude.{◌≡◌, ◌+◌, ◌<◌, ◌≤◌, Option, Some, List, [], ℕ, length, drop, IfOk, true};
 ghost use Rattle.geo_chan.specs.Answers.{IsTaken, IsPut};
 ghost use Rattle.geo_chan.specs.Causes.{TakeCause, PutCause, StaysQuiet};

@@ -1,7 +1,10 @@
+//! Conditions on tuples: sums of coordinates that are at most zero, the shape of an object, and
+//! how many of some conditions have to be true. All rules are grounded to these.
+
 ghost use Rattle.std.specs.Prelude.{◌≡◌, ◌==◌, [], ◌∷◌, ◌++◌, length, IfOk, OnOk, OnErr};
 
-use super::form::Form;
-use super::object::ObjId;
+use crate::form::Form;
+use crate::object::ObjId;
 use std::alloc::{AllocError, Global};
 
 /// A condition on a tuple. A shape is named by its place, from 1, in the object's list of shapes.

@@ -1,11 +1,13 @@
+//! Whether conditions name only what a state has.
+
 ghost use Rattle.std.specs.Prelude.{◌≤◌, ◌↔◌, IsTrue};
 ghost use Rattle.std.specs.List.{All};
 ghost use Rattle.geo_conditions.specs.Conditions.{FitsIn, AllFit};
 ghost use Rattle.geo_conditions.specs.Reach.{Exists};
 
-use super::cond::Cond;
-use super::form::Form;
-use super::state::State;
+use crate::cond::Cond;
+use crate::form::Form;
+use crate::state::State;
 use geo_base::MAX_DIMS;
 
 fn form_fits<const K: usize>(f: &Form, s: &State<K>) -> bool

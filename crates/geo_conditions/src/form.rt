@@ -1,8 +1,10 @@
+//! Sums of coordinates with factors, in order of object and dimension.
+
 ghost use Rattle.std.specs.Prelude.{◌≡◌, IfOk, map};
 ghost use Rattle.geo_conditions.specs.Form.{IsForm};
 ghost use Rattle.geo_conditions.specs.Terms.{term_of};
 
-use super::object::ObjId;
+use crate::object::ObjId;
 use smallvec::SmallVec;
 use std::alloc::{AllocError, Global};
 use std::marker::Model;

@@ -1,8 +1,10 @@
+//! Tuples: where each object is put, in one list with small origins inline.
+
 ghost use Rattle.std.specs.Prelude.{◌≡◌, ◌<◌, ◌≤◌, pos, length, replicate, slice_set, [], ◌∷◌, ◌++◌, IfOk, OnOk, OnErr};
 ghost use Rattle.geo_base.specs.Boxes.{coordinate};
 ghost use Rattle.geo_conditions.specs.Reach.{spot};
 
-use super::object::ObjId;
+use crate::object::ObjId;
 use geo_base::MAX_DIMS;
 use smallvec::SmallVec;
 use std::alloc::{AllocError, Global};

@@ -1,3 +1,5 @@
+//! Objects by their numbers, and how many there may be.
+
 /// An object, by its number from 0.
 #[derive(Clone, Copy, Debug, Default, PartialEq, Eq)]
 pub struct ObjId(pub u16);

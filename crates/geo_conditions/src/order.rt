@@ -1,7 +1,9 @@
+//! In which order a search tries values.
+
 ghost use Rattle.std.specs.Prelude.{◌≡◌, IfOk, map};
 ghost use Rattle.geo_conditions.specs.Order.{numbers_of};
 
-use super::object::ObjId;
+use crate::object::ObjId;
 use std::alloc::{AllocError, Global};
 use std::marker::Model;
 

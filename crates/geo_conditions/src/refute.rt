@@ -1,3 +1,6 @@
+//! Whether a condition is refuted on a state: no tuple inside the state makes it true, as far as
+//! each sum and each count tell by itself. A sum is looked at by its least value.
+
 ghost use Rattle.std.specs.Prelude.{◌≡◌, ◌<◌, ◌≤◌, length, not, true, IsTrue, ◌*ℤ◌};
 ghost use Rattle.std.specs.List.{All};
 ghost use Rattle.geo_conditions.specs.Conditions.{possible, least_value, least_term, FitsIn};
@@ -7,10 +10,10 @@ ghost use Rattle.geo_conditions.specs.Regions.{region_of};
 ghost use Rattle.geo_conditions.specs.Puts.{put_of};
 ghost use Rattle.geo_conditions.specs.Sums.{InSum};
 
-use super::cond::{Cond, Conds};
-use super::form::{Form, Term};
-use super::object::ObjId;
-use super::state::State;
+use crate::cond::{Cond, Conds};
+use crate::form::{Form, Term};
+use crate::object::ObjId;
+use crate::state::State;
 use geo_base::{KBox, MAX_DIMS};
 
 /// From so many parts of a condition on, the last one is asked first.

@@ -1,7 +1,9 @@
+//! Sets of places as bits of a word, beside the one place that is left alone.
+
 ghost use Rattle.std.specs.Prelude.{◌≡◌, ◌≢◌, ◌↔◌, ℕ, ◌-◌, ◌≤◌, IsTrue, slice_set, true, length};
 ghost use Rattle.geo_conditions.specs.Reach.{place_in, is_only, first_places, count, how_many, sole_place};
 
-use super::object::MAX_SHAPES;
+use crate::object::MAX_SHAPES;
 use std::marker::Model;
 
 /// A set of places of an object's list of shapes, which count from 1.

@@ -1,9 +1,12 @@
+//! States: what is open to each object, its places as a set and its coordinates as intervals. They
+//! lie in one list, in file order.
+
 ghost use Rattle.std.specs.Prelude.{◌≡◌, ◌≢◌, ℕ, ◌+◌, ◌-◌, ◌<◌, ◌≤◌, length, List, [], ◌∷◌, ◌++◌, slice_set, IfOk, OnOk, OnErr, true, false};
 ghost use Rattle.geo_conditions.specs.Reach.{low, high, has, reach, place_in, is_only, dims, with_interval, with_low, with_high, with_place, with_places, without, first_places, IsState};
 ghost use Rattle.geo_conditions.specs.Regions.{region_of};
 
-use super::object::{MAX_OBJECTS, MAX_SHAPES, ObjId};
-use super::shapes::ShapeSet;
+use crate::object::{MAX_OBJECTS, MAX_SHAPES, ObjId};
+use crate::shapes::ShapeSet;
 use geo_base::{Interval, KBox, MAX_DIMS};
 use std::alloc::{AllocError, Global};
 use std::marker::Model;

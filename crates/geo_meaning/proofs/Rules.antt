@@ -1,6 +1,6 @@
 -- A rule without its macros holds exactly where the rule holds.
 use Rattle.std.proofs.Common.{◌≡◌, ◌<◌, ◌≤◌, ℕ, zero, suc, List, refl, [], ◌∷◌, length, get_or, map, sym, subst, ◌∙◌, ap, arith}
-use Rattle.std.specs.Prelude.{All, None, Result, Ok, Err}
+use Rattle.std.specs.Prelude.{All, None}
 use Rattle.std.proofs.lemmas.List.{get_or-map, get_or_default, length-map}
 use Rattle.problem_data.specs.Problem as written
 use Rattle.problem_data.specs.Problem.{DemandData, RuleData, ProblemData}
@@ -10,11 +10,10 @@ use Rattle.problem_data.specs.Layouts.{DemandHolds}
 use Rattle.problem_data.specs.WellFormed.{IsDemand, IsWellFormed}
 use Rattle.rule_expand.specs.declared.plain.PlainRule.{PlainRule}
 use Rattle.rule_expand.specs.Rules.{PlainDemand, apart, within, plain, PlainRuleData, AsksSame, AllAskSame, expansion_fault, plain_rule_data, rules_expanded}
-use Rattle.geo_tokens.specs.declared.fault.TextFault.{TextFault}
-use Rattle.linear_conditions.specs.CondTree.{CondTree}
-use Rattle.rule_ground.specs.Ground.{conditions_in, fault_in, ground_fault}
+use Rattle.rule_ground.specs.Ground.{ground_fault}
 use Rattle.rule_ground.specs.Rules.{grounded}
 use Rattle.rule_ground.proofs.CalmRules.{all-calm}
+use Rattle.rule_ground.proofs.Grounded.{no-fault}
 use Rattle.rule_values.specs.Calm.{AreCalm, IsCalmDemand}
 use Rattle.geo_meaning.specs.Judged.{IsWide, PlainHolds, RuleHolds, rule_at}
 
@@ -95,10 +94,6 @@ rules-all p t rules n a h f = λ k d l.
     subst (λ (r : RuleData). DemandHolds p t r.demand) (get_or_default p.rules k (record { place = 0; name = []; demand = written.apart }) d l) (f k (omega arith))
 
 -- ---- of a problem without a fault
-
-no-fault : (r : Result (List CondTree) TextFault) → fault_in r ≡ None → r ≡ Ok (conditions_in r)
-no-fault (Ok cs) e = refl
-no-fault (Err x) e = cc
 
 -- the evaluation of its rules stays within 128 bits
 pub calm-rules : (p : ProblemData) (t : Tuple) → IsWellFormed p → IsTuple p t → expansion_fault p ≡ None → ground_fault p ≡ None → AreCalm p t (rules_expanded p)

@@ -1,4 +1,4 @@
-// Boxes of placed objects, by their ends in each dimension.
+//! Boxes of placed objects, by their ends in each dimension.
 ghost use Rattle.std.specs.Prelude.{◌≡◌, ◌<◌, ◌≤◌, ◌+ℤ◌, ◌≤ℤ◌, ◌<ℤ◌, ℕ, ℤ, pos, List, length, map};
 ghost use Rattle.std.specs.Bool.{OnTrue, OnFalse};
 ghost use Rattle.geo_base.specs.Boxes.{coordinate};

@@ -1,4 +1,4 @@
-// What holds of every problem.
+//! What holds of every problem.
 ghost use Rattle.std.specs.Prelude.{◌≤◌, length};
 ghost use Rattle.problem_data.specs.Limits.{most_rules};
 ghost use Rattle.problem_data.specs.WellFormed.{IsWellFormed};

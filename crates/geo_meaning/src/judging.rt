@@ -1,4 +1,4 @@
-// Whether all rules hold on a tuple, and the first that does not.
+//! Whether all rules hold on a tuple, and the first that does not.
 ghost use Rattle.std.specs.Prelude.{◌≡◌, ◌<◌, ◌+◌, IfOk, None, ℕ, length, map};
 ghost use Rattle.std.specs.Bool.{OnTrue, OnFalse};
 ghost use Rattle.problem_data.specs.Cells.{IsApart, IsShaped, IsTuple, IsWithin, LiesWithin, NoCommonCell};

@@ -1,4 +1,4 @@
-// Placed objects, box by box.
+//! Placed objects, box by box.
 ghost use Rattle.std.specs.Prelude.{◌≡◌, ◌<◌, ℕ, ℤ, List, length, map, All};
 ghost use Rattle.std.specs.Bool.{OnTrue, OnFalse};
 ghost use Rattle.geo_base.specs.Tuple.{spot};

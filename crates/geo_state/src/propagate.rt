@@ -1,3 +1,6 @@
+//! What a propagator promises: it leaves the greatest supported state, and records why what it
+//! took away had no point. The search is generic in it.
+
 ghost use Rattle.std.specs.Prelude.{◌≡◌, ℕ, ◌≤◌, true, List, length, IfOk};
 ghost use Rattle.std.specs.List.{All};
 ghost use Rattle.geo_conditions.specs.declared.cond.Cond.{Cond};
@@ -5,7 +8,7 @@ ghost use Rattle.geo_conditions.specs.Conditions.{FitsIn};
 ghost use Rattle.derivation.specs.Events.{Grows};
 ghost use Rattle.geo_state.specs.Settle.{BlamesFirst, Records, SettlesOr};
 
-use super::trailed::Trailed;
+use crate::trailed::Trailed;
 use derivation::Recorder;
 use geo_base::MAX_DIMS;
 use std::alloc::AllocError;

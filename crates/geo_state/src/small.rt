@@ -1,3 +1,5 @@
+//! Whether the ends of a state are small enough for its trail.
+
 ghost use Rattle.std.specs.Prelude.{ℕ, ◌<◌, ◌≤◌, ◌↔◌, IsTrue, length};
 ghost use Rattle.geo_conditions.specs.Reach.{low, high};
 ghost use Rattle.geo_state.specs.Trail.{HasSmallIntervals, IsSmallEnd};

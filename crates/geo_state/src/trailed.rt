@@ -1,8 +1,11 @@
+//! A state with levels, which are opened and undone. In place of a copy a level keeps what it
+//! replaced, at most once for an object, on a trail, as constraint solvers do since Prolog's.
+
 ghost use Rattle.std.specs.Prelude.{◌≡◌, ℕ, ◌+◌, ◌<◌, ◌≤◌, ◌≤ℤ◌, length, List, [], ◌∷◌, ◌++◌, IfOk, slice_set};
 ghost use Rattle.geo_conditions.specs.Reach.{reach, low, high, with_low, with_high, without, Inside};
 ghost use Rattle.geo_state.specs.Trail.{Trail, HasSmallIntervals, IsSmallEnd};
 
-use super::entries::{Saved, put_back, save};
+use crate::entries::{Saved, put_back, save};
 use geo_base::MAX_DIMS;
 use geo_conditions::{ObjId, State};
 use std::alloc::{AllocError, Global};

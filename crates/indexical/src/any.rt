@@ -1,3 +1,6 @@
+//! A condition of any kind behind one type, so that a list of them lies flat and a sweep over it
+//! needs no pointer to code.
+
 ghost use Rattle.std.specs.Prelude.{◌≡◌, ◌<◌, ◌≤◌, not, is_some, true, length, IfSome, IsTrue, MatchOption};
 ghost use Rattle.std.specs.Option.{ForSome};
 ghost use Rattle.geo_base.specs.Boxes.{Has};
@@ -11,17 +14,17 @@ ghost use Rattle.indexical.specs.Forbidden.{Forbids, IsForbiddenBox};
 ghost use Rattle.indexical.specs.Free.{LeavesFree, SparesAnywhere};
 ghost use Rattle.indexical.specs.Names.{IsFirstBefore, names};
 
-use super::apart::ApartIndexical;
-use super::bound::BoundIndexical;
-use super::facing::{Facing, facing_of_tree};
-use super::forbidden::{ForbiddenPart, box_with, exactly};
-use super::indexical::Indexical;
-use super::point::tree_possible_at;
-use super::single_bound::bound_of;
-use super::spared::is_named;
-use super::tree::{forbid_tree, tree_part};
-use super::two_boxes::two_boxes;
-use super::watched::{Watched, tree_spares_watched};
+use crate::apart::ApartIndexical;
+use crate::bound::BoundIndexical;
+use crate::facing::{Facing, facing_of_tree};
+use crate::forbidden::{ForbiddenPart, box_with, exactly};
+use crate::indexical::Indexical;
+use crate::point::tree_possible_at;
+use crate::single_bound::bound_of;
+use crate::spared::is_named;
+use crate::tree::{forbid_tree, tree_part};
+use crate::two_boxes::two_boxes;
+use crate::watched::{Watched, tree_spares_watched};
 use geo_base::{KBox, MAX_DIMS, Point, Steps, Way};
 use geo_conditions::{Cond, MAX_OBJECTS, ObjId, State, refuted};
 use std::sync::ledger::Ledger;

@@ -1,10 +1,13 @@
+//! The condition that two boxes do not overlap, met by the ends of the boxes and without its tree:
+//! it is most of what problems ask.
+
 ghost use Rattle.std.specs.Prelude.{ℕ, ◌<◌, ◌≤◌, ◌^◌, length};
 ghost use Rattle.geo_base.specs.declared.TheConstants.{MAX_DIMS};
 ghost use Rattle.indexical.specs.Apart.{AreGaps, apart_parts};
 
-use super::facing::{Facing, facing_beside};
-use super::overlap::{covers_some, gaps, must_overlap, must_overlap_beside, overlap_beside};
-use super::placed::PlacedBox;
+use crate::facing::{Facing, facing_beside};
+use crate::overlap::{covers_some, gaps, must_overlap, must_overlap_beside, overlap_beside};
+use crate::placed::PlacedBox;
 use geo_base::{KBox, MAX_DIMS, Point};
 use geo_conditions::{ObjId, State};
 

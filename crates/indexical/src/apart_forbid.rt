@@ -1,3 +1,6 @@
+//! What the condition of two boxes forbids: the origins at which the one box must overlap with the
+//! other, wherever the state lets that one stand. It is one box, known by two numbers a dimension.
+
 ghost use Rattle.std.specs.Prelude.{◌≡◌, ℕ, ◌<◌, true, length, MatchOption};
 ghost use Rattle.geo_base.specs.Boxes.{Has};
 ghost use Rattle.geo_conditions.specs.Reach.{with_at, just};
@@ -6,9 +9,9 @@ ghost use Rattle.geo_conditions.specs.Regions.{region_of};
 ghost use Rattle.indexical.specs.Apart.{apart};
 ghost use Rattle.indexical.specs.Forbidden.{Forbids, IsForbiddenBox};
 
-use super::apart::ApartIndexical;
-use super::forbidden::{ForbiddenPart, box_with, exactly};
-use super::indexical::Indexical;
+use crate::apart::ApartIndexical;
+use crate::forbidden::{ForbiddenPart, box_with, exactly};
+use crate::indexical::Indexical;
 use geo_base::{KBox, Point, Steps, Way};
 use geo_conditions::{ObjId, State};
 use std::sync::ledger::Ledger;

@@ -1,6 +1,7 @@
-//! A condition that keeps one coordinate of an object, where it has a place, on one side of a number, as `within` makes them.
+//! A condition that keeps one coordinate of an object, where it has a place, on one side of a number,
+//! as `within` makes them, or out of a hole between two numbers, as ranges of several pieces do.
 
-ghost use Rattle.std.specs.Prelude.{◌≡◌, ◌≢◌, ◌↔◌, ℕ, ◌^◌, ◌-◌, ◌<◌, ◌≤◌, ◌≤ℤ◌, ◌<ℤ◌, true, List, ℤ, pos, negsuc, IfNone, IfSome, IsTrue, is_some};
+ghost use Rattle.std.specs.Prelude.{None, Some, false, ◌≡◌, ◌≢◌, ◌↔◌, ℕ, ◌^◌, ◌-◌, ◌-ℤ◌, ◌<◌, ◌≤◌, ◌≤ℤ◌, ◌<ℤ◌, true, List, ℤ, pos, negsuc, IfNone, IfSome, IsTrue, is_some};
 ghost use Rattle.std.specs.Int.{int_min, int_max};
 ghost use Rattle.std.specs.Option.{ForSome};
 ghost use Rattle.geo_base.specs.Boxes.{coordinate, Has};
@@ -9,8 +10,8 @@ ghost use Rattle.geo_conditions.specs.Reach.{is_only, only};
 use geo_base::{KBox, Point};
 use geo_conditions::ObjId;
 
-/// The condition that an object has another place than the one that is asked for, if there is one, or keeps its coordinate in
-/// a dimension on one side of a number.
+/// The condition that an object has another place than the one that is asked for, if there is one,
+/// or keeps its coordinate in a dimension on one side of a number, or out of a hole.
 #[derive(Clone, Copy)]
 pub struct BoundIndexical<const K: usize> {
     object: ObjId,
@@ -19,8 +20,11 @@ pub struct BoundIndexical<const K: usize> {
     // whether the coordinate has to be at least the constant; else its sum with the constant is at most 0
     least: bool,
     constant: i64,
+    // of a hole, the number from which on the coordinate is on the right side again
+    until: Option<i64>,
     ghost inside: { dimension < K },
     ghost small: { (negsuc (10 ^ 14 - 1) ≤ℤ constant) × (constant ≤ℤ pos (10 ^ 14)) },
+    ghost near: { ForSome until (λ v. (negsuc (10 ^ 14 - 1) ≤ℤ v) × (v ≤ℤ pos (10 ^ 14))) },
 }
 
 /// The part of the region whose coordinate in a dimension is at most a number, if there is one.
@@ -74,14 +78,34 @@ fn has_asked(asked: Option<u8>, place: u8) -> bool
     }
 }
 
+/// The number before n.
+#[inline(always)]
+fn just_before(n: i64) -> i64
+    requires { (negsuc (10 ^ 14 - 1) ≤ℤ n) × (n ≤ℤ pos (10 ^ 14)) }
+    ensures { result ≡ n -ℤ pos 1 }
+{
+    n - 1
+}
+
+/// Whether v is below `until`, where there is such a number.
+#[inline(always)]
+fn is_before(until: Option<i64>, v: i64) -> bool
+    ensures { IsTrue result ↔ IfSome until (λ n. v <ℤ n) }
+{
+    match until {
+        Some(n) => v < n,
+        None => true,
+    }
+}
+
 impl<const K: usize> BoundIndexical<K> {
-    ghost use Rattle.std.specs.Prelude.{◌≡◌, ◌==◌, ◌↔◌, List, ℤ, IfNone, IfSome, IsTrue};
-    ghost use Rattle.geo_base.specs.Boxes.{Has};
-    ghost use Rattle.indexical.specs.Bound.{IsPast, PassesAt};
+    ghost use Rattle.std.specs.Prelude.{◌≡◌, ◌==◌, ◌↔◌, List, ℤ, IfNone, IfSome, IsTrue, None, Some, true, false};
+    ghost use Rattle.geo_base.specs.Boxes.{Has, IsUncrossed};
+    ghost use Rattle.indexical.specs.Bound.{IsPast, PassesAt, IsSidePart};
     ghost use Rattle.indexical.specs.Names.{IsFirstBefore};
 
-    /// The bound on that coordinate of an object, where it has the place that is asked for, if one is. The constant lies within
-    /// -10^14 to 10^14.
+    /// The bound on that coordinate of an object, where it has the place that is asked for, if one is.
+    /// The constant lies within -10^14 to 10^14.
     pub fn new(
         object: ObjId,
         asked: Option<u8>,
@@ -96,6 +120,7 @@ impl<const K: usize> BoundIndexical<K> {
         ensures dimension { result.dimension ≡ dimension }
         ensures least { result.least ≡ least }
         ensures constant { result.constant ≡ constant }
+        ensures until { result.until ≡ None }
     {
         BoundIndexical {
             object,
@@ -103,7 +128,38 @@ impl<const K: usize> BoundIndexical<K> {
             dimension,
             least,
             constant,
+            until: None,
         }
+    }
+
+    /// The hole between the greatest number that this bound allows and the least that `lower` allows,
+    /// where both are on one coordinate.
+    pub fn between(&self, lower: &BoundIndexical<K>) -> Option<BoundIndexical<K>>
+        ensures object { IfSome result (λ b. (b.object ≡ self.now.object)
+            × (b.object ≡ lower.now.object)) }
+        ensures asked { IfSome result (λ b. b.asked ≡ self.now.asked) }
+        ensures dimension { IfSome result (λ b. (b.dimension ≡ self.now.dimension)
+            × (b.dimension ≡ lower.now.dimension)) }
+        ensures least { IfSome result (λ b. (b.least ≡ false) × (self.now.least ≡ false)
+            × (lower.now.least ≡ true)) }
+        ensures constant { IfSome result (λ b. b.constant ≡ self.now.constant) }
+        ensures until { IfSome result (λ b. b.until ≡ Some lower.now.constant) }
+    {
+        if self.least
+            || !lower.least
+            || self.object.0 != lower.object.0
+            || self.dimension != lower.dimension
+        {
+            return None;
+        }
+        Some(BoundIndexical {
+            object: self.object,
+            asked: self.asked,
+            dimension: self.dimension,
+            least: false,
+            constant: self.constant,
+            until: Some(lower.constant),
+        })
     }
 
     /// The object that the condition is on, where it is one of those from `from` on and before `end`.
@@ -146,10 +202,12 @@ impl<const K: usize> BoundIndexical<K> {
         if !has_asked(self.asked, place) {
             return false;
         }
-        self.is_past(c.get(self.dimension))
+        let v = c.get(self.dimension);
+        self.is_past(v) && is_before(self.until, v)
     }
 
-    /// The part of the region in which the condition is refuted with its object at that place, if there is one.
+    /// The part of the region in which the condition is refuted with its object at that place, if
+    /// there is one.
     pub fn broken_part(&self, place: u8, region: &KBox<K>) -> Option<KBox<K>>
         ensures none { IfNone result ((q : List ℤ)
             → Has K region.now.lo.coordinates region.now.hi.coordinates q
@@ -166,6 +224,19 @@ impl<const K: usize> BoundIndexical<K> {
         if !has_asked(self.asked, place) || region.is_empty() {
             return None;
         }
+        let part = self.side_part(region)?;
+        match self.until {
+            Some(first) => at_most(&part, self.dimension, just_before(first)),
+            None => Some(part),
+        }
+    }
+
+    // The part of a region with points in which the coordinate is on the wrong side.
+    #[inline(always)]
+    fn side_part(&self, region: &KBox<K>) -> Option<KBox<K>>
+        requires { IsUncrossed K region.now.lo.coordinates region.now.hi.coordinates }
+        ensures { IsSidePart self.now region.now result }
+    {
         if self.least {
             at_most(region, self.dimension, self.constant - 1)
         } else {

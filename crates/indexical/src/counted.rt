@@ -1,7 +1,9 @@
+//! An indexical that counts its questions, for the bound on how many a sweep asks.
+
 ghost use Rattle.std.specs.Prelude.{◌≡◌};
 
-use super::forbidden::ForbiddenPart;
-use super::indexical::Indexical;
+use crate::forbidden::ForbiddenPart;
+use crate::indexical::Indexical;
 use geo_base::{KBox, Point, Steps, Way};
 use geo_conditions::{ObjId, State};
 use std::cell::Cell;

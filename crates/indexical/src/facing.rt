@@ -4,8 +4,8 @@ ghost use Rattle.std.specs.Prelude.{◌≡◌, ◌≢◌, ℕ, None, Some, true}
 ghost use Rattle.geo_conditions.specs.declared.cond.Cond.{Cond};
 ghost use Rattle.indexical.specs.Faces.{Faces};
 
-use super::placed::PlacedBox;
-use super::two_boxes::spared_place;
+use crate::placed::PlacedBox;
+use crate::two_boxes::spared_place;
 use geo_conditions::{Cond, ObjId};
 
 /// What a condition asks of places before it can be in an object's way. Places count from 1; 0 stands where none is asked.

@@ -1,3 +1,7 @@
+//! What a sweep asks a condition: for a forbidden box around a point, for the forbidden part of a
+//! region, and whether a point is possible. The two laws of `forbid` are all that a sweep rests
+//! on.
+
 ghost use Rattle.std.specs.Prelude.{◌≡◌, ℕ, ◌+◌, ◌<◌, ◌≤◌, true, List, length, ℤ, IfSome, IfNone};
 ghost use Rattle.geo_base.specs.Boxes.{Has};
 ghost use Rattle.geo_conditions.specs.Reach.{with_at, just};
@@ -6,7 +10,7 @@ ghost use Rattle.geo_conditions.specs.Regions.{region_of};
 ghost use Rattle.indexical.specs.Disjunctions.{IsDisjunction};
 ghost use Rattle.indexical.specs.Forbidden.{Forbids};
 
-use super::forbidden::ForbiddenPart;
+use crate::forbidden::ForbiddenPart;
 use geo_base::{KBox, MAX_DIMS, Point, Steps, Way};
 use geo_conditions::{ObjId, State};
 use std::sync::ledger::Ledger;

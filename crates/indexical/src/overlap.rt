@@ -7,7 +7,7 @@ ghost use Rattle.geo_conditions.specs.Reach.{reach, is_only, only, with_at, just
 ghost use Rattle.geo_conditions.specs.Regions.{region_of};
 ghost use Rattle.indexical.specs.Apart.{gap, AreGaps, first, last, Clashes, MustOverlap, NeedNotOverlap, IsOverlapPart};
 
-use super::placed::PlacedBox;
+use crate::placed::PlacedBox;
 use geo_base::{Interval, KBox, MAX_DIMS, Point};
 use geo_conditions::{ObjId, State};
 

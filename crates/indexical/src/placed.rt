@@ -1,3 +1,5 @@
+//! A box of a shape, seen from the origin of the object that has it.
+
 ghost use Rattle.std.specs.Prelude.{◌≡◌};
 ghost use Rattle.indexical.specs.Limits.{IsWithinLimit};
 

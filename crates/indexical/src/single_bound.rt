@@ -2,10 +2,10 @@
 
 ghost use Rattle.std.specs.Prelude.{◌≡◌, ℕ, IfSome, None, Some};
 ghost use Rattle.geo_conditions.specs.declared.cond.Cond.{Cond};
-ghost use Rattle.indexical.specs.Bound.{SaysBound, bound_sum};
+ghost use Rattle.indexical.specs.Bound.{IsHole, SaysTwo, SaysBound, bound_sum};
 
-use super::bound::BoundIndexical;
-use super::two_boxes::LIMIT;
+use crate::bound::BoundIndexical;
+use crate::two_boxes::LIMIT;
 use geo_conditions::{Cond, ObjId};
 
 /// The bound that a form of one coordinate is, with factor 1 or -1, in one of the K dimensions.
@@ -13,6 +13,7 @@ fn bound_of_form<const K: usize>(c: &Cond, asked: Option<u8>) -> Option<BoundInd
     ensures form { IfSome result (λ b.
         c.now ≡ Cond.Lin (bound_sum b.least b.object b.dimension b.constant)) }
     ensures asked { IfSome result (λ b. b.asked ≡ asked) }
+    ensures until { IfSome result (λ b. b.until ≡ None) }
 {
     match c {
         Cond::Lin(f) => {
@@ -43,12 +44,33 @@ fn bound_at_place<const K: usize>(spared: &Cond, form: &Cond) -> Option<BoundInd
         form.now ≡ Cond.Lin (bound_sum b.least b.object b.dimension b.constant)) }
     ensures asked { IfSome result (λ b. (p : ℕ) × (b.asked ≡ Some p)
         × (spared.now ≡ Cond.NotShape b.object p)) }
+    ensures until { IfSome result (λ b. b.until ≡ None) }
 {
     match spared {
         Cond::NotShape(o, place) => {
             let b = bound_of_form(form, Some(*place))?;
             if b.is_of(*o) { Some(b) } else { None }
         }
+        _ => None,
+    }
+}
+
+/// The hole that one of two forms leaves: the first says at most, the second at least.
+fn hole_between<const K: usize>(upper: &Cond, lower: &Cond) -> Option<BoundIndexical<K>>
+    ensures { IfSome result (λ b. IsHole b upper.now lower.now) }
+{
+    let up = bound_of_form::<K>(upper, None)?;
+    let down = bound_of_form::<K>(lower, None)?;
+    up.between(&down)
+}
+
+/// The bound of two conditions of which one has to hold, if it is one.
+fn bound_of_two<const K: usize>(first: &Cond, second: &Cond) -> Option<BoundIndexical<K>>
+    ensures { IfSome result (λ b. SaysTwo b first.now second.now) }
+{
+    match first {
+        Cond::NotShape(_, _) => bound_at_place(first, second),
+        Cond::Lin(_) => hole_between(first, second),
         _ => None,
     }
 }
@@ -62,7 +84,7 @@ pub fn bound_of<const K: usize>(c: &Cond) -> Option<BoundIndexical<K>>
         Cond::AtLeast(n, parts) => {
             let parts = parts.as_slice();
             if *n == 1 && parts.len() == 2 {
-                bound_at_place(&parts[0], &parts[1])
+                bound_of_two(&parts[0], &parts[1])
             } else {
                 None
             }

@@ -1,3 +1,6 @@
+//! A condition met by its tree: the forbidden box of a sum is found by letting each coordinate run
+//! as far as the sum stays positive, that of a count by the parts that are refuted.
+
 ghost use Rattle.std.specs.Prelude.{◌≡◌, ℕ, ◌+◌, ◌<◌, ◌≤◌, true, List, length, ℤ, MatchOption};
 ghost use Rattle.geo_base.specs.Boxes.{Has};
 ghost use Rattle.geo_conditions.specs.Reach.{with_at, just};
@@ -5,11 +8,11 @@ ghost use Rattle.geo_conditions.specs.Conditions.{possible, FitsIn};
 ghost use Rattle.geo_conditions.specs.Regions.{region_of};
 ghost use Rattle.indexical.specs.Forbidden.{Forbids, IsForbiddenBox, IsOnShape};
 
-use super::forbidden::ForbiddenPart;
-use super::form::forbid_form;
-use super::indexical::Indexical;
-use super::point::tree_possible_at;
-use super::spared::tree_spares;
+use crate::forbidden::ForbiddenPart;
+use crate::form::forbid_form;
+use crate::indexical::Indexical;
+use crate::point::tree_possible_at;
+use crate::spared::tree_spares;
 use geo_base::{KBox, MAX_DIMS, Point, Steps, Way};
 use geo_conditions::{Cond, ObjId, State, refuted_at};
 use std::sync::ledger::Ledger;

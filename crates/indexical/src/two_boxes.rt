@@ -10,8 +10,8 @@ ghost use Rattle.indexical.specs.Limits.{IsWithinLimit};
 ghost use Rattle.indexical.specs.Apart.{apart_parts, other_shape, SaysApart};
 ghost use Rattle.indexical.specs.TwoBoxes.{lengths_from, spared};
 
-use super::apart::ApartIndexical;
-use super::placed::PlacedBox;
+use crate::apart::ApartIndexical;
+use crate::placed::PlacedBox;
 use geo_base::{MAX_DIMS, Point};
 use geo_conditions::{Cond, ObjId, Term};
 

@@ -4,7 +4,7 @@ ghost use Rattle.std.specs.Prelude.{◌<◌, ◌≤◌, pos, IsTrue, ◌≤ℤ�
 ghost use Rattle.geo_conditions.specs.Conditions.{FitsIn};
 ghost use Rattle.indexical.specs.Free.{SparesAnywhere};
 
-use super::spared::{MANY_PARTS, is_named, tree_spares_anywhere};
+use crate::spared::{MANY_PARTS, is_named, tree_spares_anywhere};
 use geo_base::MAX_DIMS;
 use geo_conditions::{Cond, Conds, ObjId, State};
 

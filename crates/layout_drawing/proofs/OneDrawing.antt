@@ -6,7 +6,7 @@ use Rattle.std.proofs.lemmas.Int.{ints}
 use Rattle.std.proofs.lemmas.List.{ext_get_or}
 use Rattle.geo_base.specs.Boxes.{coordinate, Has}
 use Rattle.problem_data.specs.Cells.{IsCellOf}
-use Rattle.problem_data.specs.Problem.{BoxData, ObjectData, ProblemData}
+use Rattle.problem_data.specs.Problem.{BoxData, ObjectData, no_object, ProblemData}
 use Rattle.problem_data.specs.Tuple.{Tuple, boxes_in, boxes_of_shape, object_of, spot}
 use Rattle.problem_data.specs.WellFormed.{IsWellFormed}
 use Rattle.layout_drawing.specs.Drawing.{IsCell, IsLeastBox, IsLarge, IsDrawing, nothing, drawn, cell_count, most_cells, box_line, picture}
@@ -40,7 +40,7 @@ none_of f false = refl
 no_cell : (p : ProblemData) (t : Tuple) → p.objects ≡ [] → (c : List ℤ) → IsCell p t c → ⊥
 no_cell p t none c (o, (n, lt, has)) =
     let few : length (boxes_in p t o) ≡ 0 =
-    ap (λ (os : List ObjectData). length (option_map_or (boxes_of_shape p) (if (spot t o).place == 0 then None else slice_get (get_or os o (record { name = []; shapes = []; ranges = []; attributes = [] })).shapes ((spot t o).place - 1)) [])) none
+    ap (λ (os : List ObjectData). length (option_map_or (boxes_of_shape p) (if (spot t o).place == 0 then None else slice_get (get_or os o no_object).shapes ((spot t o).place - 1)) [])) none
     ∙ none_of (boxes_of_shape p) ((spot t o).place == 0) in
     absurd (omega (arith, lt, few))
 

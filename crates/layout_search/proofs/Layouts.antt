@@ -8,7 +8,7 @@ use Rattle.geo_conditions.proofs.Tokens.{every_walk}
 use Rattle.layout_search.proofs.Members.{member-layout, values-tell}
 use Rattle.layout_search.proofs.States.{state-is}
 use Rattle.problem_data.specs.Problem.{ProblemData}
-use Rattle.problem_data.specs.Cells.{IsTuple, IsShaped}
+use Rattle.problem_data.specs.Cells.{IsWideTuple, IsShaped}
 use Rattle.problem_data.specs.Layouts.{IsLayout}
 use Rattle.problem_data.specs.WellFormed.{IsWellFormed}
 use Rattle.rule_ground.specs.Order.{order_of}
@@ -17,7 +17,7 @@ use Rattle.rule_ground.proofs.Starts.{names-each}
 use Rattle.layout_search.specs.Page.{IsWalkOf}
 
 -- a tuple has the form of one
-pub shaped-tuple : (p : ProblemData) (t : Tuple) → IsTuple p t → IsShaped p t
+pub shaped-tuple : (p : ProblemData) (t : Tuple) → IsWideTuple p t → IsShaped p t
 shaped-tuple p t h = record { objects = h.objects; each = λ o l. (h.each o l).form }
 
 pub all-back : {X : Type 0} (P : X → Type 0) (xs ys : List X) → All P (xs ++ ys) → All P ys
@@ -35,7 +35,7 @@ module _ (p : ProblemData) (W : Tree) (well : IsWellFormed p) (of : IsWalkOf p W
       let h = member-layout p cs past q well are (subst (λ (V : Tree). IsIn V q) e m) (subst (λ (V : Tree). is_full V q ≡ true) e full) in
       (h.0, h.1, ap (λ (V : Tree). values V.variables h.0) e ∙ h.2)
 
-  pub tell : (t u : Tuple) → IsTuple p t → IsTuple p u → values W.variables t ≡ values W.variables u → t ≡ u
+  pub tell : (t u : Tuple) → IsWideTuple p t → IsWideTuple p u → values W.variables t ≡ values W.variables u → t ≡ u
   tell t u a b h = let (cs, past, are, e) = of in values-tell p t u well a b (subst (λ (V : Tree). values V.variables t ≡ values V.variables u) e h)
 
   pub layouts-of : (found : List (List ℤ)) → All (λ q. IsIn W q × (is_full W q ≡ true)) found → (ts : List Tuple) × All (IsLayout p) ts × (map (values W.variables) ts ≡ found)

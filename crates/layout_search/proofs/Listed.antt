@@ -12,9 +12,10 @@ use Rattle.geo_conditions.proofs.Steps.{front_none}
 use Rattle.layout_search.proofs.Outcomes.{same-some}
 use Rattle.layout_search.proofs.Walked.{none-kept}
 use Rattle.problem_data.specs.Problem.{ProblemData}
-use Rattle.problem_data.specs.Cells.{IsTuple}
+use Rattle.problem_data.specs.Cells.{IsWideTuple}
 use Rattle.problem_data.specs.Layouts.{IsLayout}
 use Rattle.problem_data.specs.WellFormed.{IsWellFormed}
+use Rattle.problem_data.proofs.Hulls.{tuple_is_wide}
 use Rattle.trail_search.specs.Next.{SearchView, Answers, HasFound}
 use Rattle.trail_search.specs.declared.step.Step.TheVariants.{Found, Ended, Budget}
 use Rattle.walk_listings.proofs.Listings.{goes_on_from}
@@ -53,7 +54,7 @@ module _ (p : ProblemData) (W : Tree) (n : ℕ) (well : IsWellFormed p) (of : Is
     layouts = All-nil (IsLayout p);
   }
 
-  pub one-more : (a b : SearchView) (ts : List Tuple) (t : Tuple) → HasListed p W n a ts → b.walk ≡ a.walk → b.budget ≡ a.budget → Answers a Found b → IsTuple p t → HasFound b t → HasListed p W n b (ts ++ t ∷ [])
+  pub one-more : (a b : SearchView) (ts : List Tuple) (t : Tuple) → HasListed p W n a ts → b.walk ≡ a.walk → b.budget ≡ a.budget → Answers a Found b → IsWideTuple p t → HasFound b t → HasListed p W n b (ts ++ t ∷ [])
   one-more a b ts t h same budget (w, q, (front, count), few, none, full, found, most, over) is has =
       let v = h.front.0 in
       let f : IsFront W (w ++ q ∷ []) = subst (λ (V : Tree). IsFront V (w ++ q ∷ [])) (same ∙ h.walk) front in
@@ -65,7 +66,7 @@ module _ (p : ProblemData) (W : Tree) (n : ℕ) (well : IsWellFormed p) (of : Is
       let full' : is_full W q ≡ true = subst (λ (V : Tree). is_full V q ≡ true) h.walk full in
       let e : values W.variables t ≡ q = ap (λ (V : Tree). values V.variables t) (sym (same ∙ h.walk)) ∙ same-some (values b.walk.variables t) q (sym has ∙ found) in
       let l = one-layout p W well of q (all-back (IsIn W) w (q ∷ []) f.members 0 q (omega arith)) full' in
-      let it : l.0 ≡ t = tell p W well of l.0 t l.1.tuple is (l.2 ∙ sym e) in
+      let it : l.0 ≡ t = tell p W well of l.0 t (tuple_is_wide p l.0 well l.1.tuple) is (l.2 ∙ sym e) in
       record {
         walk = same ∙ h.walk;
         budget = budget ∙ h.budget;

@@ -1,4 +1,5 @@
--- A full member of a walk of a problem, under any conditions that fit it, has the values of one of its tuples.
+-- A full member of a walk of a problem, under any conditions that fit it, has the values of a tuple
+-- of its hulls.
 use Rattle.std.proofs.Common.{◌≡◌, ℤ, true, List, [], ◌∷◌, ◌++◌, length, refl, sym, ap, ◌∙◌, subst, arith, Option, Some}
 use Rattle.std.specs.Prelude.{All, Contains}
 use Rattle.std.specs.Option.{option_map}
@@ -11,7 +12,7 @@ use Rattle.geo_conditions.specs.Reach.{State}
 use Rattle.geo_conditions.specs.Walk.{Tree, Order, values, variables_in, is_full, IsIn, IsFront}
 use Rattle.geo_conditions.proofs.Layouts.{member_is_layout, values_tell}
 use Rattle.problem_data.specs.Problem.{ProblemData}
-use Rattle.problem_data.specs.Cells.{IsTuple}
+use Rattle.problem_data.specs.Cells.{IsWideTuple}
 use Rattle.problem_data.specs.Layouts.{IsLayout}
 use Rattle.problem_data.specs.WellFormed.{IsWellFormed}
 use Rattle.rule_ground.specs.Order.{order_of, variables_for}
@@ -32,13 +33,13 @@ pub same-walk : (p : ProblemData) (cs ds : List Cond) (S : State) (o : Order) (a
 same-walk p cs ds S o after W d s e walk = walk ∙ (λ i. record { conditions = d i; first = s i; variables = variables_in (e i); after = option_map (values (variables_in (e i))) after })
 
 module _ (p : ProblemData) (cs : List Cond) (past : Option (List ℤ)) (well : IsWellFormed p) (fit : AllFit cs (first_state p)) where
-  pub member-tuple : (q : List ℤ) → IsIn (walk_past p cs past) q → is_full (walk_past p cs past) q ≡ true → (t : Tuple) × IsTuple p t × AllHold cs t × (values (variables_for p) t ≡ q)
+  pub member-tuple : (q : List ℤ) → IsIn (walk_past p cs past) q → is_full (walk_past p cs past) q ≡ true → (t : Tuple) × IsWideTuple p t × AllHold cs t × (values (variables_for p) t ≡ q)
   member-tuple q m full =
       let long : length q ≡ length (variables_for p) = grind (arith, nat_tests, full) in
       let l = member_is_layout p.dims cs (first_state p) (order_of p) q well.some (state-is p well) fit (names-each p well) m.0 long in
       (l.0, (tuples-are p l.0 well).0 l.1, l.2, l.3)
 
-  -- what a search has found is a tuple of the problem
+  -- what a search has found is a tuple of the problem's hulls
   pub found-tuple : (a b : SearchView) → a.walk ≡ walk_past p cs past → b.walk ≡ a.walk → Answers a Found b → HasFoundIn p b
   found-tuple a b walk same (w, q, (front, count), few, none, full, found, most, over) =
       let W = walk_past p cs past in
@@ -48,8 +49,8 @@ module _ (p : ProblemData) (cs : List Cond) (past : Option (List ℤ)) (well : I
       let l = member-tuple q m full' in
       (l.0, l.1, found ∙ ap Some (sym l.3) ∙ ap (λ (V : Tree). Some (values V.variables l.0)) (sym (same ∙ walk)))
 
--- two tuples of a problem with the same values are one
-pub values-tell : (p : ProblemData) (t u : Tuple) → IsWellFormed p → IsTuple p t → IsTuple p u → values (variables_for p) t ≡ values (variables_for p) u → t ≡ u
+-- two tuples of a problem's hulls with the same values are one
+pub values-tell : (p : ProblemData) (t u : Tuple) → IsWellFormed p → IsWideTuple p t → IsWideTuple p u → values (variables_for p) t ≡ values (variables_for p) u → t ≡ u
 values-tell p t u well a b e = values_tell p.dims (first_state p) (order_of p) t u (state-is p well) (names-each p well) ((tuples-are p t well).1 a) ((tuples-are p u well).1 b) e
 
 -- under the problem's own conditions it is a layout
@@ -57,4 +58,4 @@ pub member-layout : (p : ProblemData) (cs : List Cond) (past : Option (List ℤ)
     → (t : Tuple) × IsLayout p t × (values (variables_for p) t ≡ q)
 member-layout p cs past q well are m full =
     let h = member-tuple p cs past well are.fit q m full in
-    (h.0, record { tuple = h.1; rules = (are.meaning h.0 h.1).0 h.2 }, h.3)
+    (h.0, (are.meaning h.0 h.1).0 h.2, h.3)

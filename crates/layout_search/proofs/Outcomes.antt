@@ -10,7 +10,7 @@ use Rattle.layout_search.proofs.Members.{found-tuple, values-tell}
 use Rattle.layout_search.proofs.States.{state-is}
 use Rattle.layout_search.specs.Found.{HasFoundIn}
 use Rattle.problem_data.specs.Problem.{ProblemData}
-use Rattle.problem_data.specs.Cells.{IsTuple}
+use Rattle.problem_data.specs.Cells.{IsWideTuple}
 use Rattle.problem_data.specs.WellFormed.{IsWellFormed}
 use Rattle.rule_ground.specs.Order.{order_of, variables_for}
 use Rattle.rule_ground.specs.Start.{first_state}
@@ -34,7 +34,7 @@ pub same-some : {X : Type 0} (x y : X) → Some x ≡ Some y → x ≡ y
 same-some x y e = cc
 
 module _ (p : ProblemData) (cs : List Cond) (well : IsWellFormed p) (state : IsState p.dims (first_state p)) (fit : AllFit cs (first_state p)) where
-  good : (t : Tuple) → IsTuple p t → AllHold cs t → IsGood p.dims cs (first_state p) (order_of p) well.some state fit (names-each p well) t
+  good : (t : Tuple) → IsWideTuple p t → AllHold cs t → IsGood p.dims cs (first_state p) (order_of p) well.some state fit (names-each p well) t
   good t is all = ((tuples-are p t well).1 is, all)
 
   module _ (n : ℕ) (a b : SearchView) (fresh : IsFresh (walk_of p cs) n a) (same : b.walk ≡ a.walk) where
@@ -45,14 +45,14 @@ module _ (p : ProblemData) (cs : List Cond) (well : IsWellFormed p) (state : IsS
     none-before w h = subst (λ (W : Tree). All (λ q. is_full W q ≡ false) w) fresh.walk (subst (λ (k : ℕ). All (λ q. is_full a.walk q ≡ false) (drop k w)) fresh.walked h)
 
     -- the solution that was found
-    first-found : Answers a Found b → (t : Tuple) × IsTuple p t × HasFound b t × IsFirstSolution p cs t × Lists {R = Unit {0}} p cs n (outcomes.Found t)
+    first-found : Answers a Found b → (t : Tuple) × IsWideTuple p t × HasFound b t × IsFirstSolution p cs t × Lists {R = Unit {0}} p cs n (outcomes.Found t)
     first-found (w, q, (front, count), after, none, full, found, few, over) =
         let W = walk_of p cs in
         let front' : IsFront W (w ++ q ∷ []) = of-walk (λ (V : Tree). IsFront V (w ++ q ∷ [])) front in
         let none' = none-before w none in
         let full' : is_full W q ≡ true = subst (λ (V : Tree). is_full V q ≡ true) fresh.walk full in
         let f = found-first p.dims cs (first_state p) (order_of p) well.some state fit (names-each p well) w n none' q front' full' in
-        let is : IsTuple p f.0 = (tuples-are p f.0 well).0 f.1.0 in
+        let is : IsWideTuple p f.0 = (tuples-are p f.0 well).0 f.1.0 in
         let e : values (variables_for p) f.0 ≡ q = f.2 in (
           f.0,
           is,
@@ -61,14 +61,14 @@ module _ (p : ProblemData) (cs : List Cond) (well : IsWellFormed p) (state : IsS
           subst (λ (r : List ℤ). Rattle.geo_conditions.specs.Walk.IsListing W 1 n (r ∷ []) Rattle.geo_conditions.specs.Walk.More) (sym e) (found-listed p.dims cs (first_state p) (order_of p) well.some state fit (names-each p well) w n none' q front' full' (omega (arith, count, few, fresh.budget))),
         )
 
-    found-once : (t u : Tuple) → IsTuple p t → IsTuple p u → HasFound b t → HasFound b u → u ≡ t
+    found-once : (t u : Tuple) → IsWideTuple p t → IsWideTuple p u → HasFound b t → HasFound b u → u ≡ t
     found-once t u it iu ht hu =
         values-tell p u t well iu it (subst (λ (V : Tree). values V.variables u ≡ values V.variables t) (same ∙ fresh.walk) (same-some (values b.walk.variables u) (values b.walk.variables t) (sym hu ∙ ht)))
 
-    found-lists : (t : Tuple) → Answers a Found b → IsTuple p t → HasFound b t → Lists {R = Unit {0}} p cs n (outcomes.Found t)
+    found-lists : (t : Tuple) → Answers a Found b → IsWideTuple p t → HasFound b t → Lists {R = Unit {0}} p cs n (outcomes.Found t)
     found-lists t h it ht = let f = first-found h in subst (λ (u : Tuple). Lists {R = Unit {0}} p cs n (outcomes.Found u)) (found-once t f.0 it f.1 ht f.2) f.4
 
-    found-finds : (t : Tuple) → Answers a Found b → IsTuple p t → HasFound b t → IsFirstSolution p cs t
+    found-finds : (t : Tuple) → Answers a Found b → IsWideTuple p t → HasFound b t → IsFirstSolution p cs t
     found-finds t h it ht = let f = first-found h in subst (IsFirstSolution p cs) (found-once t f.0 it f.1 ht f.2) f.3
 
     ended-lists : {R : Type 0} (rec : R) → Answers a Ended b → Lists p cs n (outcomes.Nothing rec)
@@ -116,10 +116,10 @@ module _ (p : ProblemData) (cs : List Cond) (n : ℕ) (a b : SearchView) where
     found-tuple p cs None h.well h.fit a b h.walk h.steps.0 (answered a b Found h.over h.steps),
   )
 
-  pub first-lists : Begins p cs n a b Found → (t : Tuple) → HasFound b t × IsTuple p t → Lists {R = Unit {0}} p cs n (outcomes.Found t)
+  pub first-lists : Begins p cs n a b Found → (t : Tuple) → HasFound b t × IsWideTuple p t → Lists {R = Unit {0}} p cs n (outcomes.Found t)
   first-lists h t f = found-lists p cs h.well (state-is p h.well) h.fit n a b (fresh-of Found h) h.steps.0 t (answered a b Found h.over h.steps) f.1 f.0
 
-  pub first-finds : Begins p cs n a b Found → (t : Tuple) → HasFound b t × IsTuple p t → IsFirstSolution p cs t
+  pub first-finds : Begins p cs n a b Found → (t : Tuple) → HasFound b t × IsWideTuple p t → IsFirstSolution p cs t
   first-finds h t f = found-finds p cs h.well (state-is p h.well) h.fit n a b (fresh-of Found h) h.steps.0 t (answered a b Found h.over h.steps) f.1 f.0
 
   pub none-lists : Begins p cs n a b Ended → {R : Type 0} → (rec : R) → Lists p cs n (outcomes.Nothing rec)

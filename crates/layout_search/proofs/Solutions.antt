@@ -5,6 +5,8 @@ use Rattle.std.specs.Option.{option_map}
 use Rattle.geo_conditions.specs.declared.cond.Cond.{Cond}
 use Rattle.geo_conditions.specs.Walk.{Tree}
 use Rattle.problem_data.specs.Problem.{ProblemData}
+use Rattle.problem_data.specs.WellFormed.{IsWellFormed}
+use Rattle.problem_data.proofs.Hulls.{tuple_is_wide}
 use Rattle.rule_ground.specs.Start.{first_state}
 use Rattle.trail_search.specs.Next.{SearchView}
 use Rattle.derivation.specs.declared.event.Event.{Event}
@@ -45,13 +47,13 @@ module _ (p : ProblemData) (cs : List Cond) (n : ℕ) (a : SearchView) (walk : a
   derives-of list o h = subst (λ (ds : List Cond). Derives p ds list o) conditions-of h
 
 -- the solutions of the problem's own conditions are its layouts
-pub solutions-are-layouts : {R : Type 0} (p : ProblemData) (cs : List Cond) → AreConditionsOf p cs → (o : Outcome R) → FindsSolution p cs o → Finds p o
-solutions-are-layouts p cs are (Found t) h = record {
-  layout = record { tuple = h.tuple; rules = (are.meaning t h.tuple).0 h.holds };
-  first = λ u l. h.first u l.tuple ((are.meaning u l.tuple).1 l.rules);
+pub solutions-are-layouts : {R : Type 0} (p : ProblemData) (cs : List Cond) → IsWellFormed p → AreConditionsOf p cs → (o : Outcome R) → FindsSolution p cs o → Finds p o
+solutions-are-layouts p cs well are (Found t) h = record {
+  layout = (are.meaning t h.tuple).0 h.holds;
+  first = λ u l. let wide = tuple_is_wide p u well l.tuple in h.first u wide ((are.meaning u wide).1 l);
 }
-solutions-are-layouts p cs are (Nothing r) h = λ t l. h t l.tuple ((are.meaning t l.tuple).1 l.rules)
-solutions-are-layouts p cs are OutOfBudget h = tt
+solutions-are-layouts p cs well are (Nothing r) h = λ t l. let wide = tuple_is_wide p t well l.tuple in h t wide ((are.meaning t wide).1 l)
+solutions-are-layouts p cs well are OutOfBudget h = tt
 
 -- what holds of what something is made of
 pub some-made : {A B : Type 0} (f : A → B) (P : B → Type 0) (o : Option A) → IfSome o (λ x. P (f x)) → IfSome (option_map f o) P

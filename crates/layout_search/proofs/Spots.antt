@@ -5,7 +5,7 @@ use Rattle.std.proofs.lemmas.Bool.{cases_lt}
 use Rattle.geo_base.specs.Boxes.{coordinate}
 use Rattle.geo_base.specs.Tuple.{Spot, Tuple, spot, nothing_put}
 use Rattle.problem_data.specs.Problem.{ProblemData}
-use Rattle.problem_data.specs.Cells.{IsShaped, IsTuple}
+use Rattle.problem_data.specs.Cells.{IsShaped, IsWideTuple}
 
 same-spot : (s t : ℕ) (xs ys : List ℤ) → s ≡ t → xs ≡ ys → (let p : Spot = record { place = s; origin = xs } in let q : Spot = record { place = t; origin = ys } in p ≡ q)
 same-spot s t xs ys e f = λ i. record { place = e i; origin = f i }
@@ -64,7 +64,7 @@ pub record IsTaken (p : ProblemData) (t : Tuple) (made : Tuple) (i : ℕ) : Type
   pub first : (o : ℕ) → o < i → spot made o ≡ spot t o
   pub form : (o : ℕ) → o < length p.objects → length (spot made o).origin ≡ p.dims
 
-module _ (p : ProblemData) (t : Tuple) (tuple : IsTuple p t) where
+module _ (p : ProblemData) (t : Tuple) (tuple : IsWideTuple p t) where
   pub none-taken : (made : Tuple) → IsShaped p made → IsTaken p t made 0
   none-taken made h = record { objects = h.objects; first = λ o b. absurd (omega arith); form = λ o b. (h.each o b).dimensions }
 

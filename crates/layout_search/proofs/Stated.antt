@@ -14,6 +14,7 @@ use Rattle.layout_search.proofs.Members.{member-layout}
 use Rattle.layout_search.proofs.States.{state-is}
 use Rattle.problem_data.specs.Problem.{ProblemData}
 use Rattle.problem_data.specs.WellFormed.{IsWellFormed}
+use Rattle.problem_data.proofs.Hulls.{tuple_is_wide}
 use Rattle.rule_ground.specs.Order.{ComesBefore, order_of, variables_for}
 use Rattle.rule_ground.specs.Start.{first_state}
 use Rattle.rule_ground.proofs.Starts.{names-each, tuples-are}
@@ -36,7 +37,8 @@ module _ (p : ProblemData) (cs : List Cond) (well : IsWellFormed p) (are : AreCo
     (λ m. member-layout p cs None q well are m.0 m.1),
     (λ l.
         let t = l.0 in
-        let own = layout_is_member p.dims cs (first_state p) (order_of p) q well.some (state-is p well) are.fit (names-each p well) (t, (tuples-are p t well).1 l.1.tuple, (are.meaning t l.1.tuple).1 l.1.rules, l.2) in
+        let wide = tuple_is_wide p t well l.1.tuple in
+        let own = layout_is_member p.dims cs (first_state p) (order_of p) q well.some (state-is p well) are.fit (names-each p well) (t, (tuples-are p t well).1 wide, (are.meaning t wide).1 l.1, l.2) in
         ((own.0, tt), full own.1)),
   )
     where

@@ -1,14 +1,14 @@
 -- The first layout of a problem, and the listing of its walk.
-use Rattle.std.specs.Prelude.{◌≡◌, ◌⊎◌, ◌↔◌, ◌≤◌, ◌^◌, ℕ, ℤ, Bool, true, false, List, [], ◌∷◌, length, Option, None, All}
+use Rattle.std.specs.Prelude.{◌≡◌, ◌⊎◌, ◌↔◌, ◌≤◌, ◌^◌, ℕ, ℤ, Bool, true, false, List, [], ◌∷◌, length, Option, None}
 use Rattle.std.specs.Option.{option_map}
 use Rattle.geo_base.specs.Tuple.{Tuple}
 use Rattle.geo_conditions.specs.declared.cond.Cond.{Cond}
 use Rattle.geo_conditions.specs.Conditions.{AllFit, AllHold}
 use Rattle.geo_conditions.specs.Walk.{Tree, values, IsListing, More, End}
 use Rattle.geo_conditions.specs.Walk as walk
-use Rattle.problem_data.specs.Problem.{RuleData, ProblemData}
-use Rattle.problem_data.specs.Cells.{IsTuple}
-use Rattle.problem_data.specs.Layouts.{DemandHolds, IsLayout}
+use Rattle.problem_data.specs.Problem.{ProblemData}
+use Rattle.problem_data.specs.Cells.{IsWideTuple}
+use Rattle.problem_data.specs.Layouts.{IsLayout}
 use Rattle.rule_ground.specs.Order.{variables_for, ComesBefore}
 use Rattle.rule_ground.specs.Start.{first_state}
 use Rattle.derivation.specs.declared.event.Event.{Event}
@@ -16,11 +16,11 @@ use Rattle.whole_derivation.specs.Whole.{IsDerivation}
 use Rattle.layout_search.specs.declared.first.Outcome.{Outcome}
 use Rattle.layout_search.specs.declared.first.Outcome.TheVariants.{Found, Nothing, OutOfBudget}
 
--- each condition names objects and dimensions of the problem, and on each tuple of the problem all are true exactly where
--- every rule holds
+-- each condition names objects and dimensions of the problem, and on each tuple of the problem's
+-- hulls all are true exactly where it is a layout
 pub record AreConditionsOf (p : ProblemData) (cs : List Cond) : Type 0 where
   pub fit : AllFit cs (first_state p)
-  pub meaning : (t : Tuple) → IsTuple p t → AllHold cs t ↔ All (λ (r : RuleData). DemandHolds p t r.demand) p.rules
+  pub meaning : (t : Tuple) → IsWideTuple p t → AllHold cs t ↔ IsLayout p t
 
 -- the walk of a problem under conditions, past the values of a tuple where they are given
 abbrev pub walk_past : ProblemData → List Cond → Option (List ℤ) → Tree
@@ -42,14 +42,15 @@ pub record IsFirstLayout (p : ProblemData) (t : Tuple) : Type 0 where
 abbrev pub HasNoLayout : ProblemData → Type 0
 HasNoLayout p = (t : Tuple) → IsLayout p t → ⊥
 
--- a tuple of the problem on which every condition is true, and which comes before every other one
+-- a tuple of the problem's hulls on which every condition is true, and which comes before every
+-- other one
 pub record IsFirstSolution (p : ProblemData) (cs : List Cond) (t : Tuple) : Type 0 where
-  pub tuple : IsTuple p t
+  pub tuple : IsWideTuple p t
   pub holds : AllHold cs t
-  pub first : (u : Tuple) → IsTuple p u → AllHold cs u → (u ≡ t) ⊎ ComesBefore p t u
+  pub first : (u : Tuple) → IsWideTuple p u → AllHold cs u → (u ≡ t) ⊎ ComesBefore p t u
 
 abbrev pub HasNoSolution : ProblemData → List Cond → Type 0
-HasNoSolution p cs = (t : Tuple) → IsTuple p t → AllHold cs t → ⊥
+HasNoSolution p cs = (t : Tuple) → IsWideTuple p t → AllHold cs t → ⊥
 
 -- the listing of one layout among the first n members of the walk: its full member, and the word that ends it
 abbrev pub Lists : {R : Type 0} → ProblemData → List Cond → ℕ → Outcome R → Type 0

@@ -10,6 +10,8 @@ macro_rules! in_dimensions {
             2 => $call::<2 $(, $more)*>($($argument),*),
             3 => $call::<3 $(, $more)*>($($argument),*),
             4 => $call::<4 $(, $more)*>($($argument),*),
+            5 => $call::<5 $(, $more)*>($($argument),*),
+            6 => $call::<6 $(, $more)*>($($argument),*),
             _ => unreachable!(),
         }
     };

@@ -102,6 +102,7 @@ fn search_in<const K: usize>(
         Derives problem.now conditions.items (λ log. log.events) s.outcome) }
     ensures conditions { IfOk result (λ s. s.conditions.items ≡ conditions.items) }
 {
+    problem.is_said();
     first_solution::<K>(alloc, problem, conditions, budget)
 }
 
@@ -138,13 +139,15 @@ fn unrecorded_in<const K: usize>(
     ensures walk { IfOk result (Lists problem.now conditions.items budget) }
     ensures layout { IfOk result (Finds problem.now) }
 {
+    problem.is_said();
     let searched = unrecorded_once::<K>(alloc, problem, conditions, budget)?;
     Ok(searched.outcome)
 }
 
-/// The first tuple of the problem in its search order on which every condition is true: the first full member of the walk under
-/// these conditions, among its first `budget` members. Where there is none, the search's record shows it. K is the number of
-/// dimensions. The conditions are given back.
+/// The first tuple of the problem's hulls in its search order on which every condition is true: the
+/// first full member of the walk under these conditions, among its first `budget` members. Where
+/// there is none, the search's record shows it. K is the number of dimensions. The conditions are
+/// given back.
 ///
 /// A search of few members and events is made once. A longer one is made again without a record, whose size nothing bounds, and
 /// only where it ends without a solution once more with one.

@@ -4,7 +4,7 @@ ghost use Rattle.std.specs.Prelude.{◌≡◌, ◌==◌, ◌^◌, ◌<◌, ◌�
 ghost use Rattle.std.specs.Option.{option_copied};
 ghost use Rattle.geo_base.specs.Tuple.{Tuple, spot};
 ghost use Rattle.geo_conditions.specs.Conditions.{AllFit};
-ghost use Rattle.problem_data.specs.Cells.{IsShaped, IsTuple};
+ghost use Rattle.problem_data.specs.Cells.{IsShaped, IsTuple, IsWideTuple};
 ghost use Rattle.rule_ground.specs.Start.{first_state};
 ghost use Rattle.trail_search.specs.Next.{HasFound};
 ghost use Rattle.layout_search.specs.FirstLayout.{walk_after};
@@ -22,9 +22,9 @@ use rule_ground::start::start_state;
 use std::alloc::{AllocError, Global};
 use trail_search::Search;
 
-/// A search for the tuples of the problem on which these conditions are true, in its search order, behind the tuple `after`
-/// where one is given, among the first `budget` members of that walk. K is the number of dimensions. There are no more
-/// conditions than numbers can pick.
+/// A search for the tuples of the problem's hulls on which these conditions are true, in its search
+/// order, behind the tuple `after` where one is given, among the first `budget` members of that
+/// walk. K is the number of dimensions. There are no more conditions than numbers can pick.
 pub fn start_search<const K: usize, R: Recorder + Drop>(
     alloc: Global,
     problem: &Problem,
@@ -109,7 +109,7 @@ pub fn take_layout<const K: usize, R: Recorder + Drop>(
     requires found { HasFoundIn problem.now search.now }
     requires room { IsShaped problem.now layout.old }
     ensures found { HasFound search.now layout.new }
-    ensures tuple { IsTuple problem.now layout.new }
+    ensures tuple { IsWideTuple problem.now layout.new }
 {
     problem.is_said();
     for i in 0..problem.objects().len() {
@@ -146,7 +146,7 @@ pub fn found_layout<const K: usize, R: Recorder + Drop>(
     requires dims { problem.now.dims ≡ K }
     requires first { search.now.walk.first ≡ first_state problem.now }
     requires found { HasFoundIn problem.now search.now }
-    ensures { IfOk result (λ l. HasFound search.now l × IsTuple problem.now l) }
+    ensures { IfOk result (λ l. HasFound search.now l × IsWideTuple problem.now l) }
 {
     let mut layout = room_for_layout(alloc, problem)?;
     take_layout(problem, search, &mut layout);

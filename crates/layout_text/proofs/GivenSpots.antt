@@ -1,32 +1,40 @@
--- The numbers, the ranges and the spots at a place of their lists.
-use Rattle.std.proofs.Common.{◌≡◌, ◌<◌, ℕ, ℤ, pos, List, length, map, get_or, sym, ap, ◌∙◌, subst, arith}
-use Rattle.std.proofs.lemmas.List.{get_or-map, length-map}
+-- The numbers, the pieces of ranges and the spots at a place of their lists.
+use Rattle.std.proofs.Common.{◌≡◌, ◌<◌, ℕ, ℤ, pos, List, [], length, map, get_or, sym, ap, ◌∙◌, subst, arith}
+use Rattle.std.specs.Prelude.{slice_index_or}
+use Rattle.std.proofs.lemmas.List.{get_or-map, get_or_default, length-map}
 use Rattle.geo_base.specs.Boxes.{coordinate}
 use Rattle.geo_base.specs.Tuple.{nothing_put, spot}
-use Rattle.problem_data.specs.declared.problem.RangeDef.{RangeDef}
 use Rattle.problem_data.specs.declared.tree.Int.{Int}
-use Rattle.problem_data.specs.Cells.{range_at, IsSpotOf}
+use Rattle.problem_data.specs.Cells.{HasForm, IsSpotOf}
 use Rattle.problem_data.specs.Meaning.{number_of}
 use Rattle.problem_data.specs.Problem.{ObjectData, RangeData, ProblemData}
-use Rattle.problem_data.specs.ProblemView.{range_data}
+use Rattle.problem_data.specs.Pieces.{IsInPieces}
 use Rattle.problem_data.specs.Tuple.{Spot, object_of}
+use Rattle.problem_data.specs.WellFormed.{IsObject}
 use Rattle.layout_text.specs.declared.tree.GroupText.{GroupText}
-use Rattle.layout_text.specs.Faults.{IsInRange, spot_in}
+use Rattle.layout_text.specs.Faults.{AreInPieces, spot_in}
 use Rattle.layout_text.specs.Token.{tuple_in}
 use Rattle.layout_text.specs.View.{group_view}
 
-module _ (rs : List RangeDef) (xs : List Int) (i : ℕ) (r : RangeDef) (x : Int) (same : length rs ≡ length xs) (lt : i < length xs) where
-  range_is : range_at (map range_data rs) i ≡ range_data (get_or rs i r)
-  range_is = get_or-map range_data rs i r (record { low = pos 0; high = pos 0 }) (omega (arith, same, lt))
+module _ (rs : List (List RangeData)) (xs : List Int) (i : ℕ) (r : List RangeData) (x : Int) (same : length rs ≡ length xs) (lt : i < length xs) (is : r ≡ get_or rs i r) where
+  range_is : slice_index_or rs i [] ≡ r
+  range_is = sym (is ∙ get_or_default rs i r [] (omega (arith, same, lt)))
 
   number_is : coordinate (map number_of xs) i ≡ (get_or xs i x).value
   number_is = get_or-map number_of xs i x (pos 0) lt
 
-  pub in_range : IsInRange (range_data (get_or rs i r)) (get_or xs i x).value → IsInRange (range_at (map range_data rs) i) (coordinate (map number_of xs) i)
-  in_range h = subst (λ (s : RangeData). IsInRange s (coordinate (map number_of xs) i)) (sym range_is) (subst (λ (v : ℤ). IsInRange (range_data (get_or rs i r)) v) (sym number_is) h)
+  pub in_pieces : IsInPieces r (get_or xs i x).value → IsInPieces (slice_index_or rs i []) (coordinate (map number_of xs) i)
+  in_pieces h = subst (λ (s : List RangeData). IsInPieces s (coordinate (map number_of xs) i)) (sym range_is) (subst (λ (v : ℤ). IsInPieces r v) (sym number_is) h)
 
-  pub out_of_range : IsInRange (range_at (map range_data rs) i) (coordinate (map number_of xs) i) → IsInRange (range_data (get_or rs i r)) (get_or xs i x).value
-  out_of_range h = subst (λ (v : ℤ). IsInRange (range_data (get_or rs i r)) v) number_is (subst (λ (s : RangeData). IsInRange s (coordinate (map number_of xs) i)) range_is h)
+  pub out_of_pieces : IsInPieces (slice_index_or rs i []) (coordinate (map number_of xs) i) → IsInPieces r (get_or xs i x).value
+  out_of_pieces h = subst (λ (v : ℤ). IsInPieces r v) number_is (subst (λ (s : List RangeData). IsInPieces s (coordinate (map number_of xs) i)) range_is h)
+
+-- a spot of that form whose numbers lie in the pieces is one of the object
+pub made_spot : (p : ProblemData) (o : ObjectData) (s : Spot) → IsObject p o → HasForm p o s → AreInPieces o.pieces s.origin → IsSpotOf p o s
+made_spot p o s is form h = record { form = form; pieces = λ d lt. h d (let e : length o.pieces ≡ p.dims = is.dimensions in omega (arith, e, lt)) }
+
+pub spot_inside : (p : ProblemData) (o : ObjectData) (s : Spot) → IsObject p o → IsSpotOf p o s → AreInPieces o.pieces s.origin
+spot_inside p o s is h d lt = h.pieces d (let e : length o.pieces ≡ p.dims = is.dimensions in omega (arith, e, lt))
 
 -- the spot that a group gives
 pub group_spot : (gs : List GroupText) (i : ℕ) (g : GroupText) → i < length gs → g ≡ get_or gs i g → spot (tuple_in (map group_view gs)) i ≡ spot_in (group_view g)

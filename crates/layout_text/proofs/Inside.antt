@@ -197,7 +197,7 @@ module _ (n : ℕ) where
   line_fault_in p (Some o) l f g (inl h) = same_place f l.name.place words.Order h.1 g.name
   line_fault_in p (Some o) l f g (inr (inl h)) = same_place f l.shape.place words.Unknown h.1 g.shape
   line_fault_in p (Some o) l f g (inr (inr (inl h))) = same_place f (first_place int_place l.origin) words.Limit h.1 (first_in l.origin g.origin)
-  line_fault_in p (Some o) l f g (inr (inr (inr h))) = outside_in (slice_get o.ranges (length (take h.index l.origin))) h.item f h.wrong (at_in (λ (i : Int). i.place ≤ n) l.origin h.index h.item g.origin h.there)
+  line_fault_in p (Some o) l f g (inr (inr (inr h))) = outside_in (slice_get o.pieces (length (take h.index l.origin))) h.item f h.wrong (at_in (λ (i : Int). i.place ≤ n) l.origin h.index h.item g.origin h.there)
 
   behind_in : (o : Option TokenTree) → InToken o → behind_lines n o ≤ n
   behind_in None h = omega arith

@@ -26,14 +26,15 @@ use Rattle.rule_print.proofs.Lexemes.{nothing_ends}
 use Rattle.rule_print.proofs.Respelled.{AllOf, Each}
 use Rattle.problem_data.specs.declared.fault.Fault.{Fault}
 use Rattle.problem_data.specs.declared.tree.Int.{Int}
-use Rattle.problem_data.specs.Problem.{RangeData, ObjectData, ProblemData}
+use Rattle.problem_data.specs.Problem.{RangeData, ObjectData, no_object, ProblemData}
+use Rattle.problem_data.specs.Pieces.{no_range, range_at, IsInPieces, pieces_at}
 use Rattle.problem_text.specs.NameTable as tables
 use Rattle.problem_text.specs.NameTable.{name_table}
 use Rattle.problem_data.specs.Tuple.{Tuple, spot, object_of}
 use Rattle.problem_data.specs.Meaning.{number_of, position_of}
 use Rattle.problem_data.specs.Whole.{IsWhole}
 use Rattle.problem_data.specs.Accepted.{IsSaid}
-use Rattle.problem_data.specs.Cells.{range_at, IsSpotOf, IsTuple}
+use Rattle.problem_data.specs.Cells.{IsSpotOf, IsTuple}
 use Rattle.problem_data.specs.WellFormed.{IsRange, IsObject, IsWellFormed}
 use Rattle.problem_text.proofs.Said.{said_table}
 use Rattle.problem_syntax.proofs.WholeText.{is_whole}
@@ -47,7 +48,7 @@ use Rattle.layout_text.specs.FirstFault.{most_bytes, Accepts, IsOnlyLayout, IsAn
 use Rattle.layout_text.specs.Token.{SaysGroups, tuple_in}
 use Rattle.layout_text.proofs.Right.{tuple_good, layout_good}
 use Rattle.layout_text.proofs.Levels.{layout_reading}
-use Rattle.layout_text.proofs.Tuples.{no_line, no_object, spots_length, spot_at}
+use Rattle.layout_text.proofs.Tuples.{no_line, spots_length, spot_at}
 use Rattle.layout_text.proofs.TextParts.{all_bytes, tokens_from, parts_are_tokens, parts_stand_whole}
 use Rattle.layout_text.proofs.PrintedParts.{token_parts, token_bytes, token_fits, block_parts, block_bytes, block_fits, CanWriteSpot, CanWriteLine}
 use Rattle.layout_text.proofs.SpelledAgain.{SaysSpot, CanReadLine, GivesTuple, SaysTuple, tuple_again, block_again}
@@ -182,10 +183,10 @@ module _ (p : ProblemData) (well : IsWellFormed p) (said : IsSaid p) where
       small : (d : ℕ) → d < length (spot t i).origin → IsTextNumber (get_or (spot t i).origin d (pos 0))
       small d less =
           let n : length (spot t i).origin ≡ p.dims = counted in
-          let m : length (object_of p i).ranges ≡ p.dims = is_object.dimensions in
-          let few : d < length (object_of p i).ranges = omega arith in
-          let r = fits.ranges d few in
-          small_in (range_at (object_of p i).ranges d) (get_or (spot t i).origin d (pos 0)) (is_object.ranges d _ few) r.0 r.1
+          let m : length (object_of p i).pieces ≡ p.dims = is_object.dimensions in
+          let few : d < length (object_of p i).pieces = omega arith in
+          let at = fits.pieces d (omega arith) in
+          small_in (range_at (pieces_at (object_of p i) d) at.0) (get_or (spot t i).origin d (pos 0)) ((is_object.pieces d [] few).ranges at.0 no_range at.1) at.2.0 at.2.1
 
       writes_spot : CanWriteSpot (spot t i)
       writes_spot = record {
@@ -220,7 +221,7 @@ module _ (p : ProblemData) (well : IsWellFormed p) (said : IsSaid p) where
           there_is = get_or-map (name_of_shape p) (object_of p i).shapes at 0 l.shape.name in_list ∙ sym (h.shape ∙ shape_is)
       line_right l h f (inr (inr (inl a))) = a.0 (sym (length-map l.origin number_of) ∙ ap length h.origin ∙ counted)
       line_right l h f (inr (inr (inr a))) =
-          outside (slice_get (object_of p i).ranges (length (take a.index l.origin))) refl a.wrong
+          outside (slice_get (object_of p i).pieces (length (take a.index l.origin))) refl a.wrong
         where
           size : length l.origin ≡ p.dims
           size = sym (length-map l.origin number_of) ∙ ap length h.origin ∙ counted
@@ -238,15 +239,15 @@ module _ (p : ProblemData) (well : IsWellFormed p) (said : IsSaid p) where
               ap number_of (sym (get_or_from_slice_get l.origin a.index a.item a.item a.there)) ∙ sym (get_or-map number_of l.origin a.index a.item (pos 0) here)
               ∙ ap (λ (vs : List ℤ). get_or vs a.index (pos 0)) h.origin
 
-          outside : (o : Option RangeData) → o ≡ slice_get (object_of p i).ranges (length (take a.index l.origin)) → OutsideFault o a.item f → ⊥
+          outside : (o : Option (List RangeData)) → o ≡ slice_get (object_of p i).pieces (length (take a.index l.origin)) → OutsideFault o a.item f → ⊥
           outside None e w = w
           outside (Some r) e w =
-              let few : a.index < length (object_of p i).ranges = (let n : length l.origin ≡ p.dims = size in let m : length (object_of p i).ranges ≡ p.dims = is_object.dimensions in let less : a.index < length l.origin = here in omega arith) in
+              let below : a.index < p.dims = (let n : length l.origin ≡ p.dims = size in let less : a.index < length l.origin = here in omega arith) in
+              let few : a.index < length (object_of p i).pieces = (let m : length (object_of p i).pieces ≡ p.dims = is_object.dimensions in omega arith) in
               let so_far : length (take a.index l.origin) ≡ a.index = length-take-le a.index l.origin (let less : a.index < length l.origin = here in omega arith) in
-              let q : Some r ≡ Some (range_at (object_of p i).ranges a.index) = e ∙ ap (λ (k : ℕ). slice_get (object_of p i).ranges k) so_far ∙ slice_get-get_or (object_of p i).ranges a.index _ few in
-              let same : r ≡ range_at (object_of p i).ranges a.index = cc in
-              let inside = fits.ranges a.index few in
-              w.0 (subst (λ (s : RangeData). (s.low ≤ℤ a.item.value) × (a.item.value ≤ℤ s.high)) (sym same) (subst (λ (v : ℤ). ((range_at (object_of p i).ranges a.index).low ≤ℤ v) × (v ≤ℤ (range_at (object_of p i).ranges a.index).high)) (sym value) (inside.0, inside.1)))
+              let q : Some r ≡ Some (pieces_at (object_of p i) a.index) = e ∙ ap (λ (k : ℕ). slice_get (object_of p i).pieces k) so_far ∙ slice_get-get_or (object_of p i).pieces a.index _ few in
+              let same : r ≡ pieces_at (object_of p i) a.index = cc in
+              w.0 (subst (λ (s : List RangeData). IsInPieces s a.item.value) (sym same) (subst (λ (v : ℤ). IsInPieces (pieces_at (object_of p i) a.index) v) (sym value) (fits.pieces a.index below)))
 
     writes_spots : AllOf CanWriteSpot t
     writes_spots = all_of CanWriteSpot t nothing_put (λ i lt. writes_spot i (let e : length t ≡ length p.objects = sized in omega arith))

@@ -9,19 +9,20 @@ use Rattle.geo_base.specs.Tuple.{nothing_put}
 use Rattle.geo_base.specs.Boxes.{coordinate}
 use Rattle.rule_syntax.specs.declared.tree.PlacedName.{PlacedName}
 use Rattle.problem_data.specs.declared.tree.Int.{Int}
-use Rattle.problem_data.specs.Problem.{RangeData, ObjectData, ProblemData}
+use Rattle.problem_data.specs.Problem.{RangeData, ObjectData, no_object, ProblemData}
+use Rattle.problem_data.specs.Pieces.{IsInPieces, pieces_at}
 use Rattle.problem_data.specs.Tuple.{Spot, Tuple, spot, object_of}
 use Rattle.problem_data.specs.Meaning.{number_of, position_of}
 use Rattle.problem_data.specs.Least.{fault}
 use Rattle.problem_data.specs.Faults.{int_place}
-use Rattle.problem_data.specs.Cells.{range_at, HasForm, IsSpotOf, IsTuple}
+use Rattle.problem_data.specs.Cells.{HasForm, IsSpotOf, IsTuple}
 use Rattle.problem_data.specs.WellFormed.{IsObject, IsWellFormed}
-use Rattle.problem_data.proofs.Signs.{at_most}
 use Rattle.problem_data.proofs.NoFault.{NoFault, none_among, counted}
 use Rattle.problem_text.proofs.Positions.{Made, made_or_not}
 use Rattle.layout_text.specs.Tree.{LineTree, LayoutTree}
-use Rattle.layout_text.specs.Faults.{shape_names, name_of_shape, spot_of, spots_of, tuple_of, IsInRange, OutsideFault, LineFault, behind_lines, IsFault}
+use Rattle.layout_text.specs.Faults.{shape_names, name_of_shape, spot_of, spots_of, tuple_of, OutsideFault, LineFault, behind_lines, IsFault}
 use Rattle.layout_text.specs.FirstFault.{Accepts}
+use Rattle.layout_text.proofs.InPieces.{in_some}
 
 abbrev pub nothing : PlacedName
 nothing = record { place = 0; name = [] }
@@ -29,9 +30,6 @@ nothing = record { place = 0; name = [] }
 -- no line, and no object
 abbrev pub no_line : LineTree
 no_line = record { name = nothing; shape = nothing; origin = [] }
-
-abbrev pub no_object : ObjectData
-no_object = record { name = []; shapes = []; ranges = []; attributes = [] }
 
 -- ---- the list of spots
 
@@ -122,21 +120,21 @@ module _ (p : ProblemData) (end : ℕ) (t : LayoutTree) (right : NoFault (IsFaul
     no_int : Int
     no_int = record { place = 0; value = pos 0 }
 
-    inside : (d : ℕ) → d < length o.ranges → IsInRange (range_at o.ranges d) (coordinate (map number_of l.origin) d)
-    inside d less =
-        let few : d < length l.origin = (let e : length l.origin ≡ p.dims = all_counted in let g : length o.ranges ≡ p.dims = is_object.dimensions in omega arith) in
-        let r : RangeData = range_at o.ranges d in
+    inside : (d : ℕ) → d < p.dims → IsInPieces (pieces_at o d) (coordinate (map number_of l.origin) d)
+    inside d below =
+        let less : d < length o.pieces = (let g : length o.pieces ≡ p.dims = is_object.dimensions in omega arith) in
+        let few : d < length l.origin = (let e : length l.origin ≡ p.dims = all_counted in omega arith) in
+        let r : List RangeData = pieces_at o d in
         let x : Int = get_or l.origin d no_int in
         let so_far : length (take d l.origin) ≡ d = length-take-le d l.origin (omega arith) in
-        let at : NoFault (OutsideFault (slice_get o.ranges d) x) = subst (λ (n : ℕ). NoFault (OutsideFault (slice_get o.ranges n) x)) so_far (none_among (λ before. OutsideFault (slice_get o.ranges (length before))) l.origin (λ f h. faultless f (inr (inr (inr h)))) d no_int few) in
-        let fits : NoFault (OutsideFault (Some r) x) = subst (λ (s : Option RangeData). NoFault (OutsideFault s x)) (slice_get-get_or o.ranges d _ less) at in
+        let at : NoFault (OutsideFault (slice_get o.pieces d) x) = subst (λ (n : ℕ). NoFault (OutsideFault (slice_get o.pieces n) x)) so_far (none_among (λ before. OutsideFault (slice_get o.pieces (length before))) l.origin (λ f h. faultless f (inr (inr (inr h)))) d no_int few) in
+        let fits : NoFault (OutsideFault (Some r) x) = subst (λ (s : Option (List RangeData)). NoFault (OutsideFault s x)) (slice_get-get_or o.pieces d _ less) at in
         let value : coordinate (map number_of l.origin) d ≡ x.value = get_or-map number_of l.origin d no_int (pos 0) few in
-        subst (λ (v : ℤ). IsInRange r v) (sym value)
-        (at_most r.low x.value (λ n. fits (fault x.place words.Range) ((λ s. n s.0), refl)), at_most x.value r.high (λ n. fits (fault x.place words.Range) ((λ s. n s.1), refl)))
+        subst (λ (v : ℤ). IsInPieces r v) (sym value) (in_some r x.value (λ n. fits (fault x.place words.Range) (n, refl)))
 
     pub is_spot : IsSpotOf p (object_of p i) (spot (tuple_of p t.lines) i)
     unfolding o l
-    is_spot = subst (λ (s : Spot). IsSpotOf p (get_or p.objects i no_object) s) (sym (spot_at p p.objects t.lines i lt (let e : length t.lines ≡ length p.objects = as_many in omega arith))) (record { form = form; ranges = inside })
+    is_spot = subst (λ (s : Spot). IsSpotOf p (get_or p.objects i no_object) s) (sym (spot_at p p.objects t.lines i lt (let e : length t.lines ≡ length p.objects = as_many in omega arith))) (record { form = form; pieces = inside })
 
   -- the lines give a tuple
   pub is_tuple : IsWellFormed p → IsTuple p (tuple_of p t.lines)

@@ -5,7 +5,9 @@ use Rattle.std.specs.List.{Contains}
 use Rattle.geo_tokens.specs.declared.fault.FaultWord.TheVariants as words
 use Rattle.problem_data.specs.declared.fault.Fault.{Fault}
 use Rattle.problem_data.specs.declared.tree.Int.{Int}
+use Rattle.geo_base.specs.Boxes.{coordinate}
 use Rattle.problem_data.specs.Problem.{RangeData, ObjectData, ProblemData}
+use Rattle.problem_data.specs.Pieces.{IsInPieces}
 use Rattle.problem_data.specs.Tuple.{Spot, Tuple}
 use Rattle.problem_data.specs.Meaning.{number_of, position_of}
 use Rattle.problem_data.specs.Least.{fault}
@@ -52,21 +54,22 @@ ShapeFault p o l f = (Contains (shape_names p o) l.shape.name → ⊥) × (f ≡
 abbrev pub CountFault : ℕ → List Int → Fault → Type 0
 CountFault k = Miscounted int_place k
 
-abbrev pub IsInRange : RangeData → ℤ → Type 0
-IsInRange r v = (r.low ≤ℤ v) × (v ≤ℤ r.high)
+-- each number lies in a piece of its range
+abbrev pub AreInPieces : List (List RangeData) → List ℤ → Type 0
+AreInPieces ranges c = (d : ℕ) → d < length ranges → IsInPieces (slice_index_or ranges d []) (coordinate c d)
 
--- `range` at a coordinate outside its range, where there is one for it
-abbrev pub OutsideFault : Option RangeData → Int → Fault → Type 0
+-- `range` at a coordinate in no piece of its range, where there is one for it
+abbrev pub OutsideFault : Option (List RangeData) → Int → Fault → Type 0
 OutsideFault None x f = ⊥
-OutsideFault (Some r) x f = (IsInRange r x.value → ⊥) × (f ≡ fault x.place words.Range)
+OutsideFault (Some pieces) x f = (IsInPieces pieces x.value → ⊥) × (f ≡ fault x.place words.Range)
 
-abbrev pub RangesFault : List RangeData → List Int → Fault → Type 0
-RangesFault rs = Among (λ before. OutsideFault (slice_get rs (length before)))
+abbrev pub PiecesFault : List (List RangeData) → List Int → Fault → Type 0
+PiecesFault ranges = Among (λ before. OutsideFault (slice_get ranges (length before)))
 
 -- of a line and its object; with no object for it, the line is one too many
 abbrev pub LineFault : ProblemData → Option ObjectData → LineTree → Fault → Type 0
 LineFault p None l f = f ≡ fault l.name.place words.Order
-LineFault p (Some o) l f = NameFault o l f ⊎ ShapeFault p o l f ⊎ CountFault p.dims l.origin f ⊎ RangesFault o.ranges l.origin f
+LineFault p (Some o) l f = NameFault o l f ⊎ ShapeFault p o l f ⊎ CountFault p.dims l.origin f ⊎ PiecesFault o.pieces l.origin f
 
 abbrev pub LinesFault : ProblemData → List LineTree → Fault → Type 0
 LinesFault p = Among (λ before. LineFault p (slice_get p.objects (length before)))

@@ -1,3 +1,6 @@
+//! Writes layouts and tokens. Nothing here takes memory, so that a listing over a quiet sink can
+//! stop for want of room alone.
+
 ghost use Rattle.std.specs.Prelude.{◌≡◌, ◌+◌, ◌<◌, codes, decimal, length, flat_map, drop};
 ghost use Rattle.geo_base.specs.Boxes.{coordinate};
 ghost use Rattle.geo_base.specs.Tuple.{spot};

@@ -11,6 +11,7 @@ mod groups;
 mod laws;
 mod lines;
 mod names;
+mod pieces;
 mod read;
 mod spots;
 mod syntax;

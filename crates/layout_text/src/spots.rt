@@ -1,36 +1,28 @@
 //! The tuple that the groups of a token give.
 
 ghost use Rattle.std.specs.Prelude.{◌≡◌, ◌≤◌, ◌↔◌, IsTrue, IfOk, length, map};
-ghost use Rattle.problem_data.specs.Cells.{IsInRanges, IsSpotOf, IsTuple};
+ghost use Rattle.problem_data.specs.Cells.{HasForm, IsSpotOf, IsTuple};
 ghost use Rattle.problem_data.specs.Meaning.{number_of};
-ghost use Rattle.problem_data.specs.ProblemView.{range_data};
 ghost use Rattle.problem_data.specs.WellFormed.{IsObject};
-ghost use Rattle.layout_text.specs.Faults.{IsInRange, spot_in};
+ghost use Rattle.layout_text.specs.Faults.{AreInPieces, spot_in};
 ghost use Rattle.layout_text.specs.Token.{tuple_in};
 ghost use Rattle.layout_text.specs.View.{group_view};
 
+use crate::pieces::is_in_pieces;
 use crate::tree::GroupText;
 use geo_conditions::Layout;
-use problem_data::problem::{ObjectDef, Problem, RangeDef};
+use problem_data::problem::{ObjectDef, PiecesDef, Problem};
 use problem_data::tree::Int;
 use problem_syntax::numbers::values;
 use std::alloc::{AllocError, Global};
 
-// Whether the number lies in the range.
-fn is_in_range(range: &RangeDef, number: Int) -> bool
-    ensures { IsTrue result ↔ IsInRange (range_data range.now) number.value }
-{
-    range.low <= number.value && number.value <= range.high
-}
-
-// Whether each number lies in its range.
-fn are_in_ranges(ranges: &[RangeDef], origin: &[Int]) -> bool
-    requires { length ranges.now ≡ length origin.now }
-    ensures { IsTrue result
-        ↔ IsInRanges (map range_data ranges.now) (map number_of origin.now) }
+// Whether each number lies in a piece of its range.
+fn are_in_pieces(pieces: &[PiecesDef], origin: &[Int]) -> bool
+    requires { length pieces.now ≡ length origin.now }
+    ensures { IsTrue result ↔ AreInPieces pieces.now (map number_of origin.now) }
 {
     for (i, number) in origin.iter().enumerate() {
-        if !is_in_range(&ranges[i], *number) {
+        if !is_in_pieces(&pieces[i], *number) {
             return false;
         }
     }
@@ -44,15 +36,24 @@ fn has_place(object: &ObjectDef, place: usize) -> bool
     1 <= place && place <= object.shapes().len()
 }
 
-// Whether the group has a place of the object's list, and an origin in the object's ranges.
+// Whether the group has a place of the object's list, and as many coordinates as there are
+// dimensions.
+fn has_form(problem: &Problem, object: &ObjectDef, group: &GroupText) -> bool
+    ensures { IsTrue result ↔ HasForm problem.now object.now (spot_in (group_view group.now)) }
+{
+    let origin = group.origin.as_slice();
+    has_place(object, group.shape as usize) && origin.len() == problem.dims()
+}
+
+// Whether the group has a place of the object's list, and an origin in pieces of its ranges.
 fn is_spot(problem: &Problem, object: &ObjectDef, group: &GroupText) -> bool
     requires { IsObject problem.now object.now }
     ensures { IsTrue result ↔ IsSpotOf problem.now object.now (spot_in (group_view group.now)) }
 {
-    let origin = group.origin.as_slice();
-    has_place(object, group.shape as usize)
-        && origin.len() == problem.dims()
-        && are_in_ranges(object.ranges(), origin)
+    if !has_form(problem, object, group) {
+        return false;
+    }
+    are_in_pieces(object.pieces(), group.origin.as_slice())
 }
 
 /// Whether the groups give a tuple of the problem.

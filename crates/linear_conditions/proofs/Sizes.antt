@@ -13,9 +13,10 @@ use Rattle.geo_base.specs.Tuple.{Tuple, Spot, spot, nothing_put}
 use Rattle.geo_conditions.specs.declared.form.Term.{Term}
 use Rattle.geo_conditions.specs.Form.{Sum}
 use Rattle.geo_conditions.specs.Conditions.{value}
-use Rattle.problem_data.specs.Problem.{RangeData, ProblemData}
+use Rattle.problem_data.specs.Problem.{RangeData, no_object, ProblemData}
+use Rattle.problem_data.specs.Pieces.{no_range, range_at, pieces_at}
 use Rattle.problem_data.specs.Tuple.{object_of}
-use Rattle.problem_data.specs.Cells.{IsTuple, range_at}
+use Rattle.problem_data.specs.Cells.{IsTuple}
 use Rattle.problem_data.specs.WellFormed.{IsRange, IsWellFormed}
 use Rattle.linear_conditions.specs.Sums.{is_bounded, fits_sum}
 use Rattle.linear_conditions.proofs.SumLaws.{number_on, term_value, terms_value}
@@ -66,11 +67,13 @@ module _ (p : ProblemData) (t : Tuple) (w : IsWellFormed p) (tuple : IsTuple p t
   coordinate-there : (o d : ℕ) → o < length p.objects → d < length (spot t o).origin → IsNear (10 ^ 6) (number_on t o d)
   coordinate-there o d h k =
       let s = tuple.each o h in
-      let i = w.objects o (record { name = []; shapes = []; ranges = []; attributes = [] }) h in
+      let i = w.objects o no_object h in
       let e = s.form.dimensions in
       let f = i.dimensions in
-      let l : d < length (object_of p o).ranges = omega arith in
-      small-range (range_at (object_of p o).ranges d) (number_on t o d) (i.ranges d (record { low = pos 0; high = pos 0 }) l) (s.ranges d l)
+      let l : d < length (object_of p o).pieces = omega arith in
+      let m : d < p.dims = omega arith in
+      let has = s.pieces d m in
+      small-range (range_at (pieces_at (object_of p o) d) has.0) (number_on t o d) ((i.pieces d [] l).ranges has.0 no_range has.1) has.2
 
   -- each coordinate of a tuple is small
   pub coordinate-near : (o d : ℕ) → IsNear (10 ^ 6) (number_on t o d)

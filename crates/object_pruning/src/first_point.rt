@@ -10,8 +10,8 @@ ghost use Rattle.sweep.specs.Picks.{ArePicks, picked};
 ghost use Rattle.sweep.specs.Sweep.{IsCovered, part_before};
 ghost use Rattle.object_pruning.specs.InRows.{AreRows};
 
-use super::region_sweep::first_point_in;
-use super::rows::Rows;
+use crate::region_sweep::first_point_in;
+use crate::rows::Rows;
 use derivation::Recorder;
 use geo_base::{MAX_DIMS, Point, Way};
 use geo_conditions::{ObjId, State};

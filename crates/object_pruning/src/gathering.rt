@@ -9,7 +9,7 @@ ghost use Rattle.object_pruning.specs.Gathered.{AreGathered, GoesOn, HoldParts, 
 ghost use Rattle.object_pruning.specs.InRows.{AreRows, AreSomeGroups, HaveNumber, IsSomeGroup};
 ghost use Rattle.object_pruning.specs.Runs.{AreRuns, HaveBetween, IsInGroup, IsRun, row};
 
-use super::rows::{Group, Rows, Run};
+use crate::rows::{Group, Rows, Run};
 use geo_base::{KBox, MAX_DIMS};
 use geo_conditions::{ObjId, State};
 use indexical::{ForbiddenPart, Indexical};

@@ -8,11 +8,11 @@ ghost use Rattle.object_pruning.specs.InRows.{AreRows};
 ghost use Rattle.object_pruning.specs.Kept.{AllSupport};
 ghost use Rattle.object_pruning.specs.Pruning.{CanBe};
 
-use super::kept::{
+use crate::kept::{
     Placed, end_of, end_slot, end_stands, is_there, keep, kept_in, place_slot, place_stands,
 };
-use super::rows::Rows;
-use super::unrefuted::is_unrefuted;
+use crate::rows::Rows;
+use crate::unrefuted::is_unrefuted;
 use geo_base::MAX_DIMS;
 use geo_conditions::{ObjId, State};
 use indexical::Indexical;

@@ -12,9 +12,9 @@ ghost use Rattle.object_pruning.specs.Kept.{placed};
 ghost use Rattle.object_pruning.specs.Pruning.{IsSmallBox};
 ghost use Rattle.object_pruning.specs.InRows.{AreRows};
 
-use super::kept::Placed;
-use super::region_sweep::first_point_in;
-use super::rows::Rows;
+use crate::kept::Placed;
+use crate::region_sweep::first_point_in;
+use crate::rows::Rows;
 use derivation::NoRecord;
 use geo_base::{KBox, MAX_DIMS, Way};
 use geo_conditions::{ObjId, State};

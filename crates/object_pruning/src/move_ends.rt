@@ -13,11 +13,11 @@ ghost use Rattle.object_pruning.specs.Record.{with_end};
 ghost use Rattle.object_pruning.specs.Same.{SameBut};
 ghost use Rattle.object_pruning.specs.InRows.{AreRows};
 
-use super::hints::knows_end;
-use super::kept::{Placed, end_of, end_slot, keep_found};
-use super::lasting::lasting_point;
-use super::outer_points::sought_end;
-use super::rows::Rows;
+use crate::hints::knows_end;
+use crate::kept::{Placed, end_of, end_slot, keep_found};
+use crate::lasting::lasting_point;
+use crate::outer_points::sought_end;
+use crate::rows::Rows;
 use derivation::Recorder;
 use geo_base::MAX_DIMS;
 use geo_conditions::ObjId;

@@ -14,10 +14,10 @@ ghost use Rattle.derivation.specs.Chains.{IsLed};
 ghost use Rattle.object_pruning.specs.Record.{AreListed, IsNotBeyond, ListsPlace, end_side, with_end};
 ghost use Rattle.object_pruning.specs.InRows.{AreRows};
 
-use super::first_point::first_point;
-use super::kept::{Placed, end_of};
-use super::places::last_place;
-use super::rows::Rows;
+use crate::first_point::first_point;
+use crate::kept::{Placed, end_of};
+use crate::places::last_place;
+use crate::rows::Rows;
 use derivation::{Event, Recorder};
 use geo_base::{MAX_DIMS, Way};
 use geo_conditions::{ObjId, State};

@@ -14,10 +14,10 @@ ghost use Rattle.derivation.specs.Chains.{IsLed};
 ghost use Rattle.object_pruning.specs.Same.{SameBut};
 ghost use Rattle.object_pruning.specs.InRows.{AreRows};
 
-use super::first_point::first_point;
-use super::hints::knows_place;
-use super::kept::{Placed, keep_found, place_slot};
-use super::rows::Rows;
+use crate::first_point::first_point;
+use crate::hints::knows_place;
+use crate::kept::{Placed, keep_found, place_slot};
+use crate::rows::Rows;
 use derivation::{Event, Recorder};
 use geo_base::{MAX_DIMS, Point, Way};
 use geo_conditions::{MAX_SHAPES, ObjId, State};

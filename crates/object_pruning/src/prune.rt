@@ -14,10 +14,10 @@ ghost use Rattle.object_pruning.specs.Record.{AreEventsOfPruning};
 ghost use Rattle.object_pruning.specs.Same.{SameBut};
 ghost use Rattle.object_pruning.specs.InRows.{AreRows};
 
-use super::kept::Placed;
-use super::move_ends::move_ends;
-use super::places::drop_places;
-use super::rows::Rows;
+use crate::kept::Placed;
+use crate::move_ends::move_ends;
+use crate::places::drop_places;
+use crate::rows::Rows;
 use derivation::{Event, Recorder};
 use geo_base::MAX_DIMS;
 use geo_conditions::ObjId;

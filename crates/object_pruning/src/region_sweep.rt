@@ -1,6 +1,6 @@
 //! The first point of a region of an object.
 
-ghost use Rattle.std.specs.Prelude.{◌≡◌, ◌+◌, ◌-◌, ◌^◌, ◌<◌, ◌≤◌, false, true, length, map, min, IfOk, IsOk, MatchOption, OnErr, IfSome};
+ghost use Rattle.std.specs.Prelude.{◌≡◌, ◌+◌, ◌-◌, ◌^◌, ◌<◌, ◌≤◌, false, take, true, length, map, min, IfOk, IsOk, MatchOption, OnErr, IfSome};
 ghost use Rattle.geo_conditions.specs.Conditions.{AllFit};
 ghost use Rattle.geo_conditions.specs.Regions.{region_of};
 ghost use Rattle.geo_conditions.specs.Supported.{HasNoPoint, IsFirstPoint};
@@ -9,11 +9,12 @@ ghost use Rattle.sweep.specs.Parts.{AreParts};
 ghost use Rattle.sweep.specs.Picks.{ArePicks, picked};
 ghost use Rattle.sweep.specs.Sweep.{IsCovered, part_before};
 ghost use Rattle.object_pruning.specs.Pruning.{IsSmallBox};
+ghost use Rattle.object_pruning.specs.Gathered.{AreGathered, HoldParts};
 ghost use Rattle.object_pruning.specs.InRows.{AreRows};
 
-use super::counted::{Counted, answer};
-use super::gathering::{GATHERED, gather, no_parts};
-use super::rows::Rows;
+use crate::counted::{Counted, answer};
+use crate::gathering::{GATHERED, PARTS, gather, no_parts};
+use crate::rows::Rows;
 use derivation::Recorder;
 use geo_base::{KBox, MAX_DIMS, Point, Steps, Way};
 use geo_conditions::{ObjId, State};
@@ -130,6 +131,50 @@ fn sweep_region<const K: usize, I: Indexical<K>, R: Recorder>(
     )
 }
 
+// No parts, of any numbers.
+#[inline(always)]
+fn without_parts<const K: usize, I: Indexical<K>>(
+    _s: &State<K>,
+    _o: ObjId,
+    _place: u8,
+    _region: &KBox<K>,
+    _list: &[I],
+    _live: &[u32],
+) -> [Option<KBox<K>>; PARTS]
+    requires k { K ≤ MAX_DIMS }
+    ensures { HoldParts K (map I.cond _list.now) _s.now _o.0 _place (region_of _region.now)
+        _live.now result }
+{
+    no_parts()
+}
+
+// The numbers that were gathered: the first ones of the list. They are picks, and `parts` are theirs.
+#[inline(always)]
+fn gathered<'a, const K: usize, I: Indexical<K>>(
+    _s: &State<K>,
+    _o: ObjId,
+    _place: u8,
+    _region: &KBox<K>,
+    _list: &[I],
+    _picks: &[u32],
+    live: &'a [u32],
+    count: usize,
+    _parts: &[Option<KBox<K>>],
+) -> &'a [u32]
+    requires room { count ≤ length live.now }
+    requires picks { ArePicks (length _list.now) _picks.now }
+    requires gathered { AreGathered K (map I.cond _list.now) _s.now _o.0 _place
+        (region_of _region.now) _picks.now count live.now }
+    requires parts { HoldParts K (map I.cond _list.now) _s.now _o.0 _place
+        (region_of _region.now) live.now _parts.now }
+    ensures those { result.now ≡ take count live.now }
+    ensures picks { ArePicks (length _list.now) result.now }
+    ensures parts { AreParts K (map I.cond _list.now) result.now _s.now _o.0 _place
+        (region_of _region.now) _parts.now }
+{
+    &live[0..count]
+}
+
 /// The first point of a region, in the way's order, at which no picked condition is refuted with the object at
 /// that place. None where there is no such point. The events that are added are a cover of the region, or of the part of it
 /// that comes before the point in the lead dimension. The only error is want of memory, and then a refusal was counted.
@@ -163,11 +208,14 @@ pub fn first_point_in<const K: usize, I: Indexical<K>, R: Recorder>(
     ensures grows { Grows R.keeps R.list R.refusals rec.old rec.new result }
 {
     let mut live = [0u32; GATHERED];
-    let mut parts = no_parts();
+    let mut parts = without_parts(s, o, place, region, list, &live);
     match gather(
         s, o, place, region, list, picks, rows, &mut live, &mut parts,
     ) {
-        Some(count) => sweep_region(s, o, place, region, list, &live[0..count], &parts, way, rec),
+        Some(count) => {
+            let those = gathered(s, o, place, region, list, picks, &live, count, &parts);
+            sweep_region(s, o, place, region, list, those, &parts, way, rec)
+        }
         None => sweep_region(s, o, place, region, list, picks, &[], way, rec),
     }
 }

@@ -5,8 +5,8 @@ ghost use Rattle.sweep.specs.Picks.{ArePicks};
 ghost use Rattle.object_pruning.specs.InRows.{AreRows, AreRowsBelow, PutsNumber};
 ghost use Rattle.object_pruning.specs.Runs.{row};
 
-use super::rows::{Group, Rows};
-use super::run_making::{is_same_object, with_runs};
+use crate::rows::{Group, Rows};
+use crate::run_making::{is_same_object, with_runs};
 use geo_conditions::{MAX_SHAPES, ObjId};
 use indexical::{AnyIndexical, Facing};
 use std::alloc::{AllocError, Global};

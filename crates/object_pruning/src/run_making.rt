@@ -3,7 +3,7 @@
 ghost use Rattle.std.specs.Prelude.{◌≡◌, ◌≢◌, ℕ, ◌+◌, ◌<◌, true, length, IfOk, IsTrue, OnOk};
 ghost use Rattle.object_pruning.specs.Runs.{AreRuns, AreRunsTo, row};
 
-use super::rows::{Group, Rows, Run};
+use crate::rows::{Group, Rows, Run};
 use geo_conditions::ObjId;
 use std::alloc::{AllocError, Global};
 

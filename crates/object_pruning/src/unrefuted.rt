@@ -10,11 +10,11 @@ ghost use Rattle.object_pruning.specs.InRows.{AreRows, AreSomeGroups, HaveNumber
 ghost use Rattle.object_pruning.specs.Runs.{AreRuns, HaveBetween, IsInGroup, IsRun};
 ghost use Rattle.object_pruning.specs.Kept.{placed};
 
-use super::gathering::{
+use crate::gathering::{
     can_be_in_the_way, group_at, is_passed_over, row_at, run_at, sole_place_of,
 };
-use super::kept::Placed;
-use super::rows::{Group, Rows, Run};
+use crate::kept::Placed;
+use crate::rows::{Group, Rows, Run};
 use geo_base::MAX_DIMS;
 use geo_conditions::{ObjId, State};
 use indexical::Indexical;

@@ -1,9 +1,12 @@
+//! Why an object of a state is not supported: a place or an end of an interval without a point, or
+//! an object without any.
+
 ghost use Rattle.std.specs.Prelude.{◌<◌, ◌≤◌, length, MatchOption};
 ghost use Rattle.std.specs.List.{All};
 ghost use Rattle.geo_conditions.specs.Conditions.{FitsIn};
 ghost use Rattle.plain_propagate.specs.Defects.{IsDefect, PlacesFine, EndsFine, ObjectFine};
 
-use super::points::{end_supported, place_supported};
+use crate::points::{end_supported, place_supported};
 use geo_base::MAX_DIMS;
 use geo_conditions::{Cond, ObjId, State};
 

@@ -1,3 +1,5 @@
+//! Narrows a state object by object, one defect after another, until none is left.
+
 ghost use Rattle.std.specs.Prelude.{◌≡◌, ℕ, ◌+◌, ◌-◌, ◌^◌, ◌<◌, ◌≤◌, length, false, true, min, MatchBool, IfOk, IsOk, OnOk, OnErr};
 ghost use Rattle.std.specs.List.{All};
 ghost use Rattle.geo_conditions.specs.Conditions.{FitsIn};
@@ -9,9 +11,9 @@ ghost use Rattle.plain_propagate.specs.Passes.{IsNarrower, Repairs, Passes};
 ghost use Rattle.derivation.specs.Chains.{IsLed, IsClosed};
 ghost use Rattle.plain_propagate.specs.Recorded.{BlamesOutcome, RecordsOutcome};
 
-use super::defects::{Defect, object_defect};
-use super::points::first_refuted;
-use super::recording::{record_dead, record_drop, record_gone, record_lower, record_raise};
+use crate::defects::{Defect, object_defect};
+use crate::points::first_refuted;
+use crate::recording::{record_dead, record_drop, record_gone, record_lower, record_raise};
 use derivation::Recorder;
 use geo_base::MAX_DIMS;
 use geo_conditions::{Cond, ObjId};

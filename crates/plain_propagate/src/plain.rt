@@ -1,10 +1,13 @@
+//! Propagation by looking at each point. It is slow and short: the propagator of the program is
+//! compared with it in tests, since both have to leave the same state.
+
 ghost use Rattle.std.specs.Prelude.{◌≡◌, ◌+◌, ◌-◌, ◌^◌, ◌≤◌, length, true, false, min, IfOk, IsOk, OnErr};
 ghost use Rattle.std.specs.List.{All};
 ghost use Rattle.geo_conditions.specs.Conditions.{FitsIn};
 ghost use Rattle.derivation.specs.Events.{Grows};
 ghost use Rattle.geo_state.specs.Settle.{BlamesFirst, SettlesOr, Records};
 
-use super::mending::{Outcome, pass};
+use crate::mending::{Outcome, pass};
 use derivation::Recorder;
 use geo_base::MAX_DIMS;
 use geo_conditions::Cond;

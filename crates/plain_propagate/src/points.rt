@@ -1,3 +1,6 @@
+//! Whether the points of a box are refuted, one after another in the order of their coordinates,
+//! and whether places and ends of intervals have a point that is not.
+
 ghost use Rattle.std.specs.Prelude.{◌≡◌, ◌-◌, ◌<◌, ◌≤◌, ◌≤ℤ◌, length, take, ◌↔◌, IsTrue, true, MatchOption, IfSome};
 ghost use Rattle.std.specs.List.{All};
 ghost use Rattle.geo_conditions.specs.Conditions.{FitsIn};

@@ -18,7 +18,7 @@ ghost use Rattle.plain_propagate.specs.Defects.{LacksAll, LacksPoint, LacksLow, 
 ghost use Rattle.derivation.specs.Chains.{IsLed, IsClosed};
 ghost use Rattle.plain_propagate.specs.Recorded.{RecordedCover};
 
-use super::points::{cut_to, first_refuted_at};
+use crate::points::{cut_to, first_refuted_at};
 use derivation::{Event, Recorder};
 use geo_base::{KBox, MAX_DIMS};
 use geo_conditions::{Cond, ObjId, State};

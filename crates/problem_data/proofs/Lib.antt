@@ -1,6 +1,9 @@
 pub mod Signs
 pub mod NoFault
+pub mod NoPieceFault
 pub mod Sound
+pub mod Ends
+pub mod Hulls
 pub mod Yielded
 pub mod Accepted
 pub mod MetNames

@@ -51,21 +51,21 @@ all_mapped g P xs a h k d l =
     let m : k < length xs = subst (λ n. k < n) (length-map xs g) l in
     subst P (sym (get_or-map g xs k a d m)) (h k m)
 
+pub no_range_text : RangeText
+no_range_text = record { low = record { place = 0; value = pos 0 }; high = record { place = 0; value = pos 0 } }
+
+pub range_fits : (r : RangeText) → NoFault (RangeFault r) → IsRange (range_of r)
+range_fits r n =
+    let low = small_number r.low (λ f w. n f (inl w)) in
+    let high = small_number r.high (λ f w. n f (inr (inl w))) in
+    record {
+      low = low.0;
+      filled = at_most r.low.value r.high.value (λ down. n (fault r.low.place words.Range) (inr (inr (above r.low.value r.high.value down, refl))));
+      high = high.1;
+    }
+
 pub ranges_fit : (k : ℕ) (rs : List RangeText) → NoFault (RangesFault k rs) → (length (map range_of rs) ≡ k) × All IsRange (map range_of rs)
 ranges_fit k rs h = (
   length-map rs range_of ∙ counted range_place k rs (λ f w. h f (inl w)),
-  all_mapped range_of IsRange rs nothing (λ i l. fits (get_or rs i nothing) (none_among (λ before. RangeFault) rs (λ f w. h f (inr w)) i nothing l)),
+  all_mapped range_of IsRange rs no_range_text (λ i l. range_fits (get_or rs i no_range_text) (none_among (λ before. RangeFault) rs (λ f w. h f (inr w)) i no_range_text l)),
 )
-  where
-    nothing : RangeText
-    nothing = record { low = record { place = 0; value = pos 0 }; high = record { place = 0; value = pos 0 } }
-
-    fits : (r : RangeText) → NoFault (RangeFault r) → IsRange (range_of r)
-    fits r n =
-        let low = small_number r.low (λ f w. n f (inl w)) in
-        let high = small_number r.high (λ f w. n f (inr (inl w))) in
-        record {
-          low = low.0;
-          filled = at_most r.low.value r.high.value (λ down. n (fault r.low.place words.Range) (inr (inr (above r.low.value r.high.value down, refl))));
-          high = high.1;
-        }

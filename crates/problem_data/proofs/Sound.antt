@@ -1,10 +1,10 @@
 -- What statements without a fault spell is well formed.
-use Rattle.std.proofs.Common.{◌≡◌, ◌≢◌, ◌<◌, ◌≤◌, ℕ, ℤ, pos, negsuc, ◌≤ℤ◌, ◌<ℤ◌, Bool, true, false, not, List, [], ◌∷◌, length, take, map, get_or, subst, sym, ◌∙◌, ap, arith, refl, inl, inr, nat_eq, zero-add}
+use Rattle.std.proofs.Common.{◌≡◌, ◌≢◌, ◌<◌, ◌≤◌, ℕ, ℤ, pos, negsuc, ◌≤ℤ◌, ◌<ℤ◌, Bool, true, false, not, ◌==◌, if◌then◌else◌, List, [], ◌∷◌, length, take, map, get_or, subst, sym, ◌∙◌, ap, arith, refl, inl, inr, nat_eq, zero-add}
 use Rattle.std.specs.Prelude.{◌⊎◌, All, AllPairs, Contains}
 use Rattle.std.specs.List.{range_with_len}
 use Rattle.std.specs.Str.{bytes_eq}
 use Rattle.std.proofs.Math.Logic.{⊎_elim}
-use Rattle.std.proofs.lemmas.Bool.{cases_lt, cases_order, false≢true}
+use Rattle.std.proofs.lemmas.Bool.{cases_lt, cases_eq, cases_order, false≢true}
 use Rattle.std.proofs.Math.Bool.{not-not}
 use Rattle.std.proofs.lemmas.Slice.Eq.{bytes_eq-Decides}
 use Rattle.std.proofs.lemmas.List.Sums.{prefix_len_passes, prefix_len_stops}
@@ -15,7 +15,7 @@ use Rattle.std.proofs.lemmas.Bool.Decides.{Decides-eqb}
 use Rattle.std.proofs.lemmas.Map.Made.{is_member-Decides}
 use Rattle.std.proofs.lemmas.List.{get_or-take, get_or_default, length-take, get_or-map, length-map, length-replicate}
 use Rattle.std.proofs.lemmas.List.FromFn.{get_or-range_with_len, length-range_with_len}
-use Rattle.problem_data.specs.Limits.{most_dims}
+use Rattle.problem_data.specs.Limits.{IsVersion, most_dims, most_first_dims, most_dims_in}
 use Rattle.rule_syntax.specs.declared.tree.PlacedName.{PlacedName}
 use Rattle.geo_tokens.specs.Names.{AllDifferent}
 use Rattle.geo_tokens.specs.declared.fault.FaultWord.TheVariants as words
@@ -25,13 +25,16 @@ use Rattle.problem_data.specs.Tree.{BoxTree, ShapeTree, ObjectTree, OrderTree, S
 use Rattle.problem_data.specs.Tree as trees
 use Rattle.problem_data.specs.Least.{fault}
 use Rattle.problem_data.specs.Parts.{Parts}
-use Rattle.problem_data.specs.Faults.{Among, PastLimit, Repeated, NotMade, Miscounted, OffsetsFault, OffsetFault, SizesFault, SizeFault, BoxFault, ShapeFault, ShapesFault, ObjectFault, ObjectsFault, OrderFault, IsComplete, SidesFault, DemandFault, RuleFault, RulesFault, DimsFault, IsDims, IsFault, shapes, objects, orders, rules, dims, count_of, text_of, shape_name, object_name, shape_names, object_names, int_place, side_place}
+use Rattle.problem_data.specs.Faults.{Among, PastLimit, Repeated, NotMade, Miscounted, OffsetsFault, OffsetFault, SizesFault, SizeFault, BoxFault, ShapeFault, ShapesFault, ObjectFault, ObjectsFault, OrderFault, IsComplete, SidesFault, DemandFault, RuleFault, RulesFault, DimsFault, VersionFault, PiecesFault, IsFault, shapes, objects, orders, rules, dims, version, count_of, pieces_place, text_of, shape_name, object_name, shape_names, object_names, int_place, side_place}
 use Rattle.problem_data.specs.Faults as faults
-use Rattle.problem_data.specs.Problem.{ShapeData, RangeData, RuleData, ProblemData}
-use Rattle.problem_data.specs.Meaning.{number_of, box_of, shape_of, object_of, demand_of, rule_of, position_of, order_of, side_of, sides_of, problem_of}
-use Rattle.problem_data.specs.WellFormed.{IsBox, IsObject, IsDemand, IsWellFormed}
+use Rattle.problem_data.specs.declared.tree.RangeText.{RangeText}
+use Rattle.problem_data.specs.Problem.{ShapeData, RuleData, ProblemData}
+use Rattle.problem_data.specs.Meaning.{number_of, box_of, shape_of, range_of, pieces_of, object_of, demand_of, rule_of, position_of, order_of, side_of, sides_of, problem_of}
+use Rattle.problem_data.specs.WellFormed.{IsBox, ArePieces, IsObject, IsSimple, IsDemand, IsWellFormed}
 use Rattle.problem_data.proofs.Signs.{at_most}
 use Rattle.problem_data.proofs.NoFault.{NoFault, none_among, within_limit, counted, size_number, all_mapped, ranges_fit}
+use Rattle.problem_data.proofs.NoPieceFault.{pieces_fit}
+use Rattle.problem_data.proofs.Yielded.{HasParts}
 
 no_int : Int
 no_int = record { place = 0; value = pos 0 }
@@ -136,12 +139,12 @@ positions_differ names ns once made i j d l m e =
 
 -- ---- objects
 
-no_range : RangeData
-no_range = record { low = pos 0; high = pos 0 }
+no_pieces : List RangeText
+no_pieces = []
 
-object_fits : (p : ProblemData) (k : ℕ) (made : List (List ℕ)) (o : ObjectTree) → k ≡ p.dims → length made ≡ length p.shapes → 0 < length o.shapes → NoFault (ObjectFault k made o) → IsObject p (object_of made o)
-object_fits p k made o e m some h =
-    let ranges = ranges_fit k o.ranges (λ f w. h f (inr (inr (inl w)))) in
+object_fits : (p : ProblemData) (second : Bool) (k : ℕ) (made : List (List ℕ)) (o : ObjectTree) → k ≡ p.dims → length made ≡ length p.shapes → HasParts second o → NoFault (ObjectFault k made o) → IsObject p (object_of made o)
+object_fits p second k made o e m has h =
+    let some = has.shapes in
     let n : length (map (position_of made) o.shapes) ≡ length o.shapes = length-map o.shapes (position_of made) in
     let few : length o.shapes ≤ 16 = within_limit 16 o.shapes (λ f w. h f (inl (inl w))) in
     record {
@@ -149,18 +152,22 @@ object_fits p k made o e m some h =
       few = omega (arith, n, few);
       shapes = subst (λ (c : ℕ). All (λ i. i < c) (map (position_of made) o.shapes)) m (made_there made o.shapes (λ f w. h f (inr (inl w))));
       once = positions_differ made o.shapes (λ f w. h f (inl (inr w))) (λ f w. h f (inr (inl w)));
-      dimensions = ranges.0 ∙ e;
-      ranges = ranges.1;
+      dimensions = length-map o.pieces pieces_of ∙ counted pieces_place k o.pieces (λ f w. h f (inr (inr (inl (inl w))))) ∙ e;
+      pieces = all_mapped pieces_of ArePieces o.pieces no_pieces (λ i l. pieces_fit (get_or o.pieces i no_pieces) (none_among (λ before. PiecesFault) o.pieces (λ f w. h f (inr (inr (inl (inr w))))) i no_pieces l) (has.pieces i no_pieces l).0);
     }
 
 no_object : ObjectTree
-no_object = record { name = no_name; shapes = []; ranges = []; attributes = [] }
+no_object = record { name = no_name; shapes = []; pieces = []; attributes = [] }
 
-objects_fit : (p : ProblemData) (k : ℕ) (made : List (List ℕ)) (os : List ObjectTree) → k ≡ p.dims → length made ≡ length p.shapes → All (λ o. 0 < length o.shapes) os → NoFault (ObjectsFault k made os)
+-- in version 1 each range is one piece
+simple_object : (made : List (List ℕ)) (o : ObjectTree) → HasParts false o → IsSimple (object_of made o)
+simple_object made o has = all_mapped pieces_of (λ pieces. length pieces ≡ 1) o.pieces no_pieces (λ i l. length-map (get_or o.pieces i no_pieces) range_of ∙ (has.pieces i no_pieces l).1 refl)
+
+objects_fit : (p : ProblemData) (second : Bool) (k : ℕ) (made : List (List ℕ)) (os : List ObjectTree) → k ≡ p.dims → length made ≡ length p.shapes → All (HasParts second) os → NoFault (ObjectsFault k made os)
     → (length (map (object_of made) os) ≤ 200) × All (IsObject p) (map (object_of made) os)
-objects_fit p k made os e m some h = (
+objects_fit p second k made os e m some h = (
   (let n = length-map os (object_of made) in let c = length-map os object_name in let l = within_limit 200 (map object_name os) (λ f w. h f (inl (inl w))) in omega (arith, n, c, l)),
-  all_mapped (object_of made) (IsObject p) os no_object (λ i l. object_fits p k made (get_or os i no_object) e m (some i no_object l) (none_among (λ before. ObjectFault k made) os (λ f w. h f (inr w)) i no_object l)),
+  all_mapped (object_of made) (IsObject p) os no_object (λ i l. object_fits p second k made (get_or os i no_object) e m (some i no_object l) (none_among (λ before. ObjectFault k made) os (λ f w. h f (inr w)) i no_object l)),
 )
 
 -- ---- rules
@@ -239,13 +246,36 @@ module _ (objects : List (List ℕ)) (distinct : (i j : ℕ) (d : List ℕ) → 
 
 -- ---- the whole
 
--- the number of dimensions that is stated
-dims_fit : (v : Int) → NoFault (DimsFault v) → (0 < count_of v.value) × (count_of v.value ≤ most_dims)
-dims_fit v h = counted_dims v.value (at_most (pos 1) v.value (λ n. h (fault v.place words.Limit) ((λ d. n d.0), refl))) (at_most v.value (pos most_dims) (λ n. h (fault v.place words.Limit) ((λ d. n d.1), refl)))
+-- the version is 1 or 2
+pub version_fits : (v : Int) → NoFault (VersionFault v) → (count_of v.value ≡ 1) ⊎ (count_of v.value ≡ 2)
+version_fits v h = counted_version v.value (λ n. h (fault v.place words.Limit) (n, refl))
   where
-    counted_dims : (k : ℤ) → pos 1 ≤ℤ k → k ≤ℤ pos most_dims → (0 < count_of k) × (count_of k ≤ most_dims)
-    counted_dims (pos n) l m = (omega (arith, ints), omega (arith, ints))
-    counted_dims (negsuc n) l m = absurd (omega (arith, ints))
+    not_one : (n : ℕ) → (n ≡ 1 → ⊥) → (n ≡ 2 → ⊥) → IsVersion (pos n) → ⊥
+    not_one n a b (inl e) = a (ap count_of e)
+    not_one n a b (inr e) = b (ap count_of e)
+
+    none_below : (n : ℕ) → IsVersion (negsuc n) → ⊥
+    none_below n (inl e) = absurd cc
+    none_below n (inr e) = absurd cc
+
+    counted_version : (k : ℤ) → ((IsVersion k → ⊥) → ⊥) → (count_of k ≡ 1) ⊎ (count_of k ≡ 2)
+    counted_version (pos n) h = ⊎_elim (λ e. inl e) (λ a. ⊎_elim (λ e. inr e) (λ b. absurd (h (not_one n a b))) (cases_eq n 2)) (cases_eq n 1)
+    counted_version (negsuc n) h = absurd (h (none_below n))
+
+-- the number of dimensions that is stated
+dims_fit : (v d : Int) → NoFault (DimsFault v d) → (0 < count_of d.value) × (count_of d.value ≤ most_dims_in (count_of v.value))
+dims_fit v d h = counted_dims (most_dims_in (count_of v.value)) d.value (at_most (pos 1) d.value (λ n. h (fault d.place words.Limit) ((λ s. n s.0), refl))) (at_most d.value (pos (most_dims_in (count_of v.value))) (λ n. h (fault d.place words.Limit) ((λ s. n s.1), refl)))
+  where
+    counted_dims : (m : ℕ) (k : ℤ) → pos 1 ≤ℤ k → k ≤ℤ pos m → (0 < count_of k) × (count_of k ≤ m)
+    counted_dims m (pos n) l g = (omega (arith, ints, l), omega (arith, ints, g))
+    counted_dims m (negsuc n) l g = absurd (omega (arith, ints, l))
+
+few_dims : (k v : ℕ) → k ≤ most_dims_in v → k ≤ most_dims
+few_dims k v h = by_test (v == 2) h
+  where
+    by_test : (b : Bool) → k ≤ (if b then most_dims else most_first_dims) → k ≤ most_dims
+    by_test true g = g
+    by_test false g = omega (arith, g)
 
 order_fits : (objects : List ObjectTree) (os : List OrderTree) → NoFault (Repeated (map object_name objects)) → NoFault (Among (OrderFault (object_names objects)) os) → IsOrder (length (object_names objects)) (order_of (object_names objects) os)
 order_fits os [] named h = file_order (length (object_names os))
@@ -255,17 +285,23 @@ sides_fit : (k : ℕ) (ss : List SidesTree) → NoFault (Among (SidesFault k) ss
 sides_fit k [] h = length-replicate k sides.Low
 sides_fit k (s ∷ others) h = length-map s.sides side_of ∙ counted side_place k s.sides (λ f w. none_among (SidesFault k) (s ∷ others) h 0 s (omega arith) f (inr w))
 
-pub sound : (p : Parts) → All (λ (o : ObjectTree). 0 < length o.shapes) p.objects → NoFault (IsFault p) → IsWellFormed (problem_of p)
+pub sound : (p : Parts) → All (HasParts (count_of p.version.value == 2)) p.objects → NoFault (IsFault p) → IsWellFormed (problem_of p)
 sound p some h =
-    let k = dims_fit p.dims (λ f w. h f (dims w)) in
+    let k = dims_fit p.version p.dims (λ f w. h f (dims w)) in
     let made = length-map (map shape_name p.shapes) text_of ∙ (length-map p.shapes shape_name ∙ sym (length-map p.shapes shape_of)) in
-    let things = objects_fit (problem_of p) (count_of p.dims.value) (shape_names p.shapes) p.objects refl made some (λ f w. h f (objects w)) in
+    let things = objects_fit (problem_of p) (count_of p.version.value == 2) (count_of p.dims.value) (shape_names p.shapes) p.objects refl made some (λ f w. h f (objects w)) in
     let order = order_fits p.objects p.orders (λ f w. h f (objects (inl (inr w)))) (λ f w. h f (orders w)) in
     let n : length (object_names p.objects) ≡ length (map (object_of (shape_names p.shapes)) p.objects) = length-map (map object_name p.objects) text_of ∙ (length-map p.objects object_name ∙ sym (length-map p.objects (object_of (shape_names p.shapes)))) in
     let there = subst (λ c. IsOrder c (order_of (object_names p.objects) p.orders)) n order in
     record {
+      version = version_fits p.version (λ f w. h f (version w));
+      simple = λ first. (
+        subst (λ v. count_of p.dims.value ≤ most_dims_in v) first k.1,
+        all_mapped (object_of (shape_names p.shapes)) IsSimple p.objects no_object (λ i l. simple_object (shape_names p.shapes) (get_or p.objects i no_object)
+            (subst (λ v. HasParts (v == 2) (get_or p.objects i no_object)) first (some i no_object l))),
+      );
       some = k.0;
-      dimensions = k.1;
+      dimensions = few_dims (count_of p.dims.value) (count_of p.version.value) k.1;
       boxes = shapes_fit (count_of p.dims.value) p.shapes (λ f w. h f (shapes w));
       few = things.0;
       objects = things.1;

@@ -1,15 +1,18 @@
--- What holds of each value that tokens spell: each object has a shape.
-use Rattle.std.proofs.Common.{◌≡◌, ◌<◌, ℕ, zero, suc, List, [], ◌∷◌, length, subst, arith}
+-- What holds of each value that tokens spell: each object has a shape, and each of its ranges a
+-- piece, of which version 1 has one alone.
+use Rattle.std.proofs.Common.{◌≡◌, ◌<◌, ℕ, zero, suc, List, [], ◌∷◌, length, Bool, true, false, ◌==◌, refl, subst, arith}
 use Rattle.std.specs.Prelude.{Some, All}
 use Rattle.std.specs.List.{filter_map}
 use Rattle.std.proofs.lemmas.List.Elements.{All-cons, All-head, All-tail}
 use Rattle.geo_tokens.specs.declared.token.Token.{Token}
 use Rattle.geo_tokens.specs.Words.{Lang, Pure, Bind, cut, both, Either, left, right, there, not_there, UpTo, Many}
 use Rattle.rule_syntax.specs.declared.tree.PlacedName.{PlacedName}
+use Rattle.problem_data.specs.declared.tree.RangeText.{RangeText}
 use Rattle.problem_data.specs.Tree.{ObjectTree, StatementTree, a_shape, an_object, an_order, some_sides, a_macro, a_rule, ProblemTree}
 use Rattle.rule_syntax.specs.Grammar.{Named}
 use Rattle.problem_data.specs.Parts.{as_object}
-use Rattle.problem_data.specs.Grammar.{Listed, ShapeWords, ObjectWords, OrderWords, SidesWords, MacroWords, RuleWords, StatementWords, ProblemWords}
+use Rattle.problem_data.specs.Faults.{count_of}
+use Rattle.problem_data.specs.Grammar.{OneOrMore, Listed, RangeWords, PiecesWords, is_second, ShapeWords, ObjectWords, OrderWords, SidesWords, MacroWords, RuleWords, StatementWords, ProblemWords}
 
 -- P holds of each value that a list of the language spells
 abbrev pub Yields : {A : Type 0} → Lang A → (A → Type 0) → Type 0
@@ -44,65 +47,84 @@ up_to_yields L P (suc k) l xs w (not_there e empty) = let same : [] ≡ xs = (cc
 many_yields : {A : Type 0} (L : Lang A) (P : A → Type 0) → Yields L P → Yields (Many L) (All P)
 many_yields L P l xs w (k, x) = up_to_yields L P k l xs w x
 
--- an object has at least one shape
-abbrev pub HasShape : StatementTree → Type 0
-HasShape (an_object o) = 0 < length o.shapes
-HasShape (a_shape s) = Unit {0}
-HasShape (an_order o) = Unit {0}
-HasShape (some_sides s) = Unit {0}
-HasShape (a_macro m) = Unit {0}
-HasShape (a_rule r) = Unit {0}
+-- there is a piece, and in version 1 no other
+abbrev pub HasPieces : Bool → List RangeText → Type 0
+HasPieces second rs = (0 < length rs) × (second ≡ false → length rs ≡ 1)
 
-shape_yields : (text : List ℕ) → Yields (ShapeWords text) HasShape
-unfolding ShapeWords
-shape_yields text = then_yields _ _ HasShape (λ t. then_yields _ _ HasShape (λ a. then_yields _ _ HasShape (λ bs. then_yields _ _ HasShape (λ e. pure_yields _ HasShape tt))))
+-- an object has at least one shape, and each of its ranges a piece
+pub record HasParts (second : Bool) (o : ObjectTree) : Type 0 where
+  pub shapes : 0 < length o.shapes
+  pub pieces : All (HasPieces second) o.pieces
 
-order_yields : (text : List ℕ) → Yields (OrderWords text) HasShape
-unfolding OrderWords
-order_yields text = then_yields _ _ HasShape (λ t. then_yields _ _ HasShape (λ ns. then_yields _ _ HasShape (λ e. pure_yields _ HasShape tt)))
-
-sides_yields : Yields SidesWords HasShape
-unfolding SidesWords
-sides_yields = then_yields _ _ HasShape (λ t. then_yields _ _ HasShape (λ ss. then_yields _ _ HasShape (λ e. pure_yields _ HasShape tt)))
-
-macro_yields : (text : List ℕ) (n : ℕ) → Yields (MacroWords text n) HasShape
-unfolding MacroWords
-macro_yields text n = then_yields _ _ HasShape (λ t. then_yields _ _ HasShape (λ a. then_yields _ _ HasShape (λ ps. then_yields _ _ HasShape (λ b. then_yields _ _ HasShape (λ e. pure_yields _ HasShape tt)))))
-
-rule_yields : (text : List ℕ) (n : ℕ) → Yields (RuleWords text n) HasShape
-unfolding RuleWords
-rule_yields text n = then_yields _ _ HasShape (λ t. then_yields _ _ HasShape (λ a. then_yields _ _ HasShape (λ c. then_yields _ _ HasShape (λ d. then_yields _ _ HasShape (λ e. pure_yields _ HasShape tt)))))
+abbrev pub IsFilled : Bool → StatementTree → Type 0
+IsFilled second (an_object o) = HasParts second o
+IsFilled second (a_shape s) = Unit {0}
+IsFilled second (an_order o) = Unit {0}
+IsFilled second (some_sides s) = Unit {0}
+IsFilled second (a_macro m) = Unit {0}
+IsFilled second (a_rule r) = Unit {0}
 
 some_listed : {A : Type 0} (L : Lang A) → Yields (Listed L) (λ xs. 0 < length xs)
 some_listed {A} L = then_yields L _ (λ (xs : List A). 0 < length xs) (λ a. then_yields _ _ (λ (xs : List A). 0 < length xs) (λ others. pure_yields (a ∷ others) (λ (xs : List A). 0 < length xs) (omega arith)))
 
-object_yields : (text : List ℕ) → Yields (ObjectWords text) HasShape
+one_or_more_yields : {A : Type 0} (L : Lang A) (P : A → Type 0) → Yields L P → Yields (OneOrMore L) (All P)
+one_or_more_yields L P l = bind_yields L _ P (All P) l (λ a p. bind_yields _ _ (All P) (All P) (many_yields L P l) (λ others all. pure_yields (a ∷ others) (All P) (All-cons P a others p all)))
+
+pieces_yields : (second : Bool) → Yields (PiecesWords second) (HasPieces second)
+unfolding PiecesWords
+pieces_yields false = then_yields _ _ (HasPieces false) (λ r. pure_yields (r ∷ []) (HasPieces false) (omega arith, λ e. refl))
+pieces_yields true = λ rs w x. (some_listed RangeWords rs w x, λ e. absurd cc)
+
+shape_yields : (text : List ℕ) (second : Bool) → Yields (ShapeWords text) (IsFilled second)
+unfolding ShapeWords
+shape_yields text second = then_yields _ _ (IsFilled second) (λ t. then_yields _ _ (IsFilled second) (λ a. then_yields _ _ (IsFilled second) (λ bs. then_yields _ _ (IsFilled second) (λ e. pure_yields _ (IsFilled second) tt))))
+
+order_yields : (text : List ℕ) (second : Bool) → Yields (OrderWords text) (IsFilled second)
+unfolding OrderWords
+order_yields text second = then_yields _ _ (IsFilled second) (λ t. then_yields _ _ (IsFilled second) (λ ns. then_yields _ _ (IsFilled second) (λ e. pure_yields _ (IsFilled second) tt)))
+
+sides_yields : (second : Bool) → Yields SidesWords (IsFilled second)
+unfolding SidesWords
+sides_yields second = then_yields _ _ (IsFilled second) (λ t. then_yields _ _ (IsFilled second) (λ ss. then_yields _ _ (IsFilled second) (λ e. pure_yields _ (IsFilled second) tt)))
+
+macro_yields : (text : List ℕ) (n : ℕ) (second : Bool) → Yields (MacroWords text n) (IsFilled second)
+unfolding MacroWords
+macro_yields text n second = then_yields _ _ (IsFilled second) (λ t. then_yields _ _ (IsFilled second) (λ a. then_yields _ _ (IsFilled second) (λ ps. then_yields _ _ (IsFilled second) (λ b. then_yields _ _ (IsFilled second) (λ e. pure_yields _ (IsFilled second) tt)))))
+
+rule_yields : (text : List ℕ) (n : ℕ) (second : Bool) → Yields (RuleWords text n) (IsFilled second)
+unfolding RuleWords
+rule_yields text n second = then_yields _ _ (IsFilled second) (λ t. then_yields _ _ (IsFilled second) (λ a. then_yields _ _ (IsFilled second) (λ c. then_yields _ _ (IsFilled second) (λ d. then_yields _ _ (IsFilled second) (λ e. pure_yields _ (IsFilled second) tt)))))
+
+object_yields : (text : List ℕ) (second : Bool) → Yields (ObjectWords text second) (IsFilled second)
 unfolding ObjectWords
-object_yields text =
-    then_yields _ _ HasShape (λ t. then_yields _ _ HasShape (λ a. then_yields _ _ HasShape (λ u.
-    bind_yields _ _ (λ (ss : List PlacedName). 0 < length ss) HasShape (some_listed (Named text)) (λ ss some.
-    then_yields _ _ HasShape (λ v. then_yields _ _ HasShape (λ rs. then_yields _ _ HasShape (λ vs. then_yields _ _ HasShape (λ e. pure_yields _ HasShape some))))))))
+object_yields text second =
+    then_yields _ _ (IsFilled second) (λ t. then_yields _ _ (IsFilled second) (λ a. then_yields _ _ (IsFilled second) (λ u.
+    bind_yields _ _ (λ (ss : List PlacedName). 0 < length ss) (IsFilled second) (some_listed (Named text)) (λ ss some.
+    then_yields _ _ (IsFilled second) (λ v. bind_yields _ _ (All (HasPieces second)) (IsFilled second) (one_or_more_yields (PiecesWords second) (HasPieces second) (pieces_yields second)) (λ ps each.
+    then_yields _ _ (IsFilled second) (λ vs. then_yields _ _ (IsFilled second) (λ e. pure_yields _ (IsFilled second) (record { shapes = some; pieces = each })))))))))
 
-statement_yields : (text : List ℕ) (n : ℕ) → Yields (StatementWords text n) HasShape
+statement_yields : (text : List ℕ) (n : ℕ) (second : Bool) → Yields (StatementWords text n second) (IsFilled second)
 unfolding StatementWords
-statement_yields text n =
-    either_yields _ _ HasShape (shape_yields text) (either_yields _ _ HasShape (object_yields text) (either_yields _ _ HasShape (order_yields text)
-    (either_yields _ _ HasShape sides_yields (either_yields _ _ HasShape (macro_yields text n) (rule_yields text n)))))
+statement_yields text n second =
+    either_yields _ _ (IsFilled second) (shape_yields text second) (either_yields _ _ (IsFilled second) (object_yields text second) (either_yields _ _ (IsFilled second) (order_yields text second)
+    (either_yields _ _ (IsFilled second) (sides_yields second) (either_yields _ _ (IsFilled second) (macro_yields text n second) (rule_yields text n second)))))
 
--- each object of a text has a shape
-pub problem_yields : (text : List ℕ) (n : ℕ) → Yields (ProblemWords text n) (λ p. All HasShape p.statements)
+-- each statement of a text of this version is filled
+abbrev pub AreFilled : ProblemTree → Type 0
+AreFilled p = All (IsFilled (count_of p.version.value == 2)) p.statements
+
+pub problem_yields : (text : List ℕ) (n : ℕ) → Yields (ProblemWords text n) AreFilled
 unfolding ProblemWords
 problem_yields text n =
-    then_yields _ _ (λ (p : ProblemTree). All HasShape p.statements) (λ a. then_yields _ _ (λ (p : ProblemTree). All HasShape p.statements) (λ v.
-    then_yields _ _ (λ (p : ProblemTree). All HasShape p.statements) (λ b. then_yields _ _ (λ (p : ProblemTree). All HasShape p.statements) (λ d.
-    bind_yields _ _ (All HasShape) (λ (p : ProblemTree). All HasShape p.statements) (many_yields (StatementWords text n) HasShape (statement_yields text n)) (λ ss all.
-    then_yields _ _ (λ (p : ProblemTree). All HasShape p.statements) (λ e. pure_yields _ (λ (p : ProblemTree). All HasShape p.statements) all))))))
+    then_yields _ _ AreFilled (λ a. then_yields _ _ AreFilled (λ v. then_yields _ _ AreFilled (λ b. then_yields _ _ AreFilled (λ d.
+    bind_yields _ _ (All (IsFilled (is_second v))) AreFilled (many_yields (StatementWords text n (is_second v)) (IsFilled (is_second v)) (statement_yields text n (is_second v))) (λ ss all.
+    then_yields _ _ AreFilled (λ e. pure_yields _ AreFilled all))))))
 
-pub objects_have_shapes : (ss : List StatementTree) → All HasShape ss → All (λ (o : ObjectTree). 0 < length o.shapes) (filter_map as_object ss)
-objects_have_shapes [] all = no_elements (λ (o : ObjectTree). 0 < length o.shapes)
-objects_have_shapes (an_object o ∷ ss) all = All-cons (λ (o : ObjectTree). 0 < length o.shapes) o (filter_map as_object ss) (All-head HasShape (an_object o) ss all) (objects_have_shapes ss (All-tail HasShape (an_object o) ss all))
-objects_have_shapes (a_shape s ∷ ss) all = objects_have_shapes ss (All-tail HasShape (a_shape s) ss all)
-objects_have_shapes (an_order o ∷ ss) all = objects_have_shapes ss (All-tail HasShape (an_order o) ss all)
-objects_have_shapes (some_sides s ∷ ss) all = objects_have_shapes ss (All-tail HasShape (some_sides s) ss all)
-objects_have_shapes (a_macro m ∷ ss) all = objects_have_shapes ss (All-tail HasShape (a_macro m) ss all)
-objects_have_shapes (a_rule r ∷ ss) all = objects_have_shapes ss (All-tail HasShape (a_rule r) ss all)
+pub objects_have_parts : (second : Bool) (ss : List StatementTree) → All (IsFilled second) ss → All (HasParts second) (filter_map as_object ss)
+objects_have_parts second [] all = no_elements (HasParts second)
+objects_have_parts second (an_object o ∷ ss) all = All-cons (HasParts second) o (filter_map as_object ss) (All-head (IsFilled second) (an_object o) ss all) (objects_have_parts second ss (All-tail (IsFilled second) (an_object o) ss all))
+objects_have_parts second (a_shape s ∷ ss) all = objects_have_parts second ss (All-tail (IsFilled second) (a_shape s) ss all)
+objects_have_parts second (an_order o ∷ ss) all = objects_have_parts second ss (All-tail (IsFilled second) (an_order o) ss all)
+objects_have_parts second (some_sides s ∷ ss) all = objects_have_parts second ss (All-tail (IsFilled second) (some_sides s) ss all)
+objects_have_parts second (a_macro m ∷ ss) all = objects_have_parts second ss (All-tail (IsFilled second) (a_macro m) ss all)
+objects_have_parts second (a_rule r ∷ ss) all = objects_have_parts second ss (All-tail (IsFilled second) (a_rule r) ss all)

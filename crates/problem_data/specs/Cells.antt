@@ -1,15 +1,14 @@
 -- The cells of placed objects, and what `apart` and `within` say of them.
-use Rattle.std.specs.Prelude.{◌≡◌, ◌≢◌, ◌<◌, ◌≤◌, ◌+ℤ◌, ◌≤ℤ◌, ◌<ℤ◌, ℕ, ℤ, List, [], length, pos, slice_index_or}
+use Rattle.std.specs.Prelude.{◌≡◌, ◌≢◌, ◌<◌, ◌≤◌, ◌+ℤ◌, ◌≤ℤ◌, ◌<ℤ◌, ℕ, ℤ, List, [], length, slice_index_or}
 use Rattle.geo_base.specs.Boxes.{coordinate}
 use Rattle.problem_data.specs.Problem.{BoxData, RangeData, ObjectData, ProblemData}
+pub use Rattle.problem_data.specs.Pieces.{range_at}
+use Rattle.problem_data.specs.Pieces.{IsInPieces, pieces_at, hulls}
 use Rattle.problem_data.specs.Tuple.{Spot, Tuple, spot, object_of, boxes_in}
 
--- the box and the range at a place of a list; none, past its end
+-- the box at a place of a list; none, past its end
 abbrev pub box_at : List BoxData → ℕ → BoxData
 box_at boxes n = slice_index_or boxes n (record { offsets = []; sizes = [] })
-
-abbrev pub range_at : List RangeData → ℕ → RangeData
-range_at ranges d = slice_index_or ranges d (record { low = pos 0; high = pos 0 })
 
 -- in the dimension d the box, seen from the origin, has the number c
 pub record IsIn (b : BoxData) (origin : List ℤ) (d : ℕ) (c : ℤ) : Type 0 where
@@ -55,12 +54,24 @@ pub record IsShaped (p : ProblemData) (t : Tuple) : Type 0 where
   pub objects : length t ≡ length p.objects
   pub each : (o : ℕ) → o < length p.objects → HasForm p (object_of p o) (spot t o)
 
--- the spot has a place of the object's list, and its origin lies in the object's ranges
+-- the spot has a place of the object's list, and each number of its origin lies in a piece of the
+-- object's range
 pub record IsSpotOf (p : ProblemData) (o : ObjectData) (s : Spot) : Type 0 where
   pub form : HasForm p o s
-  pub ranges : IsInRanges o.ranges s.origin
+  pub pieces : (d : ℕ) → d < p.dims → IsInPieces (pieces_at o d) (coordinate s.origin d)
 
 -- the tuple gives each object a place of its list and an origin in its ranges
 pub record IsTuple (p : ProblemData) (t : Tuple) : Type 0 where
   pub objects : length t ≡ length p.objects
   pub each : (o : ℕ) → o < length p.objects → IsSpotOf p (object_of p o) (spot t o)
+
+-- the spot has a place of the object's list, and its origin lies in the hulls of the object's
+-- ranges
+pub record IsWideSpotOf (p : ProblemData) (o : ObjectData) (s : Spot) : Type 0 where
+  pub form : HasForm p o s
+  pub hulls : IsInRanges (hulls o) s.origin
+
+-- the tuple gives each object a place of its list and an origin in the hulls of its ranges
+pub record IsWideTuple (p : ProblemData) (t : Tuple) : Type 0 where
+  pub objects : length t ≡ length p.objects
+  pub each : (o : ℕ) → o < length p.objects → IsWideSpotOf p (object_of p o) (spot t o)

@@ -1,5 +1,5 @@
 -- The faults of statements: at which places there is what wrong. `k` is the number of dimensions that the text states.
-use Rattle.std.specs.Prelude.{◌≡◌, ℕ, ℤ, pos, negsuc, ◌≤◌, ◌<ℤ◌, ◌≤ℤ◌, List, [], ◌∷◌, length, take, map, Option, Some, None, slice_get, ◌⊎◌}
+use Rattle.std.specs.Prelude.{◌≡◌, ℕ, ℤ, pos, negsuc, ◌≤◌, ◌<ℤ◌, ◌≤ℤ◌, ◌+ℤ◌, ◌-◌, List, [], ◌∷◌, length, take, map, Option, Some, None, slice_get, ◌⊎◌}
 use Rattle.std.specs.List.{Contains}
 use Rattle.rule_syntax.specs.declared.tree.PlacedName.{PlacedName}
 use Rattle.geo_tokens.specs.declared.fault.FaultWord.TheVariants as words
@@ -11,7 +11,7 @@ use Rattle.problem_data.specs.declared.tree.SideText.{SideText}
 use Rattle.problem_data.specs.declared.tree.ParamText.{ParamText}
 use Rattle.problem_data.specs.Tree.{BoxTree, ShapeTree, ObjectTree, OrderTree, SidesTree, MacroTree, DemandTree, apart, within, plain, RuleTree}
 use Rattle.problem_data.specs.Least.{fault}
-use Rattle.problem_data.specs.Limits.{IsSmall, IsSize, IsFieldName, most_dims, most_shapes, most_boxes, most_objects, most_object_shapes, most_attributes, most_macros, most_params, most_rules}
+use Rattle.problem_data.specs.Limits.{IsSmall, IsSize, IsFieldName, IsVersion, most_dims_in, most_shapes, most_boxes, most_objects, most_object_shapes, most_pieces, most_attributes, most_macros, most_params, most_rules}
 use Rattle.problem_data.specs.Divisors.{body_zeros, formula_zeros}
 use Rattle.problem_data.specs.Parts.{Parts}
 
@@ -86,6 +86,37 @@ RangeFault r f = OffsetFault r.low f ⊎ OffsetFault r.high f ⊎ UpsideDown r f
 abbrev pub RangesFault : ℕ → List RangeText → Fault → Type 0
 RangesFault k rs f = Miscounted range_place k rs f ⊎ Among (λ before. RangeFault) rs f
 
+-- ---- pieces of ranges
+
+-- `limit` at a piece past the limit
+abbrev pub PastPiece : List RangeText → RangeText → Fault → Type 0
+PastPiece before r f = (most_pieces ≤ length before) × (f ≡ fault r.low.place words.Limit)
+
+-- s is the last of the list
+abbrev pub IsLast : List RangeText → RangeText → Type 0
+IsLast rs s = slice_get rs (length rs - 1) ≡ Some s
+
+-- the piece begins at most one above the end of the piece just before it
+abbrev pub IsTooNear : List RangeText → RangeText → Type 0
+IsTooNear before r = (s : RangeText) × IsLast before s × (r.low.value ≤ℤ (s.high.value +ℤ pos 1))
+
+-- `range` at a piece that leaves out no number behind the one just before it
+abbrev pub TooNear : List RangeText → RangeText → Fault → Type 0
+TooNear before r f = IsTooNear before r × (f ≡ fault r.low.place words.Range)
+
+abbrev pub PieceFault : List RangeText → RangeText → Fault → Type 0
+PieceFault before r f = PastPiece before r f ⊎ RangeFault r f ⊎ TooNear before r f
+
+abbrev pub PiecesFault : List RangeText → Fault → Type 0
+PiecesFault = Among PieceFault
+
+abbrev pub pieces_place : List RangeText → ℕ
+pieces_place rs = first_place range_place rs
+
+-- the faults of the ranges of an object
+abbrev pub OriginFault : ℕ → List (List RangeText) → Fault → Type 0
+OriginFault k ps f = Miscounted pieces_place k ps f ⊎ Among (λ before. PiecesFault) ps f
+
 -- ---- shapes
 
 -- `limit` at the word of a box past the limit
@@ -121,7 +152,7 @@ AttributesFault xs f = NamesFault most_attributes (map attribute_name xs) f ⊎ 
 
 -- `made` are the names of the shapes that statements make
 abbrev pub ObjectFault : ℕ → List (List ℕ) → ObjectTree → Fault → Type 0
-ObjectFault k made o f = NamesFault most_object_shapes o.shapes f ⊎ NotMade made o.shapes f ⊎ RangesFault k o.ranges f ⊎ AttributesFault o.attributes f
+ObjectFault k made o f = NamesFault most_object_shapes o.shapes f ⊎ NotMade made o.shapes f ⊎ OriginFault k o.pieces f ⊎ AttributesFault o.attributes f
 
 abbrev pub ObjectsFault : ℕ → List (List ℕ) → List ObjectTree → Fault → Type 0
 ObjectsFault k made os f = NamesFault most_objects (map object_name os) f ⊎ Among (λ before. ObjectFault k made) os f
@@ -195,16 +226,16 @@ abbrev pub count_of : ℤ → ℕ
 count_of (pos n) = n
 count_of (negsuc n) = 0
 
--- `limit` at a version that is not 1
+-- `limit` at a version that does not exist
 abbrev pub VersionFault : Int → Fault → Type 0
-VersionFault v f = (v.value ≡ pos 1 → ⊥) × (f ≡ fault v.place words.Limit)
+VersionFault v f = (IsVersion v.value → ⊥) × (f ≡ fault v.place words.Limit)
 
-abbrev pub IsDims : ℤ → Type 0
-IsDims k = (pos 1 ≤ℤ k) × (k ≤ℤ pos most_dims)
+abbrev pub IsDims : ℤ → ℤ → Type 0
+IsDims version k = (pos 1 ≤ℤ k) × (k ≤ℤ pos (most_dims_in (count_of version)))
 
--- `limit` at a number of dimensions that is not 1 to the greatest one
-abbrev pub DimsFault : Int → Fault → Type 0
-DimsFault d f = (IsDims d.value → ⊥) × (f ≡ fault d.place words.Limit)
+-- `limit` at a number of dimensions that is not 1 to the greatest one of the version
+abbrev pub DimsFault : Int → Int → Fault → Type 0
+DimsFault v d f = (IsDims v.value d.value → ⊥) × (f ≡ fault d.place words.Limit)
 
 abbrev pub shape_names : List ShapeTree → List (List ℕ)
 shape_names ss = map text_of (map shape_name ss)
@@ -214,7 +245,7 @@ object_names os = map text_of (map object_name os)
 
 pub data IsFault (p : Parts) (f : Fault) : Type 0 where
   version : VersionFault p.version f → IsFault p f
-  dims : DimsFault p.dims f → IsFault p f
+  dims : DimsFault p.version p.dims f → IsFault p f
   shapes : ShapesFault (count_of p.dims.value) p.shapes f → IsFault p f
   objects : ObjectsFault (count_of p.dims.value) (shape_names p.shapes) p.objects f → IsFault p f
   orders : Among (OrderFault (object_names p.objects)) p.orders f → IsFault p f

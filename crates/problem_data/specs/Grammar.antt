@@ -1,8 +1,11 @@
--- The grammar: which tokens of a text spell which statements. n is how many levels a formula or an expression may open.
+-- The grammar: which tokens of a text spell which statements. n is how many levels a formula or an
+-- expression may open. A text whose first number is 2 is of version 2; any other has the grammar of
+-- version 1.
 --
 --   problem   = 'geost' NUM 'dims' NUM { statement } 'end'
 --   statement = 'shape' NAME box { box } ';'
---             | 'object' NAME 'as' NAME { ',' NAME } 'at' range { range } [ 'with' attr { ',' attr } ] ';'
+--             | 'object' NAME 'as' NAME { ',' NAME } 'at' pieces { pieces }
+--               [ 'with' attr { ',' attr } ] ';'
 --             | 'order' NAME { ',' NAME } ';'
 --             | 'sides' side { side } ';'
 --             | 'macro' NAME '(' [ param { ',' param } ] ')' ( 'means' formula | 'is' expr ) ';'
@@ -11,9 +14,11 @@
 --   attr      = NAME '=' int
 --   side      = 'low' | 'high'
 --   param     = NAME ':' ( 'int' | 'object' | 'box' )
+--   pieces    = range               in version 1
+--             | range { ',' range }   in version 2
 --   range     = int '..' int
 --   int       = [ '-' ] NUM
-use Rattle.std.specs.Prelude.{ℕ, pos, neg_ℤ, List, [], ◌∷◌}
+use Rattle.std.specs.Prelude.{ℕ, pos, neg_ℤ, List, [], ◌∷◌, Bool, true, false, ◌==◌}
 use Rattle.geo_tokens.specs.declared.token.Keyword.TheVariants as keywords
 use Rattle.geo_tokens.specs.declared.token.Sym.TheVariants as symbols
 use Rattle.geo_tokens.specs.declared.token.Kind.{Kind}
@@ -74,8 +79,8 @@ param_text a t = record { name = a; kind = param_in t.kind }
 abbrev pub shape_tree : PlacedName → List BoxTree → StatementTree
 shape_tree a bs = a_shape (record { name = a; boxes = bs })
 
-abbrev pub object_tree : PlacedName → List PlacedName → List RangeText → List AttributeText → StatementTree
-object_tree a ss rs vs = an_object (record { name = a; shapes = ss; ranges = rs; attributes = vs })
+abbrev pub object_tree : PlacedName → List PlacedName → List (List RangeText) → List AttributeText → StatementTree
+object_tree a ss ps vs = an_object (record { name = a; shapes = ss; pieces = ps; attributes = vs })
 
 abbrev pub order_tree : Token → List PlacedName → StatementTree
 order_tree t ns = an_order (record { place = t.start; names = ns })
@@ -132,12 +137,17 @@ AttributeWords text = Bind (Named text) (λ a. Bind (Tok (symbol symbols.Equal))
 unfoldable pub Attributes : List ℕ → Lang (List AttributeText)
 Attributes text = Opt (Bind (Tok (word keywords.With)) (λ t. Listed (AttributeWords text))) []
 
-unfoldable pub ObjectWords : List ℕ → Lang StatementTree
-ObjectWords text =
+-- the range of a coordinate, in a text of version 2 or of version 1
+unfoldable pub PiecesWords : Bool → Lang (List RangeText)
+PiecesWords false = Bind RangeWords (λ r. Pure (r ∷ []))
+PiecesWords true = Listed RangeWords
+
+unfoldable pub ObjectWords : List ℕ → Bool → Lang StatementTree
+ObjectWords text second =
     Bind (Tok (word keywords.Object)) (λ t. Bind (Named text) (λ a.
     Bind (Tok (word keywords.As)) (λ u. Bind (Listed (Named text)) (λ ss.
-    Bind (Tok (word keywords.At)) (λ v. Bind (OneOrMore RangeWords) (λ rs.
-    Bind (Attributes text) (λ vs. Bind (Tok (symbol symbols.Semicolon)) (λ e. Pure (object_tree a ss rs vs)))))))))
+    Bind (Tok (word keywords.At)) (λ v. Bind (OneOrMore (PiecesWords second)) (λ ps.
+    Bind (Attributes text) (λ vs. Bind (Tok (symbol symbols.Semicolon)) (λ e. Pure (object_tree a ss ps vs)))))))))
 
 unfoldable pub OrderWords : List ℕ → Lang StatementTree
 OrderWords text = Bind (Tok (word keywords.Order)) (λ t. Bind (Listed (Named text)) (λ ns. Bind (Tok (symbol symbols.Semicolon)) (λ e. Pure (order_tree t ns))))
@@ -178,11 +188,15 @@ RuleWords text n =
 
 -- ---- the whole text
 
-unfoldable pub StatementWords : List ℕ → ℕ → Lang StatementTree
-StatementWords text n = Either (ShapeWords text) (Either (ObjectWords text) (Either (OrderWords text) (Either SidesWords (Either (MacroWords text n) (RuleWords text n)))))
+unfoldable pub StatementWords : List ℕ → ℕ → Bool → Lang StatementTree
+StatementWords text n second = Either (ShapeWords text) (Either (ObjectWords text second) (Either (OrderWords text) (Either SidesWords (Either (MacroWords text n) (RuleWords text n)))))
+
+-- the text is of version 2, where this is its first number
+abbrev pub is_second : Token → Bool
+is_second v = number_in v.kind == 2
 
 unfoldable pub ProblemWords : List ℕ → ℕ → Lang ProblemTree
 ProblemWords text n =
     Bind (Tok (word keywords.Geost)) (λ a. Bind (Tok numbers) (λ v.
     Bind (Tok (word keywords.Dims)) (λ b. Bind (Tok numbers) (λ d.
-    Bind (Many (StatementWords text n)) (λ ss. Bind (Tok (word keywords.End)) (λ e. Pure (problem_tree v d ss)))))))
+    Bind (Many (StatementWords text n (is_second v))) (λ ss. Bind (Tok (word keywords.End)) (λ e. Pure (problem_tree v d ss)))))))

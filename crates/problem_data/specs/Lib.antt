@@ -4,6 +4,7 @@ pub mod Marks
 pub mod Grammar
 pub mod Whole
 pub mod Problem
+pub mod Pieces
 pub mod TreeCode
 pub mod ProblemCode
 pub mod ProblemView

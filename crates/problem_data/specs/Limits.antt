@@ -1,5 +1,5 @@
 -- Limits of numbers and names in a problem's text.
-use Rattle.std.specs.Prelude.{◌≡◌, ℕ, ℤ, pos, negsuc, ◌≤◌, ◌≤ℤ◌, List, [], ◌∷◌, codes, ◌⊎◌}
+use Rattle.std.specs.Prelude.{◌≡◌, ℕ, ℤ, pos, negsuc, ◌≤◌, ◌≤ℤ◌, List, [], ◌∷◌, codes, ◌⊎◌, ◌==◌, if◌then◌else◌}
 
 -- of an end of a range or an offset: -1,000,000 to 1,000,000
 abbrev pub IsSmall : ℤ → Type 0
@@ -13,8 +13,20 @@ IsSize v = (pos 1 ≤ℤ v) × (v ≤ℤ pos 1000000)
 abbrev pub IsFieldName : List ℕ → Type 0
 IsFieldName name = (name ≡ codes "id") ⊎ (name ≡ codes "sid") ⊎ ((d : ℕ) × (49 ≤ d) × (d ≤ 57) × (name ≡ 120 ∷ d ∷ []))
 
+-- of the dimensions
 abbrev pub most_dims : ℕ
-most_dims = 4
+most_dims = 6
+
+-- of the dimensions in version 1
+abbrev pub most_first_dims : ℕ
+most_first_dims = 4
+
+abbrev pub most_dims_in : ℕ → ℕ
+most_dims_in version = if version == 2 then most_dims else most_first_dims
+
+-- 1 or 2
+abbrev pub IsVersion : ℤ → Type 0
+IsVersion v = (v ≡ pos 1) ⊎ (v ≡ pos 2)
 
 abbrev pub most_shapes : ℕ
 most_shapes = 256
@@ -27,6 +39,10 @@ most_objects = 200
 
 abbrev pub most_object_shapes : ℕ
 most_object_shapes = 16
+
+-- of a range
+abbrev pub most_pieces : ℕ
+most_pieces = 8
 
 abbrev pub most_attributes : ℕ
 most_attributes = 32

@@ -31,12 +31,15 @@ range_of r = record { low = r.low.value; high = r.high.value }
 abbrev pub attribute_of : AttributeText → AttributeData
 attribute_of a = record { name = a.name.name; value = a.value.value }
 
+abbrev pub pieces_of : List RangeText → List RangeData
+pieces_of rs = map range_of rs
+
 -- the first position of a name in a list
 abbrev pub position_of : List (List ℕ) → PlacedName → ℕ
 position_of names n = position_or_len (bytes_eq n.name) names
 
 abbrev pub object_of : List (List ℕ) → ObjectTree → ObjectData
-object_of shapes o = record { name = o.name.name; shapes = map (position_of shapes) o.shapes; ranges = map range_of o.ranges; attributes = map attribute_of o.attributes }
+object_of shapes o = record { name = o.name.name; shapes = map (position_of shapes) o.shapes; pieces = map pieces_of o.pieces; attributes = map attribute_of o.attributes }
 
 abbrev pub param_of : ParamText → ParamData
 param_of p = record { name = p.name.name; kind = p.kind }
@@ -67,6 +70,7 @@ sides_of k (s ∷ others) = map side_of s.sides
 
 abbrev pub problem_of : Parts → ProblemData
 problem_of p = record {
+  version = count_of p.version.value;
   dims = count_of p.dims.value;
   shapes = map shape_of p.shapes;
   objects = map (object_of (shape_names p.shapes)) p.objects;

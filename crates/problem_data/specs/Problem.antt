@@ -1,5 +1,5 @@
 -- A problem as data. Places of shapes and objects in their lists count from 0.
-use Rattle.std.specs.Prelude.{ℕ, Bool, true, false, ℤ, List}
+use Rattle.std.specs.Prelude.{ℕ, Bool, true, false, ℤ, List, []}
 use Rattle.rule_syntax.specs.Tree.{FormulaTree}
 use Rattle.problem_data.specs.declared.tree.ParamKind.{ParamKind}
 use Rattle.problem_data.specs.declared.tree.Side.{Side}
@@ -24,12 +24,17 @@ pub record AttributeData : Type 0 where
   pub name : List ℕ
   pub value : ℤ
 
--- an object: its shapes by their positions, and for each coordinate of its origin the range
+-- an object: its shapes by their positions, and for each coordinate of its origin the pieces of its
+-- range, in ascending order
 pub record ObjectData : Type 0 where
   pub name : List ℕ
   pub shapes : List ℕ
-  pub ranges : List RangeData
+  pub pieces : List (List RangeData)
   pub attributes : List AttributeData
+
+-- what stands past the end of a list of objects
+abbrev pub no_object : ObjectData
+no_object = record { name = []; shapes = []; pieces = []; attributes = [] }
 
 pub record ParamData : Type 0 where
   pub name : List ℕ
@@ -54,9 +59,11 @@ pub record RuleData : Type 0 where
   pub name : List ℕ
   pub demand : DemandData
 
--- Each list is in file order, but `order`: the objects by their positions, in the order of the search. `sides` has for each
--- dimension the end from which its values are tried.
+-- Each list is in file order, but `order`: the objects by their positions, in the order of the
+-- search. `version` is that of the text, and `sides` has for each dimension the end from which its
+-- values are tried.
 pub record ProblemData : Type 0 where
+  pub version : ℕ
   pub dims : ℕ
   pub shapes : List ShapeData
   pub objects : List ObjectData

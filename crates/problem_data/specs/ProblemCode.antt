@@ -20,14 +20,17 @@ shape_code = code_by (List ℕ × List BoxData) (coded× (coded_list coded_ℕ) 
 abbrev pub range_code : Coded RangeData
 range_code = code_by (ℤ × ℤ) (coded× coded_ℤ coded_ℤ) (λ r. (r.low, r.high)) (λ p. record { low = p.0; high = p.1 }) (λ _. refl)
 
+abbrev pub ranges_code : Coded (List RangeData)
+ranges_code = coded_list range_code
+
 abbrev pub attribute_code : Coded AttributeData
 attribute_code = code_by (List ℕ × ℤ) (coded× (coded_list coded_ℕ) coded_ℤ) (λ a. (a.name, a.value)) (λ p. record { name = p.0; value = p.1 }) (λ _. refl)
 
 abbrev pub object_code : Coded ObjectData
 object_code =
-    code_by (List ℕ × (List ℕ × (List RangeData × List AttributeData)))
-    (coded× (coded_list coded_ℕ) (coded× (coded_list coded_ℕ) (coded× (coded_list range_code) (coded_list attribute_code))))
-    (λ o. (o.name, (o.shapes, (o.ranges, o.attributes)))) (λ p. record { name = p.0; shapes = p.1.0; ranges = p.1.1.0; attributes = p.1.1.1 }) (λ _. refl)
+    code_by (List ℕ × (List ℕ × (List (List RangeData) × List AttributeData)))
+    (coded× (coded_list coded_ℕ) (coded× (coded_list coded_ℕ) (coded× (coded_list ranges_code) (coded_list attribute_code))))
+    (λ o. (o.name, (o.shapes, (o.pieces, o.attributes)))) (λ p. record { name = p.0; shapes = p.1.0; pieces = p.1.1.0; attributes = p.1.1.1 }) (λ _. refl)
 
 abbrev kind_number : ParamKind → ℕ
 kind_number param_kinds.Int = 0
@@ -99,9 +102,18 @@ side_again sides.High = refl
 
 abbrev pub problem_code : Coded ProblemData
 problem_code =
-    code_by (ℕ × (List ShapeData × (List ObjectData × (List MacroData × (List RuleData × (List ℕ × List Side))))))
-    (coded× coded_ℕ (coded× (coded_list shape_code) (coded× (coded_list object_code) (coded× (coded_list macro_code) (coded× (coded_list rule_code)
-    (coded× (coded_list coded_ℕ) (coded_list (code_by ℕ coded_ℕ side_number side_at side_again))))))))
-    (λ d. (d.dims, (d.shapes, (d.objects, (d.macros, (d.rules, (d.order, d.sides)))))))
-    (λ p. record { dims = p.0; shapes = p.1.0; objects = p.1.1.0; macros = p.1.1.1.0; rules = p.1.1.1.1.0; order = p.1.1.1.1.1.0; sides = p.1.1.1.1.1.1 })
+    code_by (ℕ × (ℕ × (List ShapeData × (List ObjectData × (List MacroData × (List RuleData × (List ℕ × List Side)))))))
+    (coded× coded_ℕ (coded× coded_ℕ (coded× (coded_list shape_code) (coded× (coded_list object_code) (coded× (coded_list macro_code) (coded× (coded_list rule_code)
+    (coded× (coded_list coded_ℕ) (coded_list (code_by ℕ coded_ℕ side_number side_at side_again)))))))))
+    (λ d. (d.version, (d.dims, (d.shapes, (d.objects, (d.macros, (d.rules, (d.order, d.sides))))))))
+    (λ p. record {
+      version = p.0;
+      dims = p.1.0;
+      shapes = p.1.1.0;
+      objects = p.1.1.1.0;
+      macros = p.1.1.1.1.0;
+      rules = p.1.1.1.1.1.0;
+      order = p.1.1.1.1.1.1.0;
+      sides = p.1.1.1.1.1.1.1;
+    })
     (λ _. refl)

@@ -18,10 +18,11 @@ pub record ShapeTree : Type 0 where
   pub name : PlacedName
   pub boxes : List BoxTree
 
+-- an object, with the pieces of the range of each coordinate
 pub record ObjectTree : Type 0 where
   pub name : PlacedName
   pub shapes : List PlacedName
-  pub ranges : List RangeText
+  pub pieces : List (List RangeText)
   pub attributes : List AttributeText
 
 -- the search order, with the place of its word

@@ -3,14 +3,14 @@ use Rattle.std.specs.Prelude.{ℕ, ◌+◌, ◌-◌, ◌==◌, if◌then◌else�
 use Rattle.std.specs.Prelude.{Option, None}
 use Rattle.std.specs.Option.{option_map_or}
 pub use Rattle.geo_base.specs.Tuple.{Spot, Tuple, spot}
-use Rattle.problem_data.specs.Problem.{BoxData, ObjectData, ProblemData}
+use Rattle.problem_data.specs.Problem.{BoxData, ObjectData, no_object, ProblemData}
 
 -- the spot of an object, in file order
 abbrev pub spot_of : Tuple → ℕ → Spot
 spot_of t o = spot t o
 
 abbrev pub object_of : ProblemData → ℕ → ObjectData
-object_of p o = slice_index_or p.objects o (record { name = []; shapes = []; ranges = []; attributes = [] })
+object_of p o = slice_index_or p.objects o no_object
 
 -- the shape that the tuple gives an object, by its position among all shapes; place 0 and places past the list are none
 abbrev pub shape_of : ProblemData → Tuple → ℕ → Option ℕ

@@ -4,6 +4,8 @@ use Rattle.std.specs.declared.alloc.Global.{Global}
 use Rattle.rule_syntax.specs.View.{expr_view, formula_view}
 use Rattle.problem_data.specs.declared.tree.BoxText.{BoxText}
 use Rattle.problem_data.specs.declared.tree.ShapeText.{ShapeText}
+use Rattle.problem_data.specs.declared.tree.RangeText.{RangeText}
+use Rattle.problem_data.specs.declared.tree.PiecesText.{PiecesText}
 use Rattle.problem_data.specs.declared.tree.ObjectText.{ObjectText}
 use Rattle.problem_data.specs.declared.tree.OrderText.{OrderText}
 use Rattle.problem_data.specs.declared.tree.SidesText.{SidesText}
@@ -27,8 +29,14 @@ box_views bs = map box_view bs.items
 abbrev pub shape_view : ShapeText → ShapeTree
 shape_view s = record { name = s.name; boxes = box_views s.boxes }
 
+abbrev pub pieces_view : PiecesText → List RangeText
+pieces_view p = p.ranges.items
+
+abbrev pub pieces_views : Vec PiecesText Global → List (List RangeText)
+pieces_views ps = map pieces_view ps.items
+
 abbrev pub object_view : ObjectText → ObjectTree
-object_view o = record { name = o.name; shapes = o.shapes.items; ranges = o.ranges.items; attributes = o.attributes.items }
+object_view o = record { name = o.name; shapes = o.shapes.items; pieces = pieces_views o.pieces; attributes = o.attributes.items }
 
 abbrev pub order_view : OrderText → OrderTree
 order_view o = record { place = o.place; names = o.names.items }

@@ -1,7 +1,8 @@
 -- What holds of the data of every problem that a text says.
-use Rattle.std.specs.Prelude.{◌≡◌, ◌≢◌, ◌<◌, ◌≤◌, ◌≤ℤ◌, ◌<ℤ◌, ℕ, length, pos, negsuc, All, AllPairs, Contains}
-use Rattle.problem_data.specs.Limits.{most_dims}
+use Rattle.std.specs.Prelude.{◌≡◌, ◌≢◌, ◌<◌, ◌≤◌, ◌≤ℤ◌, ◌<ℤ◌, ℕ, List, length, pos, negsuc, ◌⊎◌, All, AllPairs, Contains}
+use Rattle.problem_data.specs.Limits.{most_dims, most_first_dims, most_pieces}
 use Rattle.problem_data.specs.Problem.{BoxData, RangeData, ObjectData, DemandData, apart, within, plain, ProblemData}
+use Rattle.problem_data.specs.Pieces.{AreApart}
 
 -- an offset and a size from 1 on for each dimension
 pub record IsBox (k : ℕ) (b : BoxData) : Type 0 where
@@ -15,21 +16,34 @@ pub record IsRange (r : RangeData) : Type 0 where
   pub filled : r.low ≤ℤ r.high
   pub high : r.high ≤ℤ pos 1000000
 
--- 1 to 16 different shapes that are there, and a range for each dimension
+-- 1 to 8 ranges in ascending order, with at least one number between neighbours
+pub record ArePieces (pieces : List RangeData) : Type 0 where
+  pub some : 0 < length pieces
+  pub few : length pieces ≤ most_pieces
+  pub ranges : All IsRange pieces
+  pub apart : AreApart pieces
+
+-- 1 to 16 different shapes that are there, and the pieces of a range for each dimension
 pub record IsObject (p : ProblemData) (o : ObjectData) : Type 0 where
   pub some : 0 < length o.shapes
   pub few : length o.shapes ≤ 16
   pub shapes : All (λ n. n < length p.shapes) o.shapes
   pub once : AllPairs (λ m n. m ≢ n) o.shapes
-  pub dimensions : length o.ranges ≡ p.dims
-  pub ranges : All IsRange o.ranges
+  pub dimensions : length o.pieces ≡ p.dims
+  pub pieces : All ArePieces o.pieces
 
 abbrev pub IsDemand : ℕ → DemandData → Type 0
 IsDemand k apart = Unit {0}
 IsDemand k (within ranges) = (length ranges ≡ k) × All IsRange ranges
 IsDemand k (plain f) = Unit {0}
 
+-- each range of the object is one piece
+abbrev pub IsSimple : ObjectData → Type 0
+IsSimple o = All (λ pieces. length pieces ≡ 1) o.pieces
+
 pub record IsWellFormed (p : ProblemData) : Type 0 where
+  pub version : (p.version ≡ 1) ⊎ (p.version ≡ 2)
+  pub simple : p.version ≡ 1 → (p.dims ≤ most_first_dims) × All IsSimple p.objects
   pub some : 0 < p.dims
   pub dimensions : p.dims ≤ most_dims
   pub boxes : All (λ s. All (IsBox p.dims) s.boxes) p.shapes

@@ -1,9 +1,10 @@
 //! A problem: what a text with no fault says.
 
-ghost use Rattle.std.specs.Prelude.{◌≡◌, map};
+ghost use Rattle.std.specs.Prelude.{◌≡◌, ◌<◌, length, map};
 ghost use Rattle.problem_data.specs.View.{body_view};
 ghost use Rattle.problem_data.specs.ProblemView.{range_data, attribute_data, param_data, demand_data};
 ghost use Rattle.problem_data.specs.Accepted.{IsSaid};
+ghost use Rattle.problem_data.specs.Pieces.{hull, pieces_at};
 ghost use Rattle.problem_data.specs.WellFormed.{IsWellFormed};
 
 use crate::tree::{MacroBody, ParamKind, Side};
@@ -113,6 +114,64 @@ pub struct RangeDef {
     pub high: i64,
 }
 
+/// The range of a coordinate, by its pieces.
+pub struct PiecesDef {
+    ranges: Vec<RangeDef>,
+}
+
+impl Drop for PiecesDef {
+    fn drop(self) {
+        let PiecesDef { ranges: _ranges } = self;
+    }
+}
+
+impl Model for PiecesDef {
+    ghost use Rattle.std.specs.Prelude.{List, map};
+    ghost use Rattle.problem_data.specs.Problem.{RangeData};
+    ghost use Rattle.problem_data.specs.ProblemCode.{ranges_code};
+    ghost use Rattle.problem_data.specs.ProblemView.{range_data};
+
+    ghost Value = { List RangeData };
+
+    ghost coded = { ranges_code };
+
+    ghost view = { λ p. map range_data p.ranges.items };
+}
+
+impl PiecesDef {
+    /// The range of a coordinate, by its pieces in ascending order.
+    pub fn new(ranges: Vec<RangeDef>) -> PiecesDef
+        ensures { result ≡ map range_data ranges.items }
+    {
+        PiecesDef { ranges }
+    }
+
+    /// The pieces, in ascending order.
+    pub fn ranges(&self) -> &[RangeDef]
+        ensures { map range_data result.now ≡ self.now }
+    {
+        self.ranges.as_slice()
+    }
+}
+
+// From the low end of one range to the high end of another.
+fn between(first: RangeDef, last: RangeDef) -> RangeDef
+    ensures { range_data result ≡ record { low = first.low; high = last.high } }
+{
+    RangeDef {
+        low: first.low,
+        high: last.high,
+    }
+}
+
+// From the first low end to the last high end.
+fn hull(ranges: &[RangeDef]) -> RangeDef
+    requires { 0 < length ranges.now }
+    ensures { range_data result ≡ hull (map range_data ranges.now) }
+{
+    between(ranges[0], ranges[ranges.len() - 1])
+}
+
 /// An attribute of an object.
 pub struct AttributeDef {
     pub name: Name,
@@ -128,12 +187,12 @@ impl Drop for AttributeDef {
     }
 }
 
-/// An object: its shapes by their positions in the list of shapes, from 0, the range of each coordinate of its origin, and
-/// its attributes.
+/// An object: its shapes by their positions in the list of shapes, from 0, the range of each
+/// coordinate of its origin by its pieces, and its attributes.
 pub struct ObjectDef {
     name: Name,
     shapes: Vec<u16>,
-    ranges: Vec<RangeDef>,
+    pieces: Vec<PiecesDef>,
     attributes: Vec<AttributeDef>,
 }
 
@@ -142,7 +201,7 @@ impl Drop for ObjectDef {
         let ObjectDef {
             name: _name,
             shapes: _shapes,
-            ranges: _ranges,
+            pieces: _pieces,
             attributes: _attributes,
         } = self;
     }
@@ -152,7 +211,7 @@ impl Model for ObjectDef {
     ghost use Rattle.std.specs.Prelude.{map};
     ghost use Rattle.problem_data.specs.Problem.{ObjectData};
     ghost use Rattle.problem_data.specs.ProblemCode.{object_code};
-    ghost use Rattle.problem_data.specs.ProblemView.{range_data, attribute_data};
+    ghost use Rattle.problem_data.specs.ProblemView.{attribute_data};
 
     ghost Value = { ObjectData };
 
@@ -161,7 +220,7 @@ impl Model for ObjectDef {
     ghost view = { λ o. record {
       name = o.name;
       shapes = o.shapes.items;
-      ranges = map range_data o.ranges.items;
+      pieces = o.pieces.items;
       attributes = map attribute_data o.attributes.items;
     } };
 }
@@ -171,20 +230,20 @@ impl ObjectDef {
     pub fn new(
         name: Name,
         shapes: Vec<u16>,
-        ranges: Vec<RangeDef>,
+        pieces: Vec<PiecesDef>,
         attributes: Vec<AttributeDef>,
     ) -> ObjectDef
         ensures { result ≡ record {
           name = name;
           shapes = shapes.items;
-          ranges = map range_data ranges.items;
+          pieces = pieces.items;
           attributes = map attribute_data attributes.items;
         } }
     {
         ObjectDef {
             name,
             shapes,
-            ranges,
+            pieces,
             attributes,
         }
     }
@@ -203,11 +262,20 @@ impl ObjectDef {
         self.shapes.as_slice()
     }
 
-    /// The range of each coordinate of its origin.
-    pub fn ranges(&self) -> &[RangeDef]
-        ensures { map range_data result.now ≡ self.now.ranges }
+    /// The range of each coordinate of its origin, by its pieces.
+    pub fn pieces(&self) -> &[PiecesDef]
+        ensures { result.now ≡ self.now.pieces }
     {
-        self.ranges.as_slice()
+        self.pieces.as_slice()
+    }
+
+    /// From the least number of a dimension to the greatest.
+    pub fn hull(&self, d: usize) -> RangeDef
+        requires dimension { d < length self.now.pieces }
+        requires some { 0 < length (pieces_at self.now d) }
+        ensures { range_data result ≡ hull (pieces_at self.now d) }
+    {
+        hull(self.pieces[d].ranges())
     }
 
     /// Its attributes, as written.
@@ -394,6 +462,7 @@ impl RuleDef {
 
 /// A problem. Some text says it.
 pub struct Problem {
+    version: u8,
     dims: usize,
     shapes: Vec<ShapeDef>,
     objects: Vec<ObjectDef>,
@@ -407,6 +476,7 @@ pub struct Problem {
 impl Drop for Problem {
     fn drop(self) {
         let Problem {
+            version: _,
             dims: _dims,
             shapes: _shapes,
             objects: _objects,
@@ -429,6 +499,7 @@ impl Model for Problem {
     ghost use Rattle.problem_data.specs.Accepted.{IsSaid};
 
     ghost view = { λ p. record {
+      version = p.version;
       dims = p.dims;
       shapes = p.shapes.items;
       objects = p.objects.items;
@@ -439,6 +510,7 @@ impl Model for Problem {
     } };
 
     ghost invariant = { λ p. IsSaid (record {
+      version = p.version;
       dims = p.dims;
       shapes = p.shapes.items;
       objects = p.objects.items;
@@ -452,6 +524,7 @@ impl Model for Problem {
 impl Problem {
     /// A problem that some text says.
     pub fn new(
+        version: u8,
         dims: usize,
         shapes: Vec<ShapeDef>,
         objects: Vec<ObjectDef>,
@@ -461,6 +534,7 @@ impl Problem {
         sides: Vec<Side>,
     ) -> Problem
         requires { IsSaid (record {
+          version = version;
           dims = dims;
           shapes = shapes.items;
           objects = objects.items;
@@ -470,6 +544,7 @@ impl Problem {
           sides = sides.items;
         }) }
         ensures { result ≡ record {
+          version = version;
           dims = dims;
           shapes = shapes.items;
           objects = objects.items;
@@ -480,6 +555,7 @@ impl Problem {
         } }
     {
         Problem {
+            version,
             dims,
             shapes,
             objects,
@@ -496,6 +572,13 @@ impl Problem {
         ensures formed { IsWellFormed self.now }
     {
         let _ = &self.dims;
+    }
+
+    /// The version of its text's format.
+    pub fn version(&self) -> u8
+        ensures { result ≡ self.now.version }
+    {
+        self.version
     }
 
     /// The number of dimensions.

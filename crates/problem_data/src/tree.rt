@@ -52,12 +52,23 @@ pub struct AttributeText {
     pub value: Int,
 }
 
+/// The range of a coordinate, by its pieces.
+pub struct PiecesText {
+    pub ranges: Vec<RangeText>,
+}
+
+impl Drop for PiecesText {
+    fn drop(self) {
+        let PiecesText { ranges: _ranges } = self;
+    }
+}
+
 /// The statement of an object.
 #[derive(Drop)]
 pub struct ObjectText {
     pub name: PlacedName,
     pub shapes: Vec<PlacedName>,
-    pub ranges: Vec<RangeText>,
+    pub pieces: Vec<PiecesText>,
     pub attributes: Vec<AttributeText>,
 }
 

@@ -1,5 +1,5 @@
 -- The grammar of problems with one level more, and reading a problem up to a limit of levels.
-use Rattle.std.proofs.Common.{ℕ, suc, List, [], ◌∷◌, refl}
+use Rattle.std.proofs.Common.{ℕ, suc, List, [], ◌∷◌, Bool, true, false, refl}
 use Rattle.geo_tokens.specs.declared.token.Token.{Token}
 use Rattle.geo_tokens.specs.declared.token.Kind.{Kind}
 use Rattle.geo_tokens.specs.declared.token.Kind.TheVariants as kinds
@@ -16,7 +16,7 @@ use Rattle.rule_syntax.specs.Grammar.{Named, ExprWords, FormulaWords}
 use Rattle.rule_reading.proofs.Steps.{Step, tok_step, pure_step, bind_step, either_step, opt_step, many_step, steps_split}
 use Rattle.rule_reading.proofs.Limits.{expr_step, formula_step}
 use Rattle.problem_data.specs.Marks.{side_words, param_words}
-use Rattle.problem_data.specs.Grammar.{OneOrMore, Listed, IntWords, RangeWords, BoxWords, ShapeWords, AttributeWords, Attributes, ObjectWords, OrderWords, SidesWords, ParamWords, Params, BodyWords, MacroWords, DemandWords, RuleWords, StatementWords, ProblemWords}
+use Rattle.problem_data.specs.Grammar.{OneOrMore, Listed, IntWords, RangeWords, BoxWords, ShapeWords, AttributeWords, Attributes, PiecesWords, is_second, ObjectWords, OrderWords, SidesWords, ParamWords, Params, BodyWords, MacroWords, DemandWords, RuleWords, StatementWords, ProblemWords}
 use Rattle.problem_syntax.specs.Reading.{problem_at}
 use Rattle.problem_syntax.proofs.Right.{problem_good}
 
@@ -58,6 +58,11 @@ pub range_step : Step RangeWords RangeWords
 unfolding RangeWords
 range_step = bind_step _ _ _ _ int_step (λ a. bind_step _ _ _ _ (symbol_step symbols.DotDot) (λ d. bind_step _ _ _ _ int_step (λ b. pure_step _)))
 
+pieces_step : (second : Bool) → Step (PiecesWords second) (PiecesWords second)
+unfolding PiecesWords
+pieces_step false = bind_step _ _ _ _ range_step (λ r. pure_step _)
+pieces_step true = listed_step _ _ range_step
+
 box_step : Step BoxWords BoxWords
 unfolding BoxWords
 box_step = bind_step _ _ _ _ (word_step keywords.Box) (λ b. bind_step _ _ _ _ (one_or_more_step _ _ int_step) (λ os. bind_step _ _ _ _ (word_step keywords.Size) (λ c. bind_step _ _ _ _ (one_or_more_step _ _ int_step) (λ ss. pure_step _))))
@@ -81,12 +86,12 @@ module _ (text : List ℕ) where
   unfolding Attributes
   attributes_step = opt_step _ _ [] (bind_step _ _ _ _ (word_step keywords.With) (λ t. listed_step _ _ attribute_step))
 
-  object_step : Step (ObjectWords text) (ObjectWords text)
+  object_step : (second : Bool) → Step (ObjectWords text second) (ObjectWords text second)
   unfolding ObjectWords
-  object_step =
+  object_step second =
       bind_step _ _ _ _ (word_step keywords.Object) (λ t. bind_step _ _ _ _ (named_step text) (λ a.
       bind_step _ _ _ _ (word_step keywords.As) (λ u. bind_step _ _ _ _ (listed_step _ _ (named_step text)) (λ ss.
-      bind_step _ _ _ _ (word_step keywords.At) (λ v. bind_step _ _ _ _ (one_or_more_step _ _ range_step) (λ rs.
+      bind_step _ _ _ _ (word_step keywords.At) (λ v. bind_step _ _ _ _ (one_or_more_step _ _ (pieces_step second)) (λ ps.
       bind_step _ _ _ _ attributes_step (λ vs. bind_step _ _ _ _ (symbol_step symbols.Semicolon) (λ e. pure_step _))))))))
 
   order_step : Step (OrderWords text) (OrderWords text)
@@ -124,16 +129,16 @@ module _ (text : List ℕ) where
     unfolding RuleWords
     rule_step = bind_step _ _ _ _ (word_step keywords.Rule) (λ t. bind_step _ _ _ _ (named_step text) (λ a. bind_step _ _ _ _ (symbol_step symbols.Colon) (λ c. bind_step _ _ _ _ demand_step (λ d. bind_step _ _ _ _ (symbol_step symbols.Semicolon) (λ e. pure_step _)))))
 
-    statement_step : Step (StatementWords text n) (StatementWords text (suc n))
+    statement_step : (second : Bool) → Step (StatementWords text n second) (StatementWords text (suc n) second)
     unfolding StatementWords
-    statement_step = either_step _ _ _ _ shape_step (either_step _ _ _ _ object_step (either_step _ _ _ _ order_step (either_step _ _ _ _ sides_step (either_step _ _ _ _ macro_step rule_step))))
+    statement_step second = either_step _ _ _ _ shape_step (either_step _ _ _ _ (object_step second) (either_step _ _ _ _ order_step (either_step _ _ _ _ sides_step (either_step _ _ _ _ macro_step rule_step))))
 
     problem_step : Step (ProblemWords text n) (ProblemWords text (suc n))
     unfolding ProblemWords
     problem_step =
         bind_step _ _ _ _ (word_step keywords.Geost) (λ a. bind_step _ _ _ _ number_step (λ v.
         bind_step _ _ _ _ (word_step keywords.Dims) (λ b. bind_step _ _ _ _ number_step (λ d.
-        bind_step _ _ _ _ (many_step (StatementWords text n) (StatementWords text (suc n)) statement_step) (λ ss. bind_step _ _ _ _ (word_step keywords.End) (λ e. pure_step _))))))
+        bind_step _ _ _ _ (many_step (StatementWords text n (is_second v)) (StatementWords text (suc n) (is_second v)) (statement_step (is_second v))) (λ ss. bind_step _ _ _ _ (word_step keywords.End) (λ e. pure_step _))))))
 
   -- what reading a problem gives
   pub problem_reading : (n : ℕ) (w : List Token) → IsReading (ProblemWords text) n w (problem_at text n w)

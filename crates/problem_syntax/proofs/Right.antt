@@ -1,5 +1,5 @@
 -- Each reader of statements reads its language.
-use Rattle.std.proofs.Common.{◌≡◌, ℕ, List, [], ◌++◌, true, false, refl}
+use Rattle.std.proofs.Common.{◌≡◌, ℕ, List, [], ◌++◌, Bool, true, false, refl}
 use Rattle.geo_tokens.specs.declared.token.Token.{Token}
 use Rattle.geo_tokens.specs.declared.token.Kind.TheVariants as kinds
 use Rattle.geo_tokens.specs.declared.token.Keyword.TheVariants as keywords
@@ -7,7 +7,7 @@ use Rattle.geo_tokens.specs.declared.token.Sym.TheVariants as symbols
 use Rattle.geo_tokens.specs.Words.{Kinds, names, numbers, word, symbol, Lang, Bind, Tok}
 use Rattle.geo_tokens.specs.Reading.{Read}
 use Rattle.geo_tokens.proofs.Lists.{disjoint}
-use Rattle.geo_tokens.proofs.Good.{Good, pure_good, one_good, bind_good, either_good, opt_good, many_good}
+use Rattle.geo_tokens.proofs.Good.{Good, pure_good, one_good, bind_good, either_good, opt_good, many_good, wider_good}
 use Rattle.geo_tokens.proofs.OneToken.{of_kind, number_good, word_good, symbol_good}
 use Rattle.rule_syntax.proofs.Expressions.{named_good, expr_good}
 use Rattle.rule_reading.proofs.Formulas.{formula_good}
@@ -15,8 +15,8 @@ use Rattle.rule_syntax.specs.Marks.{unary_firsts, expr_behinds, formula_behinds}
 use Rattle.rule_syntax.specs.Grammar.{Named}
 use Rattle.rule_syntax.specs.Reading.{named_at}
 use Rattle.problem_data.specs.Marks.{int_firsts, side_words, param_words, statement_firsts}
-use Rattle.problem_data.specs.Grammar.{OneOrMore, Listed, PlainInt, NegativeInt, IntWords, RangeWords, BoxWords, ShapeWords, AttributeWords, Attributes, ObjectWords, OrderWords, SideWords, SidesWords, ParamWords, Params, BodyWords, MacroWords, DemandWords, RuleWords, StatementWords, ProblemWords}
-use Rattle.problem_syntax.specs.Reading.{one_or_more_at, next_at, listed_at, plain_int_at, negative_int_at, int_at, ints_at, range_at, ranges_at, box_at, boxes_at, names_at, shape_at, attribute_at, attribute_list_at, attributes_at, object_at, order_at, side_at, side_list_at, sides_at, param_at, param_list_at, params_at, body_at, macro_at, demand_at, rule_at, statement_at, problem_at}
+use Rattle.problem_data.specs.Grammar.{OneOrMore, Listed, PlainInt, NegativeInt, IntWords, RangeWords, BoxWords, ShapeWords, AttributeWords, Attributes, PiecesWords, is_second, ObjectWords, OrderWords, SideWords, SidesWords, ParamWords, Params, BodyWords, MacroWords, DemandWords, RuleWords, StatementWords, ProblemWords}
+use Rattle.problem_syntax.specs.Reading.{one_or_more_at, next_at, listed_at, plain_int_at, negative_int_at, int_at, ints_at, range_at, ranges_at, box_at, boxes_at, names_at, shape_at, attribute_at, attribute_list_at, attributes_at, pieces_at, each_pieces_at, object_at, order_at, side_at, side_list_at, sides_at, param_at, param_list_at, params_at, body_at, macro_at, demand_at, rule_at, statement_at, problem_at}
 
 -- ---- lists
 
@@ -53,6 +53,19 @@ range_good = bind_good refl int_good (λ a. bind_good refl (symbol_good symbols.
 ranges_good : Good (OneOrMore RangeWords) ranges_at false int_firsts int_firsts
 unfolding ranges_at
 ranges_good = one_or_more_good refl refl refl range_good
+
+-- what stands behind a comma, and the pieces of a range
+pub next_range_good : Good (Bind (Tok (symbol symbols.Comma)) (λ mark. RangeWords)) (next_at range_at) false (symbol symbols.Comma) []
+next_range_good = next_good range_good
+
+pub pieces_good : (second : Bool) → Good (PiecesWords second) (pieces_at second) false int_firsts (symbol symbols.Comma)
+unfolding PiecesWords pieces_at
+pieces_good false = wider_good int_firsts (symbol symbols.Comma) refl refl refl (bind_good refl range_good (λ r. pure_good _))
+pieces_good true = listed_good range_good
+
+each_pieces_good : (second : Bool) → Good (OneOrMore (PiecesWords second)) (each_pieces_at second) false int_firsts (int_firsts ++ symbol symbols.Comma)
+unfolding each_pieces_at
+each_pieces_good second = wider_good int_firsts (int_firsts ++ symbol symbols.Comma) refl refl refl (one_or_more_good refl refl refl (pieces_good second))
 
 pub box_good : Good BoxWords box_at false (word keywords.Box) int_firsts
 unfolding BoxWords box_at
@@ -91,12 +104,12 @@ module _ (text : List ℕ) where
   unfolding Attributes attributes_at
   attributes_good = opt_good [] (bind_good refl (word_good keywords.With) (λ t. attribute_list_good))
 
-  object_good : Good (ObjectWords text) (object_at text) false (word keywords.Object) []
+  object_good : (second : Bool) → Good (ObjectWords text second) (object_at text second) false (word keywords.Object) []
   unfolding ObjectWords object_at
-  object_good =
+  object_good second =
       bind_good refl (word_good keywords.Object) (λ t. bind_good refl (named_good text) (λ a.
       bind_good refl (word_good keywords.As) (λ u. bind_good refl names_good (λ ss.
-      bind_good refl (word_good keywords.At) (λ v. bind_good refl ranges_good (λ rs.
+      bind_good refl (word_good keywords.At) (λ v. bind_good refl (each_pieces_good second) (λ ps.
       bind_good refl attributes_good (λ vs. bind_good refl (symbol_good symbols.Semicolon) (λ e. pure_good _))))))))
 
   order_good : Good (OrderWords text) (order_at text) false (word keywords.Order) []
@@ -152,10 +165,10 @@ module _ (text : List ℕ) where
 
   -- ---- the whole text
 
-  pub statement_good : (n : ℕ) → Good (StatementWords text n) (statement_at text n) false statement_firsts []
+  pub statement_good : (n : ℕ) (second : Bool) → Good (StatementWords text n second) (statement_at text n second) false statement_firsts []
   unfolding StatementWords statement_at
-  statement_good n =
-      either_good refl (shape_good text) (either_good refl (object_good text) (either_good refl (order_good text)
+  statement_good n second =
+      either_good refl (shape_good text) (either_good refl (object_good text second) (either_good refl (order_good text)
       (either_good refl sides_good (either_good refl (macro_good n) (rule_good n)))))
 
   pub problem_good : (n : ℕ) → Good (ProblemWords text n) (problem_at text n) false (word keywords.Geost) []
@@ -163,4 +176,4 @@ module _ (text : List ℕ) where
   problem_good n =
       bind_good refl (word_good keywords.Geost) (λ a. bind_good refl number_good (λ v.
       bind_good refl (word_good keywords.Dims) (λ b. bind_good refl number_good (λ d.
-      bind_good refl (many_good refl (statement_good n)) (λ ss. bind_good refl (word_good keywords.End) (λ e. pure_good _))))))
+      bind_good refl (many_good refl (statement_good n (is_second v))) (λ ss. bind_good refl (word_good keywords.End) (λ e. pure_good _))))))

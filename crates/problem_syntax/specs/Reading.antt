@@ -1,5 +1,5 @@
 -- Reading the grammar from the left: one definition for each language, of the same form.
-use Rattle.std.specs.Prelude.{ℕ, List, [], ◌∷◌, Some}
+use Rattle.std.specs.Prelude.{ℕ, List, [], ◌∷◌, Some, Bool, true, false}
 use Rattle.geo_tokens.specs.declared.token.Keyword.TheVariants as keywords
 use Rattle.geo_tokens.specs.declared.token.Sym.TheVariants as symbols
 use Rattle.geo_tokens.specs.Words.{Kinds, names, numbers, word, symbol}
@@ -13,7 +13,7 @@ use Rattle.problem_data.specs.declared.tree.SideText.{SideText}
 use Rattle.problem_data.specs.declared.tree.ParamText.{ParamText}
 use Rattle.problem_data.specs.Marks.{int_firsts, side_words, param_words, statement_firsts}
 use Rattle.problem_data.specs.Tree.{BoxTree, BodyTree, means, equals, DemandTree, apart, within, plain, StatementTree, ProblemTree}
-use Rattle.problem_data.specs.Grammar.{plain_int, negative_int, range_text, box_tree, attribute_text, side_text, param_text, shape_tree, object_tree, order_tree, sides_tree, macro_tree, rule_tree}
+use Rattle.problem_data.specs.Grammar.{is_second, plain_int, negative_int, range_text, box_tree, attribute_text, side_text, param_text, shape_tree, object_tree, order_tree, sides_tree, macro_tree, rule_tree}
 
 -- ---- lists
 
@@ -77,15 +77,26 @@ some_attributes_at text w = token_at (word keywords.With) w >>= λ t rest. attri
 unfoldable pub attributes_at : List ℕ → Reader (List AttributeText)
 attributes_at text = opt_at (word keywords.With) (some_attributes_at text) []
 
--- the ranges and the attributes of an object with this name and these shapes
-abbrev pub object_rest_at : List ℕ → PlacedName → List PlacedName → Reader StatementTree
-object_rest_at text a ss w =
-    token_at (word keywords.At) w >>= λ v w1. ranges_at w1 >>= λ rs w2. attributes_at text w2 >>= λ vs w3. ended_at (object_tree a ss rs vs) w3
+-- the range of a coordinate, in a text of version 2 or of version 1
+abbrev pub one_piece_at : Reader (List RangeText)
+one_piece_at w = range_at w >>= λ r rest. Got (Some (r ∷ [])) rest
 
-unfoldable pub object_at : List ℕ → Reader StatementTree
-object_at text w =
+unfoldable pub pieces_at : Bool → Reader (List RangeText)
+pieces_at false = one_piece_at
+pieces_at true = listed_at range_at
+
+unfoldable pub each_pieces_at : Bool → Reader (List (List RangeText))
+each_pieces_at second = one_or_more_at int_firsts (pieces_at second)
+
+-- the ranges and the attributes of an object with this name and these shapes
+abbrev pub object_rest_at : List ℕ → Bool → PlacedName → List PlacedName → Reader StatementTree
+object_rest_at text second a ss w =
+    token_at (word keywords.At) w >>= λ v w1. each_pieces_at second w1 >>= λ ps w2. attributes_at text w2 >>= λ vs w3. ended_at (object_tree a ss ps vs) w3
+
+unfoldable pub object_at : List ℕ → Bool → Reader StatementTree
+object_at text second w =
     token_at (word keywords.Object) w >>= λ t w1. named_at text w1 >>= λ a w2.
-    token_at (word keywords.As) w2 >>= λ u w3. names_at text w3 >>= λ ss w4. object_rest_at text a ss w4
+    token_at (word keywords.As) w2 >>= λ u w3. names_at text w3 >>= λ ss w4. object_rest_at text second a ss w4
 
 unfoldable pub order_at : List ℕ → Reader StatementTree
 order_at text w = token_at (word keywords.Order) w >>= λ t w1. names_at text w1 >>= λ ns w2. ended_at (order_tree t ns) w2
@@ -150,17 +161,17 @@ rule_at text n w = token_at (word keywords.Rule) w >>= λ t w1. named_at text w1
 
 -- ---- the whole text
 
-unfoldable pub statement_at : List ℕ → ℕ → Reader StatementTree
-statement_at text n =
-    either_at (word keywords.Shape) (shape_at text) (either_at (word keywords.Object) (object_at text) (either_at (word keywords.Order) (order_at text)
+unfoldable pub statement_at : List ℕ → ℕ → Bool → Reader StatementTree
+statement_at text n second =
+    either_at (word keywords.Shape) (shape_at text) (either_at (word keywords.Object) (object_at text second) (either_at (word keywords.Order) (order_at text)
     (either_at (word keywords.Sides) sides_at (either_at (word keywords.Macro) (macro_at text n) (rule_at text n)))))
 
 -- the statements of a text with this version and this number of dimensions
-abbrev pub problem_rest_at : List ℕ → ℕ → Int → Int → Reader ProblemTree
-problem_rest_at text n v d w =
-    many_at statement_firsts (statement_at text n) w >>= λ ss w1. token_at (word keywords.End) w1 >>= λ e rest. Got (Some (record { version = v; dims = d; statements = ss })) rest
+abbrev pub problem_rest_at : List ℕ → ℕ → Bool → Int → Int → Reader ProblemTree
+problem_rest_at text n second v d w =
+    many_at statement_firsts (statement_at text n second) w >>= λ ss w1. token_at (word keywords.End) w1 >>= λ e rest. Got (Some (record { version = v; dims = d; statements = ss })) rest
 
 unfoldable pub problem_at : List ℕ → ℕ → Reader ProblemTree
 problem_at text n w =
     token_at (word keywords.Geost) w >>= λ a w1. token_at numbers w1 >>= λ v w2.
-    token_at (word keywords.Dims) w2 >>= λ b w3. token_at numbers w3 >>= λ d w4. problem_rest_at text n (plain_int v) (plain_int d) w4
+    token_at (word keywords.Dims) w2 >>= λ b w3. token_at numbers w3 >>= λ d w4. problem_rest_at text n (is_second v) (plain_int v) (plain_int d) w4

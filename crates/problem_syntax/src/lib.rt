@@ -5,6 +5,7 @@ mod end;
 pub mod numbers;
 pub mod objects;
 pub mod order;
+mod pieces;
 pub mod rules;
 pub mod statements;
 pub mod syntax;

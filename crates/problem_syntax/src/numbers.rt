@@ -71,7 +71,7 @@ pub fn int(tokens: &[Token]) -> Result<(Int, &[Token]), Stop<'_>>
 }
 
 /// A whole number begins here.
-fn begins_int(tokens: &[Token]) -> bool
+pub fn begins_int(tokens: &[Token]) -> bool
     ensures { result ≡ next_is int_firsts tokens.now }
 {
     next_in(tokens, &[Kind::Symbol(Sym::Minus), Kind::Number(0)])
@@ -92,7 +92,7 @@ pub fn ints(alloc: Global, tokens: &[Token]) -> Result<(Vec<Int>, &[Token]), Sto
 
 /// A range.
 #[tactic(auto, unfolding(crate::specs::Reading::range_at))]
-fn range(tokens: &[Token]) -> Result<(RangeText, &[Token]), Stop<'_>>
+pub fn range(tokens: &[Token]) -> Result<(RangeText, &[Token]), Stop<'_>>
     ensures { Gives (λ r. r) result (range_at tokens.now) }
 {
     let (low, rest) = followed_by(int(tokens), Kind::Symbol(Sym::DotDot))?;
@@ -100,7 +100,7 @@ fn range(tokens: &[Token]) -> Result<(RangeText, &[Token]), Stop<'_>>
     Ok((RangeText { low, high }, rest))
 }
 
-/// Ranges, one at least.
+/// The ranges of `within`, one at least.
 #[tactic(auto, unfolding(crate::specs::Reading::ranges_at))]
 pub fn ranges(alloc: Global, tokens: &[Token]) -> Result<(Vec<RangeText>, &[Token]), Stop<'_>>
     ensures { Gives (λ v. v.items) result (ranges_at tokens.now) }

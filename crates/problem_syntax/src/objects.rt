@@ -7,7 +7,8 @@ ghost use Rattle.problem_syntax.specs.Reading.{next_at, box_at, boxes_at, shape_
 ghost use Rattle.problem_data.specs.View.{box_view, box_views, statement_view};
 
 use crate::end::ended;
-use crate::numbers::{int, ints, ranges};
+use crate::numbers::{int, ints};
+use crate::pieces::each_pieces;
 use geo_tokens::stop::{Stop, add, behind, followed_by, next_is, token};
 use geo_tokens::token::{Keyword, Kind, Sym, Token};
 use problem_data::tree::{AttributeText, BoxText, ObjectText, ShapeText, Statement};
@@ -155,38 +156,41 @@ fn attributes<'a>(
     attribute_list(alloc, text, rest)
 }
 
-/// What stands behind the shapes of an object.
+/// What stands behind the shapes of an object, in a text of version 2 or of version 1.
 fn object_rest<'a>(
     alloc: Global,
     text: &[u8],
+    second: bool,
     name: PlacedName,
     shapes: Vec<PlacedName>,
     tokens: &'a [Token],
 ) -> Result<(Statement, &'a [Token]), Stop<'a>>
-    ensures { Gives statement_view result (object_rest_at text.now name shapes.items tokens.now) }
+    ensures { Gives statement_view result
+        (object_rest_at text.now second name shapes.items tokens.now) }
 {
     let Some(rest) = behind(tokens, Kind::Word(Keyword::At)) else {
         return Err(Stop::Wrong(tokens));
     };
-    let (ranges, rest) = ranges(alloc, rest)?;
+    let (pieces, rest) = each_pieces(alloc, second, rest)?;
     let (attributes, rest) = attributes(alloc, text, rest)?;
     let object = ObjectText {
         name,
         shapes,
-        ranges,
+        pieces,
         attributes,
     };
     ended(Statement::Object(object), rest)
 }
 
-/// The statement of an object.
+/// The statement of an object, in a text of version 2 or of version 1.
 #[tactic(auto, unfolding(crate::specs::Reading::object_at))]
 pub fn object<'a>(
     alloc: Global,
     text: &[u8],
+    second: bool,
     tokens: &'a [Token],
 ) -> Result<(Statement, &'a [Token]), Stop<'a>>
-    ensures { Gives statement_view result (object_at text.now tokens.now) }
+    ensures { Gives statement_view result (object_at text.now second tokens.now) }
 {
     let Some(rest) = behind(tokens, Kind::Word(Keyword::Object)) else {
         return Err(Stop::Wrong(tokens));
@@ -194,5 +198,5 @@ pub fn object<'a>(
     let name = placed_name(alloc, text, rest);
     let (name, rest) = followed_by(name, Kind::Word(Keyword::As))?;
     let (shapes, rest) = names(alloc, text, rest)?;
-    object_rest(alloc, text, name, shapes, rest)
+    object_rest(alloc, text, second, name, shapes, rest)
 }

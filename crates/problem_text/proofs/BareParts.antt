@@ -9,7 +9,7 @@ use Rattle.problem_data.specs.Meaning as meaning
 use Rattle.problem_text.specs.ReadBack.{bare_macro, bare_rule, bare_problem}
 use Rattle.problem_text.specs.ReadBack.{bare_demand as bare_demand_data, bare_body as bare_body_data}
 use Rattle.problem_data.specs.Problem.{within as inside}
-use Rattle.problem_text.proofs.PrintingParts.{bare_int, bare_range, bare_box, bare_attribute, bare_param, bare_side, bare_body, bare_demand}
+use Rattle.problem_text.proofs.PrintingParts.{bare_int, bare_range, bare_pieces, bare_box, bare_attribute, bare_param, bare_side, bare_body, bare_demand}
 use Rattle.problem_text.proofs.PrintingStatements.{bare_statement}
 use Rattle.problem_text.proofs.PrintingProblem.{bare_problem_tree}
 
@@ -17,7 +17,7 @@ abbrev pub bare_shape : ShapeTree → ShapeTree
 bare_shape s = record { name = bare_name s.name; boxes = map bare_box s.boxes }
 
 abbrev pub bare_object : ObjectTree → ObjectTree
-bare_object o = record { name = bare_name o.name; shapes = map bare_name o.shapes; ranges = map bare_range o.ranges; attributes = map bare_attribute o.attributes }
+bare_object o = record { name = bare_name o.name; shapes = map bare_name o.shapes; pieces = map bare_pieces o.pieces; attributes = map bare_attribute o.attributes }
 
 abbrev pub bare_order : OrderTree → OrderTree
 bare_order o = record { place = 0; names = map bare_name o.names }
@@ -146,7 +146,7 @@ object_bare : (names : List (List ℕ)) (o : ObjectTree) → meaning.object_of n
 object_bare names o = λ i. record {
   name = o.name.name;
   shapes = map_after (meaning.position_of names) bare_name (meaning.position_of names) (λ n. refl) o.shapes i;
-  ranges = map_after meaning.range_of bare_range meaning.range_of (λ r. refl) o.ranges i;
+  pieces = map_after meaning.pieces_of bare_pieces meaning.pieces_of (λ rs. map_after meaning.range_of bare_range meaning.range_of (λ r. refl) rs) o.pieces i;
   attributes = map_after meaning.attribute_of bare_attribute meaning.attribute_of (λ a. refl) o.attributes i;
 }
 
@@ -176,6 +176,7 @@ sides_bare k (s ∷ ss) = map_after meaning.side_of bare_side meaning.side_of (�
 -- statements without places mean the problem without places
 pub meaning_bare : (q : Parts) → meaning.problem_of (bare_parts q) ≡ bare_problem (meaning.problem_of q)
 meaning_bare q = λ i. record {
+  version = count_of q.version.value;
   dims = count_of q.dims.value;
   shapes = map_after meaning.shape_of bare_shape meaning.shape_of shape_bare q.shapes i;
   objects = (ap (λ names. map (meaning.object_of names) (map bare_object q.objects)) (shape_names_bare q.shapes) ∙ map_after (meaning.object_of (shape_names q.shapes)) bare_object (meaning.object_of (shape_names q.shapes)) (object_bare (shape_names q.shapes)) q.objects) i;

@@ -11,11 +11,11 @@ use Rattle.problem_data.specs.Tree.{ShapeTree, ObjectTree, OrderTree, SidesTree,
 use Rattle.problem_data.specs.Parts.{Parts, parts_of, as_shape, as_object, as_order, as_sides, as_macro, as_rule}
 use Rattle.problem_data.specs.Faults.{shape_names, object_names}
 use Rattle.problem_data.specs.Meaning as meaning
-use Rattle.problem_data.specs.Problem.{BoxData, ShapeData, ObjectData, MacroData, DemandData, apart, within, plain, RuleData, ProblemData, runs_down}
+use Rattle.problem_data.specs.Problem.{BoxData, ShapeData, RangeData, ObjectData, MacroData, DemandData, apart, within, plain, RuleData, ProblemData, runs_down}
 use Rattle.problem_text.specs.Canonical.{name_at, counts_from, shape_spelling, object_spelling, macro_spelling, rule_spelling, order_spelling, sides_spelling}
 use Rattle.problem_text.specs.Canonical as canonical
 use Rattle.problem_text.specs.ReadBack.{bare_macro, bare_demand, bare_rule, bare_problem}
-use Rattle.problem_text.proofs.PrintingParts.{int_of, name_of, range_of, box_of, attribute_of, param_of, side_of, demand_of, bare_body}
+use Rattle.problem_text.proofs.PrintingParts.{int_of, name_of, range_of, pieces_of, box_of, attribute_of, param_of, side_of, demand_of, bare_body}
 use Rattle.problem_text.proofs.PrintingStatements.{shape_of, object_of, order_of, sides_of, macro_of, rule_of}
 use Rattle.problem_text.proofs.PrintingProblem.{Line, line_where, ways, all_statements, tree_of}
 use Rattle.problem_text.proofs.BareParts.{map_back, map_after, body_bare}
@@ -26,7 +26,7 @@ abbrev pub shape_tree_of : ShapeData → ShapeTree
 shape_tree_of s = record { name = name_of s.name; boxes = map box_of s.boxes }
 
 abbrev pub object_tree_of : List (List ℕ) → ObjectData → ObjectTree
-object_tree_of names o = record { name = name_of o.name; shapes = map (λ i. name_of (name_at names i)) o.shapes; ranges = map range_of o.ranges; attributes = map attribute_of o.attributes }
+object_tree_of names o = record { name = name_of o.name; shapes = map (λ i. name_of (name_at names i)) o.shapes; pieces = map pieces_of o.pieces; attributes = map attribute_of o.attributes }
 
 abbrev pub order_tree_of : List (List ℕ) → List ℕ → OrderTree
 order_tree_of names order = record { place = 0; names = map (λ i. name_of (name_at names i)) order }
@@ -45,7 +45,7 @@ one_if needed a = if needed then a ∷ [] else []
 
 abbrev pub canonical_parts : ProblemData → Parts
 canonical_parts p = record {
-  version = int_of (pos 1);
+  version = int_of (pos p.version);
   dims = int_of (pos p.dims);
   shapes = map shape_tree_of p.shapes;
   objects = map (object_tree_of (canonical.shape_names p)) p.objects;
@@ -170,7 +170,7 @@ module _ (p : ProblemData) where
 -- the statements of the canonical text
 pub parts_canonical : (p : ProblemData) → parts_of (tree_of p) ≡ canonical_parts p
 parts_canonical p = λ i. record {
-  version = int_of (pos 1);
+  version = int_of (pos p.version);
   dims = int_of (pos p.dims);
   shapes = shapes_there p i;
   objects = objects_there p i;
@@ -220,11 +220,14 @@ positions_back : (names : List (List ℕ)) (js : List ℕ) → ArePositions name
 positions_back names [] h = refl
 positions_back names (j ∷ js) h = λ i. h.0 i ∷ positions_back names js h.1 i
 
+pieces_back : (rs : List RangeData) → meaning.pieces_of (pieces_of rs) ≡ rs
+pieces_back rs = map_back meaning.range_of range_of (λ r. refl) rs
+
 object_back : (names : List (List ℕ)) (o : ObjectData) → ArePositions names o.shapes → meaning.object_of names (object_tree_of names o) ≡ o
 object_back names o h = λ i. record {
   name = o.name;
   shapes = positions_back names o.shapes h i;
-  ranges = map_back meaning.range_of range_of (λ r. refl) o.ranges i;
+  pieces = map_back meaning.pieces_of pieces_of pieces_back o.pieces i;
   attributes = map_back meaning.attribute_of attribute_of (λ a. refl) o.attributes i;
 }
 
@@ -254,6 +257,7 @@ sides_back false k sides low = low refl
 -- the canonical statements of a consistent problem mean it, places aside
 pub canonical_meaning : (p : ProblemData) → IsConsistent p → meaning.problem_of (canonical_parts p) ≡ bare_problem p
 canonical_meaning p c = λ i. record {
+  version = p.version;
   dims = p.dims;
   shapes = map_back meaning.shape_of shape_tree_of shape_back p.shapes i;
   objects = (ap (λ names. map (meaning.object_of names) (map (object_tree_of (canonical.shape_names p)) p.objects)) (shape_names_back p.shapes) ∙ objects_back (canonical.shape_names p) p.objects c.shapes) i;

@@ -1,6 +1,6 @@
 -- The canonical text of a problem that a text says has no fault, and so it says the same problem, places aside.
 use Rattle.std.proofs.Common.{◌≡◌, ℕ, zero, suc, ◌≤◌, ℤ, pos, negsuc, ◌≤ℤ◌, List, [], ◌∷◌, length, take, map, Some, Bool, true, false, inl, inr, refl, sym, ap, ◌∙◌, subst, arith}
-use Rattle.std.specs.Prelude.{slice_get, not}
+use Rattle.std.specs.Prelude.{◌⊎◌, slice_get, not}
 use Rattle.std.specs.List.{list_any}
 use Rattle.std.proofs.lemmas.Int.{ints}
 use Rattle.std.proofs.lemmas.List.{length-map}
@@ -15,6 +15,7 @@ use Rattle.problem_data.specs.Tree.{BoxTree, ShapeTree, ObjectTree, OrderTree, S
 use Rattle.problem_data.specs.Grammar.{ProblemWords}
 use Rattle.problem_syntax.specs.Reading.{problem_at}
 use Rattle.problem_data.specs.Whole.{IsWhole}
+use Rattle.problem_data.specs.Limits.{IsVersion, most_dims_in}
 use Rattle.problem_data.specs.Least.{fault}
 use Rattle.problem_data.specs.Parts.{Parts, parts_of}
 use Rattle.problem_data.specs.Faults.{Among, OrderFault, SidesFault, IsDims, IsFault, version, dims, shapes, objects, orders, sides, macros, rules, ShapesFault, ObjectsFault, RulesFault, shape_name, object_name, shape_names, object_names, count_of}
@@ -28,7 +29,7 @@ use Rattle.problem_syntax.proofs.Right.{problem_good}
 use Rattle.problem_syntax.proofs.Levels.{problem_reading}
 use Rattle.problem_syntax.proofs.WholeText.{is_whole}
 use Rattle.problem_data.proofs.Accepted.{accepted_well_formed}
-use Rattle.problem_text.proofs.PrintingParts.{bare_int, bare_range, bare_box, bare_attribute, bare_param, bare_demand, int_of, name_of, range_of, box_of, attribute_of, param_of, demand_of, bare_side, side_of}
+use Rattle.problem_text.proofs.PrintingParts.{bare_int, bare_range, bare_pieces, bare_box, bare_attribute, bare_param, bare_demand, int_of, name_of, range_of, pieces_of, box_of, attribute_of, param_of, demand_of, bare_side, side_of}
 use Rattle.problem_text.proofs.BareParts.{bare_shape, bare_object, bare_order, bare_sides, bare_macro_tree, bare_rule_tree, bare_parts, parts_bare, meaning_bare, map_after}
 use Rattle.problem_text.proofs.CanonicalParts.{shape_tree_of, object_tree_of, order_tree_of, sides_tree_of, macro_tree_of, rule_tree_of, one_if, canonical_parts, parts_canonical, canonical_meaning}
 use Rattle.problem_text.proofs.PrintingProblem.{problem_again}
@@ -54,7 +55,7 @@ object_again : (names : List (List ℕ)) (o : ObjectTree) → AllOf (Made names)
 object_again names o h = λ i. record {
   name = bare_name o.name;
   shapes = names_again names o.shapes h i;
-  ranges = map_after range_of meaning.range_of bare_range (λ r. refl) o.ranges i;
+  pieces = map_after pieces_of meaning.pieces_of bare_pieces (λ rs. map_after range_of meaning.range_of bare_range (λ r. refl) rs) o.pieces i;
   attributes = map_after attribute_of meaning.attribute_of bare_attribute (λ a. refl) o.attributes i;
 }
 
@@ -100,6 +101,15 @@ not_true : (b : Bool) → not b ≡ true → b ≡ false
 not_true true e = absurd cc
 not_true false e = refl
 
+-- a version that exists
+known_version : (n : ℕ) → (n ≡ 1) ⊎ (n ≡ 2) → IsVersion (pos n)
+known_version n (inl e) = inl (ap pos e)
+known_version n (inr e) = inr (ap pos e)
+
+-- a number of dimensions that the version has
+abbrev HasDims : ℕ → ℤ → Type 0
+HasDims v k = (pos 1 ≤ℤ k) × (k ≤ℤ pos (most_dims_in v))
+
 -- a number that is at least 1
 counted : (v : ℤ) → pos 1 ≤ℤ v → pos (count_of v) ≡ v
 counted (pos n) h = refl
@@ -128,15 +138,18 @@ module _ (o : Parts) (faultless : (f : Fault) → IsFault o f → ⊥) (well : I
   rules_like : map bare_rule_tree q.rules ≡ map bare_rule_tree o.rules
   rules_like = ap (λ (u : Parts). u.rules) same ∙ map_after rule_tree_of meaning.rule_of bare_rule_tree rule_again o.rules
 
-  -- the number of dimensions
-  stated : IsDims o.dims.value
+  -- the version and the number of dimensions
+  version_like : q.version.value ≡ pos p.version
+  version_like = ap (λ (u : Parts). u.version.value) same
+
+  stated : IsDims o.version.value o.dims.value
   stated = (positive, few)
     where
       positive : pos 1 ≤ℤ o.dims.value
       positive = at_most (pos 1) o.dims.value (λ n. faultless (fault o.dims.place words.Limit) (dims ((λ d. n d.0), refl)))
 
-      few : o.dims.value ≤ℤ pos 4
-      few = at_most o.dims.value (pos 4) (λ n. faultless (fault o.dims.place words.Limit) (dims ((λ d. n d.1), refl)))
+      few : o.dims.value ≤ℤ pos (most_dims_in p.version)
+      few = at_most o.dims.value (pos (most_dims_in p.version)) (λ n. faultless (fault o.dims.place words.Limit) (dims ((λ d. n d.1), refl)))
 
   dims_like : q.dims.value ≡ o.dims.value
   dims_like = ap (λ (u : Parts). u.dims.value) same ∙ counted o.dims.value stated.0
@@ -188,8 +201,8 @@ module _ (o : Parts) (faultless : (f : Fault) → IsFault o f → ⊥) (well : I
   -- ---- all
 
   pub right_again : (f : Fault) → IsFault q f → ⊥
-  right_again f (version w) = w.0 (ap (λ (u : Parts). u.version.value) same)
-  right_again f (dims w) = w.0 (subst IsDims (sym dims_like) stated)
+  right_again f (version w) = w.0 (subst IsVersion (sym version_like) (known_version p.version well.version))
+  right_again f (dims w) = w.0 (subst (λ (v : ℕ). HasDims v q.dims.value) (sym (ap count_of version_like)) (subst (HasDims p.version) (sym dims_like) stated))
   right_again f (shapes w) =
       let r = shapes_carried k q.shapes o.shapes shapes_like f (subst (λ (n : ℕ). ShapesFault n q.shapes f) k_like w) in faultless r.0 (shapes r.1)
   right_again f (objects w) =

@@ -1,5 +1,6 @@
 -- The canonical spelling of the parts of statements spells them in the grammar of problems.
-use Rattle.std.proofs.Common.{◌≡◌, ℕ, suc, ◌≤◌, List, [], ◌∷◌, ◌++◌, map, true, refl, ap, ◌∙◌}
+use Rattle.std.proofs.Common.{◌≡◌, ℕ, suc, ◌≤◌, List, [], ◌∷◌, ◌++◌, map, Bool, true, false, refl, sym, ap, ◌∙◌}
+use Rattle.std.proofs.lemmas.List.{append-nil}
 use Rattle.std.specs.Prelude.{ℤ, pos, negsuc, neg_ℤ, flat_map}
 use Rattle.geo_tokens.specs.declared.token.Kind.{Kind}
 use Rattle.geo_tokens.specs.declared.token.Kind.TheVariants as kinds
@@ -31,10 +32,10 @@ use Rattle.problem_data.specs.declared.tree.ParamKind.TheVariants as param_kinds
 use Rattle.problem_data.specs.declared.tree.ParamText.{ParamText}
 use Rattle.problem_data.specs.Marks.{side_words, param_words}
 use Rattle.problem_data.specs.Tree.{BoxTree, BodyTree, means, equals, DemandTree, apart, within, plain}
-use Rattle.problem_data.specs.Grammar.{plain_int, negative_int, range_text, box_tree, attribute_text, side_in, side_text, param_in, param_text, OneOrMore, Listed, IntWords, RangeWords, BoxWords, AttributeWords, Attributes, SideWords, ParamWords, Params, BodyWords, DemandWords}
+use Rattle.problem_data.specs.Grammar.{plain_int, negative_int, range_text, box_tree, attribute_text, side_in, side_text, param_in, param_text, OneOrMore, Listed, IntWords, RangeWords, PiecesWords, BoxWords, AttributeWords, Attributes, SideWords, ParamWords, Params, BodyWords, DemandWords}
 use Rattle.problem_data.specs.Problem.{BoxData, RangeData, AttributeData, ParamData, DemandData}
 use Rattle.problem_data.specs.Problem.{apart as no_overlap, within as inside, plain as formula_demand}
-use Rattle.problem_text.specs.Canonical.{listed, more_listed, name_spelling, int_spelling, ints_spelling, range_spelling, ranges_spelling, box_spelling, attribute_spelling, attributes_spelling, kind_word, param_spelling, body_spelling, demand_spelling, side_spelling}
+use Rattle.problem_text.specs.Canonical.{listed, more_listed, name_spelling, int_spelling, ints_spelling, range_spelling, ranges_spelling, pieces_spelling, box_spelling, attribute_spelling, attributes_spelling, kind_word, param_spelling, body_spelling, demand_spelling, side_spelling}
 
 -- ---- trees without places
 
@@ -43,6 +44,9 @@ bare_int i = record { place = 0; value = i.value }
 
 abbrev pub bare_range : RangeText → RangeText
 bare_range r = record { low = bare_int r.low; high = bare_int r.high }
+
+abbrev pub bare_pieces : List RangeText → List RangeText
+bare_pieces rs = map bare_range rs
 
 abbrev pub bare_box : BoxTree → BoxTree
 bare_box b = record { place = 0; offsets = map bare_int b.offsets; sizes = map bare_int b.sizes }
@@ -75,6 +79,9 @@ name_of bytes = record { place = 0; name = bytes }
 
 abbrev pub range_of : RangeData → RangeText
 range_of r = record { low = int_of r.low; high = int_of r.high }
+
+abbrev pub pieces_of : List RangeData → List RangeText
+pieces_of rs = map range_of rs
 
 abbrev pub box_of : BoxData → BoxTree
 box_of b = record { place = 0; offsets = map int_of b.offsets; sizes = map int_of b.sizes }
@@ -227,6 +234,45 @@ ranges_again rs h =
     let each = all_as {P = CanWriteRange} {Q = λ r. Respelled (λ text. RangeWords) (λ x. bare_range x ≡ range_of r) (range_spelling r)} (λ r c. range_again r c.low c.high) rs h.each in
     let r = one_or_more_again (λ text. RangeWords) (λ b x. bare_range x ≡ range_of b) range_spelling rs h.some each in
     record { good = r.good; again = record { reads = λ text v st. (let x = r.again.reads text v st in (x.0, x.1, each_map bare_range range_of rs x.0 x.2)) } }
+
+-- pieces that can be written, in a text of version 2 or of version 1
+abbrev pub CanWritePieces : Bool → List RangeData → Type 0
+CanWritePieces true rs = CanWriteRanges rs
+CanWritePieces false [] = ⊥
+CanWritePieces false (r ∷ []) = CanWriteRange r
+CanWritePieces false (r ∷ (s ∷ others)) = ⊥
+
+abbrev PiecesAgain : Bool → List RangeData → Type 0
+PiecesAgain second rs = Respelled (λ text. PiecesWords second) (λ xs. bare_pieces xs ≡ pieces_of rs) (pieces_spelling rs)
+
+some_pieces_again : (rs : List RangeData) → CanWriteRanges rs → PiecesAgain true rs
+unfolding PiecesWords
+some_pieces_again rs h =
+    let each = all_as {P = CanWriteRange} {Q = λ r. Respelled (λ text. RangeWords) (λ x. bare_range x ≡ range_of r) (range_spelling r)} (λ r c. range_again r c.low c.high) rs h.each in
+    let r = listed_again (λ text. RangeWords) (λ b x. bare_range x ≡ range_of b) range_spelling rs h.some each in
+    record { good = r.good; again = record { reads = λ text v st. (let x = r.again.reads text v st in (x.0, x.1, each_map bare_range range_of rs x.0 x.2)) } }
+
+one_piece_again : (r : RangeData) → CanWriteRange r → PiecesAgain false (r ∷ [])
+unfolding PiecesWords
+one_piece_again r h =
+    let a = range_again r h.low h.high in
+    respelled_as (pieces_spelling (r ∷ [])) (record { good = a.good; again = last_again (λ x. x ∷ []) a.again (λ x ex. (λ i. ex i ∷ [])) }) (sym (append-nil (range_spelling r)))
+
+pieces_again : (second : Bool) (rs : List RangeData) → CanWritePieces second rs → PiecesAgain second rs
+pieces_again true rs h = some_pieces_again rs h
+pieces_again false [] h = absurd h
+pieces_again false (r ∷ []) h = one_piece_again r h
+pieces_again false (r ∷ (s ∷ others)) h = absurd h
+
+pub record CanWriteEachPieces (second : Bool) (ps : List (List RangeData)) : Type 0 where
+  pub some : IsSome ps
+  pub each : AllOf (CanWritePieces second) ps
+
+pub each_pieces_again : (second : Bool) (ps : List (List RangeData)) → CanWriteEachPieces second ps → Respelled (λ text. OneOrMore (PiecesWords second)) (λ xs. map bare_pieces xs ≡ map pieces_of ps) (flat_map pieces_spelling ps)
+each_pieces_again second ps h =
+    let each = all_as {P = CanWritePieces second} {Q = PiecesAgain second} (pieces_again second) ps h.each in
+    let r = one_or_more_again (λ text. PiecesWords second) (λ b x. bare_pieces x ≡ pieces_of b) pieces_spelling ps h.some each in
+    record { good = r.good; again = record { reads = λ text v st. (let x = r.again.reads text v st in (x.0, x.1, each_map bare_pieces pieces_of ps x.0 x.2)) } }
 
 pub record CanWriteAttribute (a : AttributeData) : Type 0 where
   pub name : IsNameText a.name

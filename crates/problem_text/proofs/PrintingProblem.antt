@@ -1,9 +1,11 @@
 -- The canonical text of a problem spells its statements in the grammar of problems.
-use Rattle.std.proofs.Common.{◌≡◌, ℕ, ◌≤◌, List, [], ◌∷◌, ◌++◌, map, Some, Bool, true, false, refl, sym, ap, ◌∙◌, subst, append_assoc, lit≤}
+use Rattle.std.proofs.Common.{◌≡◌, ℕ, ◌≤◌, List, [], ◌∷◌, ◌++◌, map, Some, Bool, true, false, ◌==◌, refl, sym, ap, ◌∙◌, subst, append_assoc}
 use Rattle.std.specs.Prelude.{flat_map, pos, not, if◌then◌else◌}
 use Rattle.std.specs.List.{list_any}
 use Rattle.std.proofs.lemmas.List.{append-nil}
 use Rattle.geo_tokens.specs.declared.token.Token.{Token}
+use Rattle.geo_tokens.specs.declared.token.Kind.{Kind}
+use Rattle.geo_tokens.specs.declared.token.Kind.TheVariants as kinds
 use Rattle.geo_tokens.specs.declared.token.Keyword.TheVariants as keywords
 use Rattle.geo_tokens.specs.Class.{number_in}
 use Rattle.geo_tokens.specs.Cut.{IsTokens}
@@ -14,7 +16,7 @@ use Rattle.rule_print.proofs.Respelled.{Respelled, tok_again, bind_again, last_a
 use Rattle.rule_print.proofs.ShownTokens.{AllWritten, written_append}
 use Rattle.problem_data.specs.declared.tree.Side.{Side}
 use Rattle.problem_data.specs.Tree.{StatementTree, ProblemTree}
-use Rattle.problem_data.specs.Grammar.{problem_tree, StatementWords, ProblemWords}
+use Rattle.problem_data.specs.Grammar.{problem_tree, is_second, StatementWords, ProblemWords}
 use Rattle.problem_data.specs.Problem.{ProblemData, runs_down}
 use Rattle.problem_text.specs.Canonical.{line_text, line_if, head_spelling, shape_names, object_names, shape_spelling, object_spelling, macro_spelling, rule_spelling, order_spelling, sides_spelling, counts_from, problem_text}
 use Rattle.problem_text.proofs.PrintingParts.{bare_int, int_of, each_map, all_as, IsSome}
@@ -42,21 +44,22 @@ bare_problem_tree t = record { version = bare_int t.version; dims = bare_int t.d
 
 -- the tree that the canonical text spells
 abbrev pub tree_of : ProblemData → ProblemTree
-tree_of p = record { version = int_of (pos 1); dims = int_of (pos p.dims); statements = map (λ l. l.0) (all_statements p) }
+tree_of p = record { version = int_of (pos p.version); dims = int_of (pos p.dims); statements = map (λ l. l.0) (all_statements p) }
 
 -- the parts of the problem can be written
 pub record CanWriteProblem (p : ProblemData) : Type 0 where
+  pub version : p.version ≤ 1000000000
   pub dims : p.dims ≤ 1000000000
   pub shapes : AllOf CanWriteShape p.shapes
-  pub objects : AllOf (CanWriteObject (shape_names p)) p.objects
+  pub objects : AllOf (CanWriteObject (p.version == 2) (shape_names p)) p.objects
   pub macros : AllOf CanWriteMacro p.macros
   pub order : counts_from 0 p.order ≡ false → CanWriteNames (object_names p) p.order
   pub rules : AllOf CanWriteRule p.rules
 
 -- ---- lists of statements
 
-abbrev LineAgain : Line → Type 0
-LineAgain l = StatementAgain l.0 l.1
+abbrev LineAgain : Bool → Line → Type 0
+LineAgain second l = StatementAgain second l.0 l.1
 
 all_both : {A : Type 0} (P : A → Type 0) (xs ys : List A) → AllOf P xs → AllOf P ys → AllOf P (xs ++ ys)
 all_both P [] ys h g = g
@@ -66,9 +69,9 @@ all_map : {A B : Type 0} (P : B → Type 0) (f : A → B) (xs : List A) → AllO
 all_map P f [] h = tt
 all_map P f (x ∷ xs) h = (h.0, all_map P f xs h.1)
 
-line_again : (needed : Bool) (l : Line) → (needed ≡ true → LineAgain l) → AllOf LineAgain (line_where needed l)
-line_again true l f = (f refl, tt)
-line_again false l f = tt
+line_again : (second needed : Bool) (l : Line) → (needed ≡ true → LineAgain second l) → AllOf (LineAgain second) (line_where needed l)
+line_again second true l f = (f refl, tt)
+line_again second false l f = tt
 
 high_some : (ss : List Side) → list_any runs_down ss ≡ true → IsSome ss
 high_some [] h e = absurd cc
@@ -79,19 +82,22 @@ not_back true h = absurd cc
 not_back false h = refl
 
 module _ (p : ProblemData) (h : CanWriteProblem p) where
-  ways_again : AllOf LineAgain (ways p)
-  ways_again = all_both LineAgain (line_where (not (counts_from 0 p.order)) (order_of (object_names p) p.order, order_spelling (object_names p) p.order)) (line_where (list_any runs_down p.sides) (sides_of p.sides, sides_spelling p.sides))
-      (line_again (not (counts_from 0 p.order)) (order_of (object_names p) p.order, order_spelling (object_names p) p.order) (λ e. order_again (object_names p) p.order (h.order (not_back (counts_from 0 p.order) e))))
-      (line_again (list_any runs_down p.sides) (sides_of p.sides, sides_spelling p.sides) (λ e. sides_again_line p.sides (high_some p.sides e)))
+  abbrev second : Bool
+  second = p.version == 2
 
-  all_again : AllOf LineAgain (all_statements p)
+  ways_again : AllOf (LineAgain second) (ways p)
+  ways_again = all_both (LineAgain second) (line_where (not (counts_from 0 p.order)) (order_of (object_names p) p.order, order_spelling (object_names p) p.order)) (line_where (list_any runs_down p.sides) (sides_of p.sides, sides_spelling p.sides))
+      (line_again second (not (counts_from 0 p.order)) (order_of (object_names p) p.order, order_spelling (object_names p) p.order) (λ e. order_again second (object_names p) p.order (h.order (not_back (counts_from 0 p.order) e))))
+      (line_again second (list_any runs_down p.sides) (sides_of p.sides, sides_spelling p.sides) (λ e. sides_again_line second p.sides (high_some p.sides e)))
+
+  all_again : AllOf (LineAgain second) (all_statements p)
   all_again =
-      let shapes = all_map LineAgain (λ s. (shape_of s, shape_spelling s)) p.shapes (all_as {P = CanWriteShape} {Q = λ s. StatementAgain (shape_of s) (shape_spelling s)} shape_again p.shapes h.shapes) in
-      let objects = all_map LineAgain (λ o. (object_of (shape_names p) o, object_spelling (shape_names p) o)) p.objects
-      (all_as {P = CanWriteObject (shape_names p)} {Q = λ o. StatementAgain (object_of (shape_names p) o) (object_spelling (shape_names p) o)} (object_again (shape_names p)) p.objects h.objects) in
-      let macros = all_map LineAgain (λ m. (macro_of m, macro_spelling m)) p.macros (all_as {P = CanWriteMacro} {Q = λ m. StatementAgain (macro_of m) (macro_spelling m)} macro_again p.macros h.macros) in
-      let rules = all_map LineAgain (λ r. (rule_of r, rule_spelling r)) p.rules (all_as {P = CanWriteRule} {Q = λ r. StatementAgain (rule_of r) (rule_spelling r)} rule_again p.rules h.rules) in
-      all_both LineAgain _ _ shapes (all_both LineAgain _ _ objects (all_both LineAgain _ _ macros (all_both LineAgain _ _ ways_again rules)))
+      let shapes = all_map (LineAgain second) (λ s. (shape_of s, shape_spelling s)) p.shapes (all_as {P = CanWriteShape} {Q = λ s. StatementAgain second (shape_of s) (shape_spelling s)} (shape_again second) p.shapes h.shapes) in
+      let objects = all_map (LineAgain second) (λ o. (object_of (shape_names p) o, object_spelling (shape_names p) o)) p.objects
+      (all_as {P = CanWriteObject second (shape_names p)} {Q = λ o. StatementAgain second (object_of (shape_names p) o) (object_spelling (shape_names p) o)} (object_again second (shape_names p)) p.objects h.objects) in
+      let macros = all_map (LineAgain second) (λ m. (macro_of m, macro_spelling m)) p.macros (all_as {P = CanWriteMacro} {Q = λ m. StatementAgain second (macro_of m) (macro_spelling m)} (macro_again second) p.macros h.macros) in
+      let rules = all_map (LineAgain second) (λ r. (rule_of r, rule_spelling r)) p.rules (all_as {P = CanWriteRule} {Q = λ r. StatementAgain second (rule_of r) (rule_spelling r)} (rule_again second) p.rules h.rules) in
+      all_both (LineAgain second) _ _ shapes (all_both (LineAgain second) _ _ objects (all_both (LineAgain second) _ _ macros (all_both (LineAgain second) _ _ ways_again rules)))
 
 -- ---- the text and its lines
 
@@ -165,18 +171,22 @@ spellings_joined : (ls : List Line) → all_lexemes (spellings ls) ≡ joined (�
 spellings_joined [] = refl
 spellings_joined (l ∷ ls) = ap (λ (u : List Written). l.1 ++ u) (spellings_joined ls)
 
-each_written : (ls : List Line) → AllOf LineAgain ls → EachWritten (spellings ls ++ last_line ∷ [])
-each_written [] h = ((tt, tt), tt)
-each_written (l ∷ ls) h = (h.0.good, each_written ls h.1)
+each_written : (b : Bool) (ls : List Line) → AllOf (LineAgain b) ls → EachWritten (spellings ls ++ last_line ∷ [])
+each_written b [] h = ((tt, tt), tt)
+each_written b (l ∷ ls) h = (h.0.good, each_written b ls h.1)
 
-module _ (p : ProblemData) (ls : List Line) (h : AllOf LineAgain ls) (small : p.dims ≤ 1000000000) where
-  whole_again : Respelled (λ text. ProblemWords text 64) (λ t. bare_problem_tree t ≡ record { version = int_of (pos 1); dims = int_of (pos p.dims); statements = map (λ l. l.0) ls }) (head_spelling p ++ (joined (λ l. l.1) ls ++ last_line))
+module _ (p : ProblemData) (ls : List Line) (h : AllOf (LineAgain (p.version == 2)) ls) (version : p.version ≤ 1000000000) (small : p.dims ≤ 1000000000) where
+  -- the version that is read is that of the problem
+  version_read : (v : Token) → v.kind ≡ kinds.Number p.version → AllOf (LineAgain (is_second v)) ls
+  version_read v e = subst (λ (b : Bool). AllOf (LineAgain b) ls) (sym (ap (λ (k : Kind). number_in k == 2) e)) h
+
+  whole_again : Respelled (λ text. ProblemWords text 64) (λ t. bare_problem_tree t ≡ record { version = int_of (pos p.version); dims = int_of (pos p.dims); statements = map (λ l. l.0) ls }) (head_spelling p ++ (joined (λ l. l.1) ls ++ last_line))
   unfolding ProblemWords
   whole_again = record {
-    good = (tt, (lit≤ tt, (tt, (small, written_append (joined (λ l. l.1) ls) last_line (many_good (λ text. StatementWords text 64) (λ l x. bare_statement x ≡ l.0) (λ l. l.1) ls h) (tt, tt)))));
-    again = bind_again (tok_again (word keywords.Geost) (a_word keywords.Geost) refl) (λ a ka. bind_again (tok_again numbers (digits 1) refl) (λ v kv.
+    good = (tt, (version, (tt, (small, written_append (joined (λ l. l.1) ls) last_line (many_good (λ text. StatementWords text 64 (p.version == 2)) (λ l x. bare_statement x ≡ l.0) (λ l. l.1) ls h) (tt, tt)))));
+    again = bind_again (tok_again (word keywords.Geost) (a_word keywords.Geost) refl) (λ a ka. bind_again (tok_again numbers (digits p.version) refl) (λ v kv.
         bind_again (tok_again (word keywords.Dims) (a_word keywords.Dims) refl) (λ b kb. bind_again (tok_again numbers (digits p.dims) refl) (λ d kd.
-        bind_again (many_again (λ text. StatementWords text 64) (λ l x. bare_statement x ≡ l.0) (λ l. l.1) ls h) (λ ss es. last_again (λ e. problem_tree v d ss) (tok_again (word keywords.End) (a_word keywords.End) refl) (λ e ke.
+        bind_again (many_again (λ text. StatementWords text 64 (is_second v)) (λ l x. bare_statement x ≡ l.0) (λ l. l.1) ls (version_read v kv)) (λ ss es. last_again (λ e. problem_tree v d ss) (tok_again (word keywords.End) (a_word keywords.End) refl) (λ e ke.
         (λ i. record { version = int_of (pos (number_in (kv i))); dims = int_of (pos (number_in (kd i))); statements = each_map bare_statement (λ l. l.0) ls ss es i })))))));
   }
 
@@ -194,11 +204,11 @@ problem_again p h =
     let every = all_again p h in
     let lines : List (List Written) = problem_lines p in
     let text : lines_text lines ≡ problem_text p = sym (lines_of_problem p) in
-    let head : AllWritten (head_spelling p) = (tt, (lit≤ tt, (tt, (h.dims, tt)))) in
-    let cut : IsTokens (lines_text lines) (lines_tokens 0 lines) = lines_are_tokens lines (head, each_written ls every) in
+    let head : AllWritten (head_spelling p) = (tt, (h.version, (tt, (h.dims, tt)))) in
+    let cut : IsTokens (lines_text lines) (lines_tokens 0 lines) = lines_are_tokens lines (head, each_written (p.version == 2) ls every) in
     let lexemes : all_lexemes lines ≡ head_spelling p ++ (joined (λ l. l.1) ls ++ last_line) =
     ap (λ (u : List Written). head_spelling p ++ u) (lexemes_both (spellings ls) (last_line ∷ []) ∙ (λ i. spellings_joined ls i ++ last_line)) in
-    let whole = whole_again p ls every h.dims in
+    let whole = whole_again p ls every h.version h.dims in
     let x = (same_again (all_lexemes lines) whole.again (sym lexemes)).reads (lines_text lines) (lines_tokens 0 lines) (lines_stand_whole lines) in
     record {
       list = lines_tokens 0 lines;

@@ -1,5 +1,5 @@
 -- The canonical spelling of each statement spells it in the grammar of problems.
-use Rattle.std.proofs.Common.{◌≡◌, ℕ, List, [], ◌∷◌, ◌++◌, map, refl}
+use Rattle.std.proofs.Common.{◌≡◌, ℕ, List, [], ◌∷◌, ◌++◌, map, Bool, refl}
 use Rattle.std.specs.Prelude.{flat_map}
 use Rattle.geo_tokens.specs.declared.token.Keyword.TheVariants as keywords
 use Rattle.geo_tokens.specs.declared.token.Sym.TheVariants as syms
@@ -15,13 +15,13 @@ use Rattle.problem_data.specs.declared.tree.Side.{Side}
 use Rattle.problem_data.specs.Tree.{StatementTree, a_shape, an_object, an_order, some_sides, a_macro, a_rule}
 use Rattle.problem_data.specs.Grammar.{shape_tree, object_tree, order_tree, sides_tree, macro_tree, rule_tree, Listed, ShapeWords, ObjectWords, OrderWords, SidesWords, MacroWords, RuleWords, StatementWords}
 use Rattle.problem_data.specs.Problem.{ShapeData, ObjectData, MacroData, RuleData}
-use Rattle.problem_text.specs.Canonical.{closed, listed, name_spelling, name_at, ranges_spelling, box_spelling, attributes_spelling, param_spelling, body_spelling, demand_spelling, side_spelling, shape_spelling, object_spelling, macro_spelling, rule_spelling, order_spelling, sides_spelling}
-use Rattle.problem_text.proofs.PrintingParts.{bare_range, bare_box, bare_attribute, bare_param, bare_side, bare_body, bare_demand, name_of, range_of, box_of, attribute_of, param_of, side_of, demand_of, each_map, all_as, IsSome, listed_again, name_again, CanWriteBoxes, boxes_again, CanWriteRanges, ranges_again, CanWriteAttribute, attributes_again, CanWriteParam, params_again, sides_again, CanWriteBody, body_again, CanWriteDemand, demand_again}
+use Rattle.problem_text.specs.Canonical.{closed, listed, name_spelling, name_at, pieces_spelling, box_spelling, attributes_spelling, param_spelling, body_spelling, demand_spelling, side_spelling, shape_spelling, object_spelling, macro_spelling, rule_spelling, order_spelling, sides_spelling}
+use Rattle.problem_text.proofs.PrintingParts.{bare_pieces, bare_box, bare_attribute, bare_param, bare_side, bare_body, bare_demand, name_of, pieces_of, box_of, attribute_of, param_of, side_of, demand_of, each_map, all_as, IsSome, listed_again, name_again, CanWriteBoxes, boxes_again, CanWriteEachPieces, each_pieces_again, CanWriteAttribute, attributes_again, CanWriteParam, params_again, sides_again, CanWriteBody, body_again, CanWriteDemand, demand_again}
 
 -- a statement without places
 abbrev pub bare_statement : StatementTree → StatementTree
 bare_statement (a_shape s) = a_shape (record { name = bare_name s.name; boxes = map bare_box s.boxes })
-bare_statement (an_object o) = an_object (record { name = bare_name o.name; shapes = map bare_name o.shapes; ranges = map bare_range o.ranges; attributes = map bare_attribute o.attributes })
+bare_statement (an_object o) = an_object (record { name = bare_name o.name; shapes = map bare_name o.shapes; pieces = map bare_pieces o.pieces; attributes = map bare_attribute o.attributes })
 bare_statement (an_order o) = an_order (record { place = 0; names = map bare_name o.names })
 bare_statement (some_sides s) = some_sides (record { place = 0; sides = map bare_side s.sides })
 bare_statement (a_macro m) = a_macro (record { name = bare_name m.name; params = map bare_param m.params; body = bare_body m.body })
@@ -32,7 +32,7 @@ abbrev pub shape_of : ShapeData → StatementTree
 shape_of s = a_shape (record { name = name_of s.name; boxes = map box_of s.boxes })
 
 abbrev pub object_of : List (List ℕ) → ObjectData → StatementTree
-object_of names o = an_object (record { name = name_of o.name; shapes = map (λ i. name_of (name_at names i)) o.shapes; ranges = map range_of o.ranges; attributes = map attribute_of o.attributes })
+object_of names o = an_object (record { name = name_of o.name; shapes = map (λ i. name_of (name_at names i)) o.shapes; pieces = map pieces_of o.pieces; attributes = map attribute_of o.attributes })
 
 abbrev pub order_of : List (List ℕ) → List ℕ → StatementTree
 order_of names order = an_order (record { place = 0; names = map (λ i. name_of (name_at names i)) order })
@@ -46,31 +46,32 @@ macro_of m = a_macro (record { name = name_of m.name; params = map param_of m.pa
 abbrev pub rule_of : RuleData → StatementTree
 rule_of r = a_rule (record { name = name_of r.name; demand = demand_of r.demand })
 
-abbrev pub StatementAgain : StatementTree → List Written → Type 0
-StatementAgain s ps = Respelled (λ text. StatementWords text 64) (λ x. bare_statement x ≡ s) ps
+-- in a text of version 2 or of version 1
+abbrev pub StatementAgain : Bool → StatementTree → List Written → Type 0
+StatementAgain second s ps = Respelled (λ text. StatementWords text 64 second) (λ x. bare_statement x ≡ s) ps
 
-module _ {P : StatementTree → Type 0} {ps : List Written} where
-  in_shape : Again ShapeWords P ps → Again (λ text. StatementWords text 64) P ps
+module _ (second : Bool) {P : StatementTree → Type 0} {ps : List Written} where
+  in_shape : Again ShapeWords P ps → Again (λ text. StatementWords text 64 second) P ps
   unfolding StatementWords
   in_shape l = left_again l
 
-  in_object : Again ObjectWords P ps → Again (λ text. StatementWords text 64) P ps
+  in_object : Again (λ text. ObjectWords text second) P ps → Again (λ text. StatementWords text 64 second) P ps
   unfolding StatementWords
   in_object l = right_again (left_again l)
 
-  in_order : Again OrderWords P ps → Again (λ text. StatementWords text 64) P ps
+  in_order : Again OrderWords P ps → Again (λ text. StatementWords text 64 second) P ps
   unfolding StatementWords
   in_order l = right_again (right_again (left_again l))
 
-  in_sides : Again (λ text. SidesWords) P ps → Again (λ text. StatementWords text 64) P ps
+  in_sides : Again (λ text. SidesWords) P ps → Again (λ text. StatementWords text 64 second) P ps
   unfolding StatementWords
   in_sides l = right_again (right_again (right_again (left_again l)))
 
-  in_macro : Again (λ text. MacroWords text 64) P ps → Again (λ text. StatementWords text 64) P ps
+  in_macro : Again (λ text. MacroWords text 64) P ps → Again (λ text. StatementWords text 64 second) P ps
   unfolding StatementWords
   in_macro l = right_again (right_again (right_again (right_again (left_again l))))
 
-  in_rule : Again (λ text. RuleWords text 64) P ps → Again (λ text. StatementWords text 64) P ps
+  in_rule : Again (λ text. RuleWords text 64) P ps → Again (λ text. StatementWords text 64 second) P ps
   unfolding StatementWords
   in_rule l = right_again (right_again (right_again (right_again (right_again l))))
 
@@ -85,13 +86,13 @@ pub record CanWriteShape (s : ShapeData) : Type 0 where
   pub name : IsNameText s.name
   pub boxes : CanWriteBoxes s.boxes
 
-pub shape_again : (s : ShapeData) → CanWriteShape s → StatementAgain (shape_of s) (shape_spelling s)
+pub shape_again : (second : Bool) (s : ShapeData) → CanWriteShape s → StatementAgain second (shape_of s) (shape_spelling s)
 unfolding ShapeWords
-shape_again s h =
+shape_again second s h =
     let bs = boxes_again s.boxes h.boxes in
     record {
       good = (tt, (h.name, closed_written (flat_map box_spelling s.boxes) bs.good));
-      again = in_shape (bind_again (tok_again (word keywords.Shape) (a_word keywords.Shape) refl) (λ t k. bind_again (name_again s.name h.name).again (λ x ex. bind_again bs.again (λ y ey.
+      again = in_shape second (bind_again (tok_again (word keywords.Shape) (a_word keywords.Shape) refl) (λ t k. bind_again (name_again s.name h.name).again (λ x ex. bind_again bs.again (λ y ey.
           ending (shape_tree x y) (λ i. a_shape (record { name = ex i; boxes = ey i }))))));
     }
 
@@ -107,17 +108,17 @@ names_again names positions h =
     let r = listed_again Named (λ i x. bare_name x ≡ name_of (name_at names i)) (λ i. name_spelling (name_at names i)) positions h.some each in
     record { good = r.good; again = record { reads = λ text v st. (let x = r.again.reads text v st in (x.0, x.1, each_map bare_name (λ i. name_of (name_at names i)) positions x.0 x.2)) } }
 
-pub record CanWriteObject (names : List (List ℕ)) (o : ObjectData) : Type 0 where
+pub record CanWriteObject (second : Bool) (names : List (List ℕ)) (o : ObjectData) : Type 0 where
   pub name : IsNameText o.name
   pub shapes : CanWriteNames names o.shapes
-  pub ranges : CanWriteRanges o.ranges
+  pub pieces : CanWriteEachPieces second o.pieces
   pub attributes : AllOf CanWriteAttribute o.attributes
 
-pub object_again : (names : List (List ℕ)) (o : ObjectData) → CanWriteObject names o → StatementAgain (object_of names o) (object_spelling names o)
+pub object_again : (second : Bool) (names : List (List ℕ)) (o : ObjectData) → CanWriteObject second names o → StatementAgain second (object_of names o) (object_spelling names o)
 unfolding ObjectWords
-object_again names o h =
+object_again second names o h =
     let ss = names_again names o.shapes h.shapes in
-    let rs = ranges_again o.ranges h.ranges in
+    let rs = each_pieces_again second o.pieces h.pieces in
     let vs = attributes_again o.attributes h.attributes in
     record {
       good = (
@@ -126,33 +127,33 @@ object_again names o h =
           h.name,
           (
             tt,
-            written_append (listed (λ i. name_spelling (name_at names i)) o.shapes) (a_word keywords.At ∷ (ranges_spelling o.ranges ++ closed (attributes_spelling o.attributes))) ss.good
-                (tt, written_append (ranges_spelling o.ranges) (closed (attributes_spelling o.attributes)) rs.good (closed_written (attributes_spelling o.attributes) vs.good)),
+            written_append (listed (λ i. name_spelling (name_at names i)) o.shapes) (a_word keywords.At ∷ (flat_map pieces_spelling o.pieces ++ closed (attributes_spelling o.attributes))) ss.good
+                (tt, written_append (flat_map pieces_spelling o.pieces) (closed (attributes_spelling o.attributes)) rs.good (closed_written (attributes_spelling o.attributes) vs.good)),
           ),
         ),
       );
-      again = in_object (bind_again (tok_again (word keywords.Object) (a_word keywords.Object) refl) (λ t k. bind_again (name_again o.name h.name).again (λ x ex.
+      again = in_object second (bind_again (tok_again (word keywords.Object) (a_word keywords.Object) refl) (λ t k. bind_again (name_again o.name h.name).again (λ x ex.
           bind_again (tok_again (word keywords.As) (a_word keywords.As) refl) (λ u j. bind_again ss.again (λ y ey.
           bind_again (tok_again (word keywords.At) (a_word keywords.At) refl) (λ w m. bind_again rs.again (λ z ez. bind_again vs.again (λ q eq.
-          ending (object_tree x y z q) (λ i. an_object (record { name = ex i; shapes = ey i; ranges = ez i; attributes = eq i }))))))))));
+          ending (object_tree x y z q) (λ i. an_object (record { name = ex i; shapes = ey i; pieces = ez i; attributes = eq i }))))))))));
     }
 
-pub order_again : (names : List (List ℕ)) (order : List ℕ) → CanWriteNames names order → StatementAgain (order_of names order) (order_spelling names order)
+pub order_again : (second : Bool) (names : List (List ℕ)) (order : List ℕ) → CanWriteNames names order → StatementAgain second (order_of names order) (order_spelling names order)
 unfolding OrderWords
-order_again names order h =
+order_again second names order h =
     let ns = names_again names order h in
     record {
       good = (tt, closed_written (listed (λ i. name_spelling (name_at names i)) order) ns.good);
-      again = in_order (bind_again (tok_again (word keywords.Order) (a_word keywords.Order) refl) (λ t k. bind_again ns.again (λ x ex. ending (order_tree t x) (λ i. an_order (record { place = 0; names = ex i })))));
+      again = in_order second (bind_again (tok_again (word keywords.Order) (a_word keywords.Order) refl) (λ t k. bind_again ns.again (λ x ex. ending (order_tree t x) (λ i. an_order (record { place = 0; names = ex i })))));
     }
 
-pub sides_again_line : (sides : List Side) → IsSome sides → StatementAgain (sides_of sides) (sides_spelling sides)
+pub sides_again_line : (second : Bool) (sides : List Side) → IsSome sides → StatementAgain second (sides_of sides) (sides_spelling sides)
 unfolding SidesWords
-sides_again_line sides some =
+sides_again_line second sides some =
     let ss = sides_again sides some in
     record {
       good = (tt, closed_written (flat_map side_spelling sides) ss.good);
-      again = in_sides (bind_again (tok_again (word keywords.Sides) (a_word keywords.Sides) refl) (λ t k. bind_again ss.again (λ x ex. ending (sides_tree t x) (λ i. some_sides (record { place = 0; sides = ex i })))));
+      again = in_sides second (bind_again (tok_again (word keywords.Sides) (a_word keywords.Sides) refl) (λ t k. bind_again ss.again (λ x ex. ending (sides_tree t x) (λ i. some_sides (record { place = 0; sides = ex i })))));
     }
 
 pub record CanWriteMacro (m : MacroData) : Type 0 where
@@ -160,14 +161,14 @@ pub record CanWriteMacro (m : MacroData) : Type 0 where
   pub params : AllOf CanWriteParam m.params
   pub body : CanWriteBody m.body
 
-pub macro_again : (m : MacroData) → CanWriteMacro m → StatementAgain (macro_of m) (macro_spelling m)
+pub macro_again : (second : Bool) (m : MacroData) → CanWriteMacro m → StatementAgain second (macro_of m) (macro_spelling m)
 unfolding MacroWords
-macro_again m h =
+macro_again second m h =
     let ps = params_again m.params h.params in
     let b = body_again m.body h.body in
     record {
       good = (tt, (h.name, written_append (in_list (listed param_spelling m.params)) (closed (body_spelling m.body)) ps.good (closed_written (body_spelling m.body) b.good)));
-      again = in_macro (bind_again (tok_again (word keywords.Macro) (a_word keywords.Macro) refl) (λ t k. bind_again (name_again m.name h.name).again (λ x ex. bind_again ps.again (λ y ey. bind_again b.again (λ z ez.
+      again = in_macro second (bind_again (tok_again (word keywords.Macro) (a_word keywords.Macro) refl) (λ t k. bind_again (name_again m.name h.name).again (λ x ex. bind_again ps.again (λ y ey. bind_again b.again (λ z ez.
           ending (macro_tree x y z) (λ i. a_macro (record { name = ex i; params = ey i; body = ez i })))))));
     }
 
@@ -175,12 +176,12 @@ pub record CanWriteRule (r : RuleData) : Type 0 where
   pub name : IsNameText r.name
   pub demand : CanWriteDemand r.demand
 
-pub rule_again : (r : RuleData) → CanWriteRule r → StatementAgain (rule_of r) (rule_spelling r)
+pub rule_again : (second : Bool) (r : RuleData) → CanWriteRule r → StatementAgain second (rule_of r) (rule_spelling r)
 unfolding RuleWords
-rule_again r h =
+rule_again second r h =
     let d = demand_again r.demand h.demand in
     record {
       good = (tt, (h.name, (tt, closed_written (demand_spelling r.demand) d.good)));
-      again = in_rule (bind_again (tok_again (word keywords.Rule) (a_word keywords.Rule) refl) (λ t k. bind_again (name_again r.name h.name).again (λ x ex. bind_again (tok_again (symbol syms.Colon) (a_symbol syms.Colon) refl) (λ c j. bind_again d.again (λ y ey.
+      again = in_rule second (bind_again (tok_again (word keywords.Rule) (a_word keywords.Rule) refl) (λ t k. bind_again (name_again r.name h.name).again (λ x ex. bind_again (tok_again (symbol syms.Colon) (a_symbol syms.Colon) refl) (λ c j. bind_again d.again (λ y ey.
           ending (rule_tree x y) (λ i. a_rule (record { name = ex i; demand = ey i })))))));
     }

@@ -1,11 +1,11 @@
 -- What the statements of a text say can be written again.
-use Rattle.std.proofs.Common.{◌≡◌, ℕ, zero, suc, ◌≤◌, List, [], ◌∷◌, map, Some, refl, subst, arith}
+use Rattle.std.proofs.Common.{◌≡◌, ℕ, zero, suc, ◌≤◌, List, [], ◌∷◌, map, Some, Bool, true, false, refl, subst, arith}
 use Rattle.std.specs.Prelude.{pos, neg_ℤ}
 use Rattle.geo_tokens.specs.declared.token.Token.{Token}
 use Rattle.geo_tokens.specs.declared.token.Sym.TheVariants as syms
 use Rattle.geo_tokens.specs.Class.{number_in}
 use Rattle.geo_tokens.specs.Names.{IsNameText}
-use Rattle.geo_tokens.specs.Words.{numbers, symbol, Lang, Tok, Bind, left, right, Opt, there, not_there}
+use Rattle.geo_tokens.specs.Words.{numbers, symbol, Lang, Pure, Tok, Bind, left, right, Opt, there, not_there}
 use Rattle.rule_syntax.specs.declared.tree.PlacedName.{PlacedName}
 use Rattle.rule_syntax.specs.Grammar.{Named}
 use Rattle.rule_print.proofs.Respelled.{AllOf, AllTrue, pure_is, token_of_list, many_of, small_number, name_is_text}
@@ -16,9 +16,9 @@ use Rattle.problem_data.specs.declared.tree.RangeText.{RangeText}
 use Rattle.problem_data.specs.declared.tree.AttributeText.{AttributeText}
 use Rattle.problem_data.specs.declared.tree.ParamText.{ParamText}
 use Rattle.problem_data.specs.Tree.{BoxTree, ObjectTree, BodyTree, means, equals, DemandTree, apart, within, plain, StatementTree, a_shape, an_object, an_order, some_sides, a_macro, a_rule}
-use Rattle.problem_data.specs.Grammar.{plain_int, negative_int, range_text, box_tree, attribute_text, param_text, shape_tree, object_tree, order_tree, sides_tree, macro_tree, rule_tree, OneOrMore, Listed, PlainInt, NegativeInt, IntWords, RangeWords, BoxWords, AttributeWords, Attributes, ParamWords, Params, BodyWords, DemandWords, ShapeWords, ObjectWords, OrderWords, SidesWords, MacroWords, RuleWords, StatementWords}
+use Rattle.problem_data.specs.Grammar.{plain_int, negative_int, range_text, box_tree, attribute_text, param_text, shape_tree, object_tree, order_tree, sides_tree, macro_tree, rule_tree, OneOrMore, Listed, PlainInt, NegativeInt, IntWords, RangeWords, PiecesWords, BoxWords, AttributeWords, Attributes, ParamWords, Params, BodyWords, DemandWords, ShapeWords, ObjectWords, OrderWords, SidesWords, MacroWords, RuleWords, StatementWords}
 use Rattle.problem_data.specs.Meaning as meaning
-use Rattle.problem_text.proofs.PrintingParts.{IsSome, IsTextNumber, CanWriteInts, CanWriteBox, CanWriteBoxes, CanWriteRange, CanWriteRanges, CanWriteAttribute, CanWriteParam, CanWriteBody, CanWriteDemand}
+use Rattle.problem_text.proofs.PrintingParts.{IsSome, IsTextNumber, CanWriteInts, CanWriteBox, CanWriteBoxes, CanWriteRange, CanWriteRanges, CanWritePieces, CanWriteEachPieces, CanWriteAttribute, CanWriteParam, CanWriteBody, CanWriteDemand}
 use Rattle.problem_text.proofs.PrintingStatements.{CanWriteShape, CanWriteMacro, CanWriteRule}
 
 -- ---- lists
@@ -97,6 +97,27 @@ module _ (text : List ℕ) where
   ranges_read rs w h tr =
       let s = one_or_more_of text RangeWords (λ r. CanWriteRange (meaning.range_of r)) range_read rs w h tr in
       record { some = some_mapped meaning.range_of rs s.some; each = mapped CanWriteRange meaning.range_of rs s.each }
+
+  -- the pieces of a range, in a text of version 2 or of version 1
+  one_piece_read : (rs : List RangeText) (w : List Token) → Bind RangeWords (λ r. Pure (r ∷ [])) (Some rs) w → AllTrue text w → CanWritePieces false (meaning.pieces_of rs)
+  one_piece_read rs w h tr =
+      let j = split text rs w h tr in
+      subst (λ (us : List RangeText). CanWritePieces false (meaning.pieces_of us)) (pure_is (j.value ∷ []) rs j.rest j.second) (range_read j.value j.front j.first j.front_true)
+
+  some_pieces_read : (rs : List RangeText) (w : List Token) → Listed RangeWords (Some rs) w → AllTrue text w → CanWritePieces true (meaning.pieces_of rs)
+  some_pieces_read rs w h tr =
+      let s = listed_of text RangeWords (λ r. CanWriteRange (meaning.range_of r)) range_read rs w h tr in
+      record { some = some_mapped meaning.range_of rs s.some; each = mapped CanWriteRange meaning.range_of rs s.each }
+
+  pieces_read : (second : Bool) (rs : List RangeText) (w : List Token) → PiecesWords second (Some rs) w → AllTrue text w → CanWritePieces second (meaning.pieces_of rs)
+  unfolding PiecesWords
+  pieces_read false rs w h tr = one_piece_read rs w h tr
+  pieces_read true rs w h tr = some_pieces_read rs w h tr
+
+  each_pieces_read : (second : Bool) (ps : List (List RangeText)) (w : List Token) → OneOrMore (PiecesWords second) (Some ps) w → AllTrue text w → CanWriteEachPieces second (map meaning.pieces_of ps)
+  each_pieces_read second ps w h tr =
+      let s = one_or_more_of text (PiecesWords second) (λ rs. CanWritePieces second (meaning.pieces_of rs)) (pieces_read second) ps w h tr in
+      record { some = some_mapped meaning.pieces_of ps s.some; each = mapped (CanWritePieces second) meaning.pieces_of ps s.each }
 
   box_read : (b : BoxTree) (w : List Token) → BoxWords (Some b) w → AllTrue text w → CanWriteBox (meaning.box_of b)
   unfolding BoxWords
@@ -180,35 +201,36 @@ module _ (text : List ℕ) where
 abbrev pub AreNames : List PlacedName → Type 0
 AreNames ns = Several (λ n. IsNameText n.name) ns
 
-pub record ObjectRead (o : ObjectTree) : Type 0 where
+pub record ObjectRead (second : Bool) (o : ObjectTree) : Type 0 where
   pub name : IsNameText o.name.name
   pub shapes : AreNames o.shapes
-  pub ranges : CanWriteRanges (map meaning.range_of o.ranges)
+  pub pieces : CanWriteEachPieces second (map meaning.pieces_of o.pieces)
   pub attributes : AllOf CanWriteAttribute (map meaning.attribute_of o.attributes)
 
-abbrev pub StatementRead : StatementTree → Type 0
-StatementRead (a_shape s) = CanWriteShape (meaning.shape_of s)
-StatementRead (an_object o) = ObjectRead o
-StatementRead (an_order o) = AreNames o.names
-StatementRead (some_sides s) = Unit {0}
-StatementRead (a_macro m) = CanWriteMacro (meaning.macro_of m)
-StatementRead (a_rule r) = CanWriteRule (meaning.rule_of r)
+-- of a statement in a text of version 2 or of version 1
+abbrev pub StatementRead : Bool → StatementTree → Type 0
+StatementRead second (a_shape s) = CanWriteShape (meaning.shape_of s)
+StatementRead second (an_object o) = ObjectRead second o
+StatementRead second (an_order o) = AreNames o.names
+StatementRead second (some_sides s) = Unit {0}
+StatementRead second (a_macro m) = CanWriteMacro (meaning.macro_of m)
+StatementRead second (a_rule r) = CanWriteRule (meaning.rule_of r)
 
-module _ (text : List ℕ) where
+module _ (text : List ℕ) (second : Bool) where
   names_read : (ns : List PlacedName) (w : List Token) → Listed (Named text) (Some ns) w → AllTrue text w → AreNames ns
   names_read ns w h tr = listed_of text (Named text) (λ n. IsNameText n.name) (name_is_text text) ns w h tr
 
-  shape_read : (s : StatementTree) (w : List Token) → ShapeWords text (Some s) w → AllTrue text w → StatementRead s
+  shape_read : (s : StatementTree) (w : List Token) → ShapeWords text (Some s) w → AllTrue text w → StatementRead second s
   unfolding ShapeWords
   shape_read s w h tr =
       let t = split text s w h tr in
       let n = split text s t.rest t.second t.rest_true in
       let bs = split text s n.rest n.second n.rest_true in
       let e = split text s bs.rest bs.second bs.rest_true in
-      subst StatementRead (pure_is (shape_tree n.value bs.value) s e.rest e.second)
+      subst (StatementRead second) (pure_is (shape_tree n.value bs.value) s e.rest e.second)
       (record { name = name_is_text text n.value n.front n.first n.front_true; boxes = boxes_read text bs.value bs.front bs.first bs.front_true })
 
-  object_read : (s : StatementTree) (w : List Token) → ObjectWords text (Some s) w → AllTrue text w → StatementRead s
+  object_read : (s : StatementTree) (w : List Token) → ObjectWords text second (Some s) w → AllTrue text w → StatementRead second s
   unfolding ObjectWords
   object_read s w h tr =
       let t = split text s w h tr in
@@ -219,31 +241,31 @@ module _ (text : List ℕ) where
       let rs = split text s v.rest v.second v.rest_true in
       let vs = split text s rs.rest rs.second rs.rest_true in
       let e = split text s vs.rest vs.second vs.rest_true in
-      subst StatementRead (pure_is (object_tree n.value ss.value rs.value vs.value) s e.rest e.second)
+      subst (StatementRead second) (pure_is (object_tree n.value ss.value rs.value vs.value) s e.rest e.second)
       (record {
         name = name_is_text text n.value n.front n.first n.front_true;
         shapes = names_read ss.value ss.front ss.first ss.front_true;
-        ranges = ranges_read text rs.value rs.front rs.first rs.front_true;
+        pieces = each_pieces_read text second rs.value rs.front rs.first rs.front_true;
         attributes = attributes_read text vs.value vs.front vs.first vs.front_true;
       })
 
-  order_read : (s : StatementTree) (w : List Token) → OrderWords text (Some s) w → AllTrue text w → StatementRead s
+  order_read : (s : StatementTree) (w : List Token) → OrderWords text (Some s) w → AllTrue text w → StatementRead second s
   unfolding OrderWords
   order_read s w h tr =
       let t = split text s w h tr in
       let ns = split text s t.rest t.second t.rest_true in
       let e = split text s ns.rest ns.second ns.rest_true in
-      subst StatementRead (pure_is (order_tree t.value ns.value) s e.rest e.second) (names_read ns.value ns.front ns.first ns.front_true)
+      subst (StatementRead second) (pure_is (order_tree t.value ns.value) s e.rest e.second) (names_read ns.value ns.front ns.first ns.front_true)
 
-  sides_read : (s : StatementTree) (w : List Token) → SidesWords (Some s) w → AllTrue text w → StatementRead s
+  sides_read : (s : StatementTree) (w : List Token) → SidesWords (Some s) w → AllTrue text w → StatementRead second s
   unfolding SidesWords
   sides_read s w h tr =
       let t = split text s w h tr in
       let ss = split text s t.rest t.second t.rest_true in
       let e = split text s ss.rest ss.second ss.rest_true in
-      subst StatementRead (pure_is (sides_tree t.value ss.value) s e.rest e.second) tt
+      subst (StatementRead second) (pure_is (sides_tree t.value ss.value) s e.rest e.second) tt
 
-  macro_read : (s : StatementTree) (w : List Token) → MacroWords text 64 (Some s) w → AllTrue text w → StatementRead s
+  macro_read : (s : StatementTree) (w : List Token) → MacroWords text 64 (Some s) w → AllTrue text w → StatementRead second s
   unfolding MacroWords
   macro_read s w h tr =
       let t = split text s w h tr in
@@ -251,14 +273,14 @@ module _ (text : List ℕ) where
       let ps = split text s n.rest n.second n.rest_true in
       let b = split text s ps.rest ps.second ps.rest_true in
       let e = split text s b.rest b.second b.rest_true in
-      subst StatementRead (pure_is (macro_tree n.value ps.value b.value) s e.rest e.second)
+      subst (StatementRead second) (pure_is (macro_tree n.value ps.value b.value) s e.rest e.second)
       (record {
         name = name_is_text text n.value n.front n.first n.front_true;
         params = params_read text ps.value ps.front ps.first ps.front_true;
         body = body_read text b.value b.front b.first b.front_true;
       })
 
-  rule_read : (s : StatementTree) (w : List Token) → RuleWords text 64 (Some s) w → AllTrue text w → StatementRead s
+  rule_read : (s : StatementTree) (w : List Token) → RuleWords text 64 (Some s) w → AllTrue text w → StatementRead second s
   unfolding RuleWords
   rule_read s w h tr =
       let t = split text s w h tr in
@@ -266,10 +288,10 @@ module _ (text : List ℕ) where
       let c = split text s n.rest n.second n.rest_true in
       let d = split text s c.rest c.second c.rest_true in
       let e = split text s d.rest d.second d.rest_true in
-      subst StatementRead (pure_is (rule_tree n.value d.value) s e.rest e.second)
+      subst (StatementRead second) (pure_is (rule_tree n.value d.value) s e.rest e.second)
       (record { name = name_is_text text n.value n.front n.first n.front_true; demand = demand_read text d.value d.front d.first d.front_true })
 
-  pub statement_read : (s : StatementTree) (w : List Token) → StatementWords text 64 (Some s) w → AllTrue text w → StatementRead s
+  pub statement_read : (s : StatementTree) (w : List Token) → StatementWords text 64 second (Some s) w → AllTrue text w → StatementRead second s
   unfolding StatementWords
   statement_read s w (left h) tr = shape_read s w h tr
   statement_read s w (right (left h)) tr = object_read s w h tr

@@ -1,5 +1,5 @@
 -- What holds of a problem that some text says: its names make a table.
-use Rattle.std.proofs.Common.{◌≡◌, ℕ, zero, suc, ◌<◌, List, [], ◌∷◌, map, length, get_or, inl, inr, refl, sym, ap, ◌∙◌, subst, arith}
+use Rattle.std.proofs.Common.{◌≡◌, ◌==◌, ℕ, zero, suc, ◌<◌, List, [], ◌∷◌, map, length, get_or, inl, inr, refl, sym, ap, ◌∙◌, subst, arith}
 use Rattle.std.specs.List.{All}
 use Rattle.std.proofs.lemmas.List.{length-map}
 use Rattle.geo_tokens.specs.Names.{IsNameText, AllDifferent, IsShapeList, IsNameTable, object_names}
@@ -9,7 +9,7 @@ use Rattle.problem_data.specs.Parts.{Parts, parts_of}
 use Rattle.problem_data.specs.Faults.{IsFault, shapes, objects}
 use Rattle.problem_data.specs.Faults as faults
 use Rattle.problem_data.specs.Meaning.{problem_of}
-use Rattle.problem_data.specs.Problem.{ObjectData, ProblemData}
+use Rattle.problem_data.specs.Problem.{ObjectData, no_object, ProblemData}
 use Rattle.problem_text.specs.Canonical as canonical
 use Rattle.problem_data.specs.WellFormed.{IsObject, IsWellFormed}
 use Rattle.problem_data.specs.Accepted.{Accepts, AreSaid, IsSaid}
@@ -41,9 +41,6 @@ all_texts : {A : Type 0} (f : A → List ℕ) (xs : List A) → AllOf (λ x. IsN
 all_texts f [] h k d l = absurd (omega arith)
 all_texts f (x ∷ xs) h zero d l = h.0
 all_texts f (x ∷ xs) h (suc k) d l = let less : k < length (map f xs) = omega arith in all_texts f xs h.1 k d less
-
-no_object : ObjectData
-no_object = record { name = []; shapes = []; ranges = []; attributes = [] }
 
 module _ (text : List ℕ) (p : ProblemData) (a : Accepts text p) where
   abbrev q : Parts
@@ -80,7 +77,7 @@ module _ (text : List ℕ) (p : ProblemData) (a : Accepts text p) where
         shape_texts = all_texts shape_name p.shapes (all_as {P = CanWriteShape} {Q = λ s. IsNameText s.name} (λ s h. h.name) p.shapes written.shapes);
         shapes_differ = shape_names_differ;
         object_texts = subst (λ (ns : List (List ℕ)). All IsNameText ns) (sym named) (all_texts (λ (o : ObjectData). o.name) p.objects
-            (all_as {P = CanWriteObject (canonical.shape_names p)} {Q = λ o. IsNameText o.name} (λ o h. h.name) p.objects written.objects));
+            (all_as {P = CanWriteObject (p.version == 2) (canonical.shape_names p)} {Q = λ o. IsNameText o.name} (λ o h. h.name) p.objects written.objects));
         objects_differ = subst (λ (ns : List (List ℕ)). AllDifferent ns) (sym named) object_names_differ;
         lists = all_mapped named_object (λ o. IsShapeList (length (map shape_name p.shapes)) o.1) p.objects no_object (λ i l. shape_list (get_or p.objects i no_object) (well.objects i no_object l));
       }

@@ -1,5 +1,5 @@
 -- Statements that are the same but for places have the same faults, each at the place of its own item.
-use Rattle.std.proofs.Common.{◌≡◌, ℕ, ◌≤◌, ℤ, ◌<ℤ◌, List, length, take, map, Some, inl, inr, refl, sym, ap, ◌∙◌, subst}
+use Rattle.std.proofs.Common.{◌≡◌, ℕ, ◌≤◌, ◌-◌, ℤ, pos, ◌+ℤ◌, ◌≤ℤ◌, ◌<ℤ◌, List, length, take, map, Some, inl, inr, refl, sym, ap, ◌∙◌, subst}
 use Rattle.std.specs.Prelude.{◌⊎◌, slice_get}
 use Rattle.std.specs.List.{Contains}
 use Rattle.std.proofs.lemmas.List.{length-map, take-map}
@@ -13,12 +13,12 @@ use Rattle.problem_data.specs.declared.tree.RangeText.{RangeText}
 use Rattle.problem_data.specs.declared.tree.AttributeText.{AttributeText}
 use Rattle.problem_data.specs.Tree.{BoxTree, ShapeTree, ObjectTree, OrderTree, MacroTree, DemandTree, apart, within, plain, RuleTree}
 use Rattle.problem_data.specs.Least.{fault}
-use Rattle.problem_data.specs.Limits.{IsSmall, IsSize, IsFieldName, most_shapes, most_objects, most_object_shapes, most_attributes, most_macros, most_params, most_rules}
+use Rattle.problem_data.specs.Limits.{IsSmall, IsSize, IsFieldName, most_shapes, most_objects, most_object_shapes, most_pieces, most_attributes, most_macros, most_params, most_rules}
 use Rattle.problem_data.specs.Divisors.{body_zeros, formula_zeros}
-use Rattle.problem_data.specs.Faults.{Among, text_of, PastLimit, Repeated, NamesFault, NotMade, first_place, Miscounted, int_place, range_place, OffsetFault, SizeFault, OffsetsFault, SizesFault, UpsideDown, RangeFault, RangesFault, PastBox, BoxFault, ShapeFault, ShapesFault, FieldFault, AttributesFault, ObjectFault, ObjectsFault, SecondOrder, Incomplete, OrderFault, DivisorFault, MacroFault, MacrosFault, DemandFault, RuleFault, RulesFault, shape_name, object_name, attribute_name, macro_name, param_name, rule_name}
+use Rattle.problem_data.specs.Faults.{Among, text_of, PastLimit, Repeated, NamesFault, NotMade, first_place, Miscounted, int_place, range_place, OffsetFault, SizeFault, OffsetsFault, SizesFault, UpsideDown, RangeFault, RangesFault, PastPiece, IsLast, TooNear, PieceFault, PiecesFault, pieces_place, OriginFault, PastBox, BoxFault, ShapeFault, ShapesFault, FieldFault, AttributesFault, ObjectFault, ObjectsFault, SecondOrder, Incomplete, OrderFault, DivisorFault, MacroFault, MacrosFault, DemandFault, RuleFault, RulesFault, shape_name, object_name, attribute_name, macro_name, param_name, rule_name}
 use Rattle.problem_data.proofs.InLists.{get_back}
 use Rattle.problem_text.proofs.Consistent.{map_at}
-use Rattle.problem_text.proofs.PrintingParts.{bare_int, bare_range, bare_box, bare_attribute, bare_param, bare_demand}
+use Rattle.problem_text.proofs.PrintingParts.{bare_int, bare_range, bare_pieces, bare_box, bare_attribute, bare_param, bare_demand}
 use Rattle.problem_text.proofs.BareParts.{bare_shape, bare_object, bare_order, bare_macro_tree, bare_rule_tree, map_after, map_both}
 use Rattle.problem_text.proofs.SameZeros.{bodies_count, formulas_alike, one_there}
 
@@ -116,6 +116,38 @@ ranges_carried : (k : ℕ) (xs ys : List RangeText) → map bare_range xs ≡ ma
 ranges_carried k xs ys e = or_carried (Miscounted range_place k xs) (Miscounted range_place k ys) (Among (λ before. RangeFault) xs) (Among (λ before. RangeFault) ys) (miscounted_carried bare_range range_place k xs ys e)
     (among_carried bare_range (λ before. RangeFault) (λ before. RangeFault) (λ before others x y t e. range_carried x y e) xs ys e)
 
+-- ---- pieces
+
+last_alike : (before others : List RangeText) → map bare_range before ≡ map bare_range others → (s : RangeText) → IsLast before s → (r : RangeText) × IsLast others r × (bare_range r ≡ bare_range s)
+last_alike before others t s h =
+    let y = item_alike bare_range before others (length before - 1) s t h in
+    (y.0, ap (λ (n : ℕ). slice_get others (n - 1)) (sym (length_alike bare_range before others t)) ∙ y.1, y.2)
+
+module _ (before others : List RangeText) (x y : RangeText) (t : map bare_range before ≡ map bare_range others) (e : bare_range x ≡ bare_range y) where
+  past_piece_carried : Carries (PastPiece before x) (PastPiece others y)
+  past_piece_carried f h = (fault y.low.place words.Limit, (subst (λ (k : ℕ). most_pieces ≤ k) (length_alike bare_range before others t) h.0, refl))
+
+  too_near_carried : Carries (TooNear before x) (TooNear others y)
+  too_near_carried f h =
+      let near = h.0 in
+      let s = last_alike before others t near.0 near.1 in
+      let low : x.low.value ≡ y.low.value = value_alike x.low y.low (low x y e) in
+      let high : near.0.high.value ≡ s.0.high.value = sym (value_alike s.0.high near.0.high (high s.0 near.0 s.2)) in (
+        fault y.low.place words.Range,
+        ((s.0, s.1, subst (λ (v : ℤ). v ≤ℤ (s.0.high.value +ℤ pos 1)) low (subst (λ (v : ℤ). x.low.value ≤ℤ (v +ℤ pos 1)) high near.2)), refl),
+      )
+
+  piece_carried : Carries (PieceFault before x) (PieceFault others y)
+  piece_carried = or_carried (PastPiece before x) (PastPiece others y) (λ f. RangeFault x f ⊎ TooNear before x f) (λ f. RangeFault y f ⊎ TooNear others y f) past_piece_carried
+      (or_carried (RangeFault x) (RangeFault y) (TooNear before x) (TooNear others y) (range_carried x y e) too_near_carried)
+
+pieces_carried : (xs ys : List RangeText) → map bare_range xs ≡ map bare_range ys → Carries (PiecesFault xs) (PiecesFault ys)
+pieces_carried = among_carried bare_range PieceFault PieceFault piece_carried
+
+origin_carried : (k : ℕ) (xs ys : List (List RangeText)) → map bare_pieces xs ≡ map bare_pieces ys → Carries (OriginFault k xs) (OriginFault k ys)
+origin_carried k xs ys e = or_carried (Miscounted pieces_place k xs) (Miscounted pieces_place k ys) (Among (λ before. PiecesFault) xs) (Among (λ before. PiecesFault) ys) (miscounted_carried bare_pieces pieces_place k xs ys e)
+    (among_carried bare_pieces (λ before. PiecesFault) (λ before. PiecesFault) (λ before others x y t e. pieces_carried x y e) xs ys e)
+
 -- ---- shapes
 
 past_box_carried : (before others : List BoxTree) (x y : BoxTree) → map bare_box before ≡ map bare_box others → Carries (PastBox before x) (PastBox others y)
@@ -148,12 +180,12 @@ module _ (k : ℕ) (made : List (List ℕ)) where
   object_carried : (x y : ObjectTree) → bare_object x ≡ bare_object y → Carries (ObjectFault k made x) (ObjectFault k made y)
   object_carried x y e =
       let shapes : map bare_name x.shapes ≡ map bare_name y.shapes = ap (λ (o : ObjectTree). o.shapes) e in
-      or_carried (NamesFault most_object_shapes x.shapes) (NamesFault most_object_shapes y.shapes) (λ f. NotMade made x.shapes f ⊎ RangesFault k x.ranges f ⊎ AttributesFault x.attributes f) (λ f. NotMade made y.shapes f ⊎ RangesFault k y.ranges f ⊎ AttributesFault y.attributes f)
+      or_carried (NamesFault most_object_shapes x.shapes) (NamesFault most_object_shapes y.shapes) (λ f. NotMade made x.shapes f ⊎ OriginFault k x.pieces f ⊎ AttributesFault x.attributes f) (λ f. NotMade made y.shapes f ⊎ OriginFault k y.pieces f ⊎ AttributesFault y.attributes f)
       (names_carried most_object_shapes x.shapes y.shapes shapes)
-      (or_carried (NotMade made x.shapes) (NotMade made y.shapes) (λ f. RangesFault k x.ranges f ⊎ AttributesFault x.attributes f) (λ f. RangesFault k y.ranges f ⊎ AttributesFault y.attributes f)
+      (or_carried (NotMade made x.shapes) (NotMade made y.shapes) (λ f. OriginFault k x.pieces f ⊎ AttributesFault x.attributes f) (λ f. OriginFault k y.pieces f ⊎ AttributesFault y.attributes f)
       (not_made_carried made x.shapes y.shapes shapes)
-      (or_carried (RangesFault k x.ranges) (RangesFault k y.ranges) (AttributesFault x.attributes) (AttributesFault y.attributes)
-      (ranges_carried k x.ranges y.ranges (ap (λ (o : ObjectTree). o.ranges) e)) (attributes_carried x.attributes y.attributes (ap (λ (o : ObjectTree). o.attributes) e))))
+      (or_carried (OriginFault k x.pieces) (OriginFault k y.pieces) (AttributesFault x.attributes) (AttributesFault y.attributes)
+      (origin_carried k x.pieces y.pieces (ap (λ (o : ObjectTree). o.pieces) e)) (attributes_carried x.attributes y.attributes (ap (λ (o : ObjectTree). o.attributes) e))))
 
   pub objects_carried : (xs ys : List ObjectTree) → map bare_object xs ≡ map bare_object ys → Carries (ObjectsFault k made xs) (ObjectsFault k made ys)
   objects_carried xs ys e = or_carried (NamesFault most_objects (map object_name xs)) (NamesFault most_objects (map object_name ys)) (Among (λ before. ObjectFault k made) xs) (Among (λ before. ObjectFault k made) ys)

@@ -1,5 +1,5 @@
 -- A problem that a text says can be written.
-use Rattle.std.proofs.Common.{◌≡◌, ℕ, ◌≤◌, List, [], ◌∷◌, map, length, Some, true, false, inl, inr, refl, sym, ap, ◌∙◌, subst}
+use Rattle.std.proofs.Common.{◌≡◌, ℕ, ◌≤◌, List, [], ◌∷◌, map, length, Some, Bool, true, false, ◌==◌, inl, inr, refl, sym, ap, ◌∙◌, subst}
 use Rattle.std.specs.List.{range_with_len}
 use Rattle.geo_tokens.specs.declared.token.Token.{Token}
 use Rattle.geo_tokens.specs.Class.{number_in}
@@ -12,7 +12,7 @@ use Rattle.rule_print.proofs.Respelled.{parts_of as split}
 use Rattle.rule_print.proofs.ReadBack.{tokens_true}
 use Rattle.problem_data.specs.declared.fault.Fault.{Fault}
 use Rattle.problem_data.specs.Tree.{ShapeTree, ObjectTree, OrderTree, MacroTree, RuleTree, StatementTree, a_shape, an_object, an_order, some_sides, a_macro, a_rule, ProblemTree}
-use Rattle.problem_data.specs.Grammar.{problem_tree, StatementWords, ProblemWords}
+use Rattle.problem_data.specs.Grammar.{problem_tree, is_second, StatementWords, ProblemWords}
 use Rattle.problem_data.specs.Parts.{Parts, parts_of, as_shape, as_object, as_order, as_macro, as_rule}
 use Rattle.problem_data.specs.Faults.{Among, ObjectFault, OrderFault, IsFault, objects, orders, shape_names, object_names, count_of}
 use Rattle.problem_data.specs.Meaning as meaning
@@ -42,8 +42,9 @@ says_of text p a = record { short = a.says.short; tokens = a.says.list; tree = a
 -- ---- what the grammar says
 
 pub record TreeRead (t : ProblemTree) : Type 0 where
+  pub version : count_of t.version.value ≤ 1000000000
   pub dims : count_of t.dims.value ≤ 1000000000
-  pub statements : AllOf StatementRead t.statements
+  pub statements : AllOf (StatementRead (count_of t.version.value == 2)) t.statements
 
 tree_read : (text : List ℕ) (t : ProblemTree) (w : List Token) → ProblemWords text 64 (Some t) w → AllTrue text w → TreeRead t
 unfolding ProblemWords
@@ -56,53 +57,54 @@ tree_read text t w h tr =
     let e = split text t ss.rest ss.second ss.rest_true in
     let many = ss.first in
     let small : number_in d.value.kind ≤ 1000000000 = small_number text d.value (token_of_list text numbers d.value d.front d.first d.front_true).is_true in
-    let each : AllOf StatementRead ss.value = many_of text (StatementWords text 64) StatementRead (statement_read text) many.0 ss.value ss.front many.1 ss.front_true in
-    subst TreeRead (pure_is (problem_tree v.value d.value ss.value) t e.rest e.second) (record { dims = small; statements = each })
+    let first : number_in v.value.kind ≤ 1000000000 = small_number text v.value (token_of_list text numbers v.value v.front v.first v.front_true).is_true in
+    let each : AllOf (StatementRead (is_second v.value)) ss.value = many_of text (StatementWords text 64 (is_second v.value)) (StatementRead (is_second v.value)) (statement_read text (is_second v.value)) many.0 ss.value ss.front many.1 ss.front_true in
+    subst TreeRead (pure_is (problem_tree v.value d.value ss.value) t e.rest e.second) (record { version = first; dims = small; statements = each })
 
 pub says_read : (text : List ℕ) (p : ProblemData) (s : Says text p) → TreeRead s.tree
 says_read text p s = tree_read text s.tree s.tokens s.word (tokens_true text s.tokens s.cut)
 
 -- ---- kinds of statements
 
-a_shape_read : (s : StatementTree) (x : ShapeTree) → as_shape s ≡ Some x → StatementRead s → CanWriteShape (meaning.shape_of x)
-a_shape_read (a_shape y) x e h = let is : y ≡ x = cc in subst (λ (u : ShapeTree). CanWriteShape (meaning.shape_of u)) is h
-a_shape_read (an_object y) x e h = absurd cc
-a_shape_read (an_order y) x e h = absurd cc
-a_shape_read (some_sides y) x e h = absurd cc
-a_shape_read (a_macro y) x e h = absurd cc
-a_shape_read (a_rule y) x e h = absurd cc
+a_shape_read : (second : Bool) (s : StatementTree) (x : ShapeTree) → as_shape s ≡ Some x → StatementRead second s → CanWriteShape (meaning.shape_of x)
+a_shape_read second (a_shape y) x e h = let is : y ≡ x = cc in subst (λ (u : ShapeTree). CanWriteShape (meaning.shape_of u)) is h
+a_shape_read second (an_object y) x e h = absurd cc
+a_shape_read second (an_order y) x e h = absurd cc
+a_shape_read second (some_sides y) x e h = absurd cc
+a_shape_read second (a_macro y) x e h = absurd cc
+a_shape_read second (a_rule y) x e h = absurd cc
 
-an_object_read : (s : StatementTree) (x : ObjectTree) → as_object s ≡ Some x → StatementRead s → ObjectRead x
-an_object_read (a_shape y) x e h = absurd cc
-an_object_read (an_object y) x e h = let is : y ≡ x = cc in subst (λ (u : ObjectTree). ObjectRead u) is h
-an_object_read (an_order y) x e h = absurd cc
-an_object_read (some_sides y) x e h = absurd cc
-an_object_read (a_macro y) x e h = absurd cc
-an_object_read (a_rule y) x e h = absurd cc
+an_object_read : (second : Bool) (s : StatementTree) (x : ObjectTree) → as_object s ≡ Some x → StatementRead second s → ObjectRead second x
+an_object_read second (a_shape y) x e h = absurd cc
+an_object_read second (an_object y) x e h = let is : y ≡ x = cc in subst (λ (u : ObjectTree). ObjectRead second u) is h
+an_object_read second (an_order y) x e h = absurd cc
+an_object_read second (some_sides y) x e h = absurd cc
+an_object_read second (a_macro y) x e h = absurd cc
+an_object_read second (a_rule y) x e h = absurd cc
 
-an_order_read : (s : StatementTree) (x : OrderTree) → as_order s ≡ Some x → StatementRead s → AreNames x.names
-an_order_read (a_shape y) x e h = absurd cc
-an_order_read (an_object y) x e h = absurd cc
-an_order_read (an_order y) x e h = let is : y ≡ x = cc in subst (λ (u : OrderTree). AreNames u.names) is h
-an_order_read (some_sides y) x e h = absurd cc
-an_order_read (a_macro y) x e h = absurd cc
-an_order_read (a_rule y) x e h = absurd cc
+an_order_read : (second : Bool) (s : StatementTree) (x : OrderTree) → as_order s ≡ Some x → StatementRead second s → AreNames x.names
+an_order_read second (a_shape y) x e h = absurd cc
+an_order_read second (an_object y) x e h = absurd cc
+an_order_read second (an_order y) x e h = let is : y ≡ x = cc in subst (λ (u : OrderTree). AreNames u.names) is h
+an_order_read second (some_sides y) x e h = absurd cc
+an_order_read second (a_macro y) x e h = absurd cc
+an_order_read second (a_rule y) x e h = absurd cc
 
-a_macro_read : (s : StatementTree) (x : MacroTree) → as_macro s ≡ Some x → StatementRead s → CanWriteMacro (meaning.macro_of x)
-a_macro_read (a_shape y) x e h = absurd cc
-a_macro_read (an_object y) x e h = absurd cc
-a_macro_read (an_order y) x e h = absurd cc
-a_macro_read (some_sides y) x e h = absurd cc
-a_macro_read (a_macro y) x e h = let is : y ≡ x = cc in subst (λ (u : MacroTree). CanWriteMacro (meaning.macro_of u)) is h
-a_macro_read (a_rule y) x e h = absurd cc
+a_macro_read : (second : Bool) (s : StatementTree) (x : MacroTree) → as_macro s ≡ Some x → StatementRead second s → CanWriteMacro (meaning.macro_of x)
+a_macro_read second (a_shape y) x e h = absurd cc
+a_macro_read second (an_object y) x e h = absurd cc
+a_macro_read second (an_order y) x e h = absurd cc
+a_macro_read second (some_sides y) x e h = absurd cc
+a_macro_read second (a_macro y) x e h = let is : y ≡ x = cc in subst (λ (u : MacroTree). CanWriteMacro (meaning.macro_of u)) is h
+a_macro_read second (a_rule y) x e h = absurd cc
 
-a_rule_read : (s : StatementTree) (x : RuleTree) → as_rule s ≡ Some x → StatementRead s → CanWriteRule (meaning.rule_of x)
-a_rule_read (a_shape y) x e h = absurd cc
-a_rule_read (an_object y) x e h = absurd cc
-a_rule_read (an_order y) x e h = absurd cc
-a_rule_read (some_sides y) x e h = absurd cc
-a_rule_read (a_macro y) x e h = absurd cc
-a_rule_read (a_rule y) x e h = let is : y ≡ x = cc in subst (λ (u : RuleTree). CanWriteRule (meaning.rule_of u)) is h
+a_rule_read : (second : Bool) (s : StatementTree) (x : RuleTree) → as_rule s ≡ Some x → StatementRead second s → CanWriteRule (meaning.rule_of x)
+a_rule_read second (a_shape y) x e h = absurd cc
+a_rule_read second (an_object y) x e h = absurd cc
+a_rule_read second (an_order y) x e h = absurd cc
+a_rule_read second (some_sides y) x e h = absurd cc
+a_rule_read second (a_macro y) x e h = absurd cc
+a_rule_read second (a_rule y) x e h = let is : y ≡ x = cc in subst (λ (u : RuleTree). CanWriteRule (meaning.rule_of u)) is h
 
 -- ---- names
 
@@ -148,23 +150,28 @@ order_written names [] h made e = absurd (let t : canonical.counts_from 0 (range
 order_written names (o ∷ os) h made e = can_write_names names o.names h.0 (made o os refl)
 
 module _ (t : ProblemTree) (read : TreeRead t) (faultless : (f : Fault) → IsFault (parts_of t) f → ⊥) where
-  objects_written : AllOf (CanWriteObject (shape_names (parts_of t).shapes)) (map (meaning.object_of (shape_names (parts_of t).shapes)) (parts_of t).objects)
+  -- the text is of version 2
+  abbrev second : Bool
+  second = count_of t.version.value == 2
+
+  objects_written : AllOf (CanWriteObject second (shape_names (parts_of t).shapes)) (map (meaning.object_of (shape_names (parts_of t).shapes)) (parts_of t).objects)
   objects_written =
       let names = shape_names (parts_of t).shapes in
-      let reads = all_filtered as_object StatementRead ObjectRead an_object_read t.statements read.statements in
-      mapped (CanWriteObject names) (meaning.object_of names) (parts_of t).objects
-      (all_with {P = ObjectRead} {Q = λ o. AllOf (Made names) o.shapes} {R = λ o. CanWriteObject names (meaning.object_of names o)}
-      (λ o h made. record { name = h.name; shapes = can_write_names names o.shapes h.shapes made; ranges = h.ranges; attributes = h.attributes }) (parts_of t).objects reads (object_shapes_made (parts_of t) faultless))
+      let reads = all_filtered as_object (StatementRead second) (ObjectRead second) (an_object_read second) t.statements read.statements in
+      mapped (CanWriteObject second names) (meaning.object_of names) (parts_of t).objects
+      (all_with {P = ObjectRead second} {Q = λ o. AllOf (Made names) o.shapes} {R = λ o. CanWriteObject second names (meaning.object_of names o)}
+      (λ o h made. record { name = h.name; shapes = can_write_names names o.shapes h.shapes made; pieces = h.pieces; attributes = h.attributes }) (parts_of t).objects reads (object_shapes_made (parts_of t) faultless))
 
   tree_written : CanWriteProblem (meaning.problem_of (parts_of t))
   tree_written = record {
+    version = read.version;
     dims = read.dims;
-    shapes = mapped CanWriteShape meaning.shape_of (parts_of t).shapes (all_filtered as_shape StatementRead (λ s. CanWriteShape (meaning.shape_of s)) a_shape_read t.statements read.statements);
-    objects = subst (λ (names : List (List ℕ)). AllOf (CanWriteObject names) (map (meaning.object_of (shape_names (parts_of t).shapes)) (parts_of t).objects)) (sym (shape_names_of (parts_of t))) objects_written;
-    macros = mapped CanWriteMacro meaning.macro_of (parts_of t).macros (all_filtered as_macro StatementRead (λ m. CanWriteMacro (meaning.macro_of m)) a_macro_read t.statements read.statements);
+    shapes = mapped CanWriteShape meaning.shape_of (parts_of t).shapes (all_filtered as_shape (StatementRead second) (λ s. CanWriteShape (meaning.shape_of s)) (a_shape_read second) t.statements read.statements);
+    objects = subst (λ (names : List (List ℕ)). AllOf (CanWriteObject second names) (map (meaning.object_of (shape_names (parts_of t).shapes)) (parts_of t).objects)) (sym (shape_names_of (parts_of t))) objects_written;
+    macros = mapped CanWriteMacro meaning.macro_of (parts_of t).macros (all_filtered as_macro (StatementRead second) (λ m. CanWriteMacro (meaning.macro_of m)) (a_macro_read second) t.statements read.statements);
     order = λ e. subst (λ (names : List (List ℕ)). CanWriteNames names (meaning.order_of (object_names (parts_of t).objects) (parts_of t).orders)) (sym (object_names_of (parts_of t)))
-        (order_written (object_names (parts_of t).objects) (parts_of t).orders (all_filtered as_order StatementRead (λ o. AreNames o.names) an_order_read t.statements read.statements) (order_made (parts_of t) faultless) e);
-    rules = mapped CanWriteRule meaning.rule_of (parts_of t).rules (all_filtered as_rule StatementRead (λ r. CanWriteRule (meaning.rule_of r)) a_rule_read t.statements read.statements);
+        (order_written (object_names (parts_of t).objects) (parts_of t).orders (all_filtered as_order (StatementRead second) (λ o. AreNames o.names) (an_order_read second) t.statements read.statements) (order_made (parts_of t) faultless) e);
+    rules = mapped CanWriteRule meaning.rule_of (parts_of t).rules (all_filtered as_rule (StatementRead second) (λ r. CanWriteRule (meaning.rule_of r)) (a_rule_read second) t.statements read.statements);
   }
 
 pub says_written : (text : List ℕ) (p : ProblemData) → Says text p → CanWriteProblem p

@@ -43,6 +43,10 @@ range_spelling r = int_spelling r.low ++ symbol syms.DotDot ∷ int_spelling r.h
 abbrev pub ranges_spelling : List RangeData → List Written
 ranges_spelling rs = flat_map range_spelling rs
 
+-- the range of a coordinate: its pieces, with commas between them
+abbrev pub pieces_spelling : List RangeData → List Written
+pieces_spelling pieces = listed range_spelling pieces
+
 abbrev pub box_spelling : BoxData → List Written
 box_spelling b = word keywords.Box ∷ (ints_spelling b.offsets ++ word keywords.Size ∷ ints_spelling b.sizes)
 
@@ -96,7 +100,7 @@ shape_spelling s = word keywords.Shape ∷ name s.name ∷ closed (flat_map box_
 -- an object, where the shapes have these names
 abbrev pub object_spelling : List (List ℕ) → ObjectData → List Written
 object_spelling names o =
-    word keywords.Object ∷ name o.name ∷ word keywords.As ∷ (listed (λ i. name_spelling (name_at names i)) o.shapes ++ word keywords.At ∷ (ranges_spelling o.ranges ++ closed (attributes_spelling o.attributes)))
+    word keywords.Object ∷ name o.name ∷ word keywords.As ∷ (listed (λ i. name_spelling (name_at names i)) o.shapes ++ word keywords.At ∷ (flat_map pieces_spelling o.pieces ++ closed (attributes_spelling o.attributes)))
 
 abbrev pub macro_spelling : MacroData → List Written
 macro_spelling m = word keywords.Macro ∷ name m.name ∷ (in_list (listed param_spelling m.params) ++ closed (body_spelling m.body))
@@ -127,7 +131,7 @@ abbrev pub line_if : Bool → List Written → List ℕ
 line_if needed ps = if needed then line_text ps else []
 
 abbrev pub head_spelling : ProblemData → List Written
-head_spelling p = word keywords.Geost ∷ number 1 ∷ word keywords.Dims ∷ number p.dims ∷ []
+head_spelling p = word keywords.Geost ∷ number p.version ∷ word keywords.Dims ∷ number p.dims ∷ []
 
 -- The first line, the shapes, the objects and the macros; the search order where it is not file order, and the sides where
 -- one is high; the rules, and the word `end`.

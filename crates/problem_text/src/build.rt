@@ -1,11 +1,11 @@
 //! The problem that statements without a fault spell.
 
-ghost use Rattle.std.specs.Prelude.{◌≡◌, ◌≤◌, map, length, IfOk};
+ghost use Rattle.std.specs.Prelude.{◌≡◌, ◌<◌, ◌≤◌, map, length, IfOk};
 ghost use Rattle.problem_data.specs.View.{shape_view, object_view, order_view};
 ghost use Rattle.problem_data.specs.Seen.{met};
 ghost use Rattle.problem_data.specs.declared.fault.Fault.{Fault};
 ghost use Rattle.problem_data.specs.Parts.{parts_view};
-ghost use Rattle.problem_data.specs.Faults.{IsFault, shape_names, object_names};
+ghost use Rattle.problem_data.specs.Faults.{IsFault, shape_names, object_names, count_of};
 ghost use Rattle.problem_data.specs.Accepted.{AreSaid};
 ghost use Rattle.problem_data.specs.Meaning.{object_of, order_of, problem_of};
 
@@ -20,7 +20,7 @@ use crate::build::rules::{build_macros, build_rules};
 use crate::build::shapes::build_shapes;
 use problem_data::parts::Parts;
 use problem_data::problem::{ObjectDef, Problem};
-use problem_data::tree::{ObjectText, OrderText, ShapeText};
+use problem_data::tree::{Int, ObjectText, OrderText, ShapeText};
 use statement_faults::first::count_of;
 use statement_faults::names::met_names;
 use std::alloc::{AllocError, Global};
@@ -57,6 +57,14 @@ fn objects_among(
     build_objects(alloc, &names, objects)
 }
 
+/// The version that is stated, where it is small.
+fn version_of(version: Int) -> u8
+    requires { count_of version.value < 256 }
+    ensures { result ≡ count_of version.value }
+{
+    count_of(version) as u8
+}
+
 /// The problem that the statements of a text spell.
 pub fn build(alloc: Global, said: Parts) -> Result<Problem, AllocError>
     requires said { AreSaid (parts_view said) }
@@ -64,7 +72,7 @@ pub fn build(alloc: Global, said: Parts) -> Result<Problem, AllocError>
     ensures { IfOk result (λ p. p ≡ problem_of (parts_view said)) }
 {
     let Parts {
-        version: _,
+        version,
         dims,
         shapes,
         objects,
@@ -73,6 +81,7 @@ pub fn build(alloc: Global, said: Parts) -> Result<Problem, AllocError>
         macros,
         rules,
     } = said;
+    let version = version_of(version);
     let k = count_of(dims);
     let order = order_among(alloc, objects.as_slice(), orders.as_slice())?;
     let objects = objects_among(alloc, shapes.as_slice(), objects)?;
@@ -80,5 +89,5 @@ pub fn build(alloc: Global, said: Parts) -> Result<Problem, AllocError>
     let macros = build_macros(alloc, macros)?;
     let rules = build_rules(alloc, rules)?;
     let sides = build_sides(alloc, k, sides.as_slice())?;
-    Ok(Problem::new(k, shapes, objects, macros, rules, order, sides))
+    Ok(Problem::new(version, k, shapes, objects, macros, rules, order, sides))
 }

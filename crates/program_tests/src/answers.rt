@@ -1,4 +1,4 @@
-// What words and an input are answered with, against texts that were worked out by hand.
+//! What words and an input are answered with, against texts that were worked out by hand.
 use crate::listing::{COUNTS, PAGES, TOKENS};
 use crate::making::{BUDGET, FORMS, SEEDS};
 use geo_chan::{CleanSink, CleanSource, Source};
@@ -83,6 +83,16 @@ const KIND: &[u8] =
 const PRODUCT: &[u8] =
     b"geost 1 dims 1 shape s box 0 size 1 ; object a as s at 0..9 ; rule r : a.x1 * 0 * a.x1 <= 4 ; end";
 
+/// Two boxes, one of which may stand at 0, 1, 5 or 6.
+pub const HOLE: &[u8] =
+    b"geost 2 dims 1 shape s box 0 size 2 ; object a as s at 0..1,5..6 ; object b as s at 0..1 ; rule r : apart ; end";
+
+const IN_THE_HOLE: &[u8] =
+    b"geost 2 dims 1 shape s box 0 size 2 ; object a as s at 0..1,5..6 ; object b as s at 0..1 ; rule r : apart ; end layout a as s at 2 b as s at 0";
+
+const SIX_DIMENSIONS: &[u8] =
+    b"geost 2 dims 6 shape u box 0 0 0 0 0 0 size 1 1 1 1 1 1 ; object a as u at 0..1 0..1 0..1 0..1 0..1 0..1 ; object b as u at 0..1 0..1 0..1 0..1 0..1 0..1 ; rule r : apart ; end";
+
 const ROWS: &[Row] = &[
     (
         &["first", "4"],
@@ -130,6 +140,37 @@ const ROWS: &[Row] = &[
     ),
     (&["draw"], FAR, Status::No, b"large\n"),
     (&["draw"], OUTSIDE, Status::Refused, b"refused 136 range\n"),
+    (
+        &["first", "4"],
+        HOLE,
+        Status::Answered,
+        b"layout\na as s at 5\nb as s at 0\ntoken 1,5/1,0\n",
+    ),
+    (&["first", "3"], HOLE, Status::Budget, b"budget 3\n"),
+    (
+        &["show"],
+        HOLE,
+        Status::Answered,
+        b"geost 2 dims 1\nshape s box 0 size 2 ;\nobject a as s at 0..1, 5..6 ;\nobject b as s at 0..1 ;\nrule r : apart ;\nend\n",
+    ),
+    (
+        &["judge"],
+        IN_THE_HOLE,
+        Status::Refused,
+        b"refused 129 range\n",
+    ),
+    (
+        &["first", "14"],
+        SIX_DIMENSIONS,
+        Status::Answered,
+        b"layout\na as u at 0 0 0 0 0 0\nb as u at 0 0 0 0 0 1\ntoken 1,0,0,0,0,0,0/1,0,0,0,0,0,1\n",
+    ),
+    (
+        &["first", "13"],
+        SIX_DIMENSIONS,
+        Status::Budget,
+        b"budget 13\n",
+    ),
 ];
 
 // Each command refuses a wrong rule.

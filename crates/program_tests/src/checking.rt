@@ -1,4 +1,4 @@
-// What `check` answers to problems with derivations behind them, which were worked out by hand.
+//! What `check` answers to problems with derivations behind them, which were worked out by hand.
 use crate::answers::TWO_BOXES;
 use crate::ends::{Outside, ends};
 use geost_run::Status;
@@ -108,7 +108,7 @@ const ROWS: &[(&[u8], &[u8], Status, &[u8])] = &[
         b"refused 112 number\n",
     ),
     (
-        b"geost 2 dims 1 end",
+        b"geost 3 dims 1 end",
         b" dead 1 qed",
         Status::Refused,
         b"refused 6 limit\n",

@@ -1,4 +1,4 @@
-// How a run ends where the outside fails, and that the size of pieces makes no difference.
+//! How a run ends where the outside fails, and that the size of pieces makes no difference.
 use crate::answers::{FIRST_OF_TWO_BOXES, TWO_BOXES, words};
 use geo_chan::{MemSink, MemSource};
 use geost_run::{Status, run};

@@ -1,4 +1,4 @@
-// Lines of the problems that are made from a seed, against draws worked out by hand.
+//! Lines of the problems that are made from a seed, against draws worked out by hand.
 use problem_generator::make_problem;
 use std::test::Fail;
 

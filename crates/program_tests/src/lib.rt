@@ -1,4 +1,4 @@
-// Tests of the program: its answers to words and inputs, over sources and sinks of every kind.
+//! Tests of the program: its answers to words and inputs, over sources and sinks of every kind.
 #![tactic(auto)]
 
 #[cfg(test)]

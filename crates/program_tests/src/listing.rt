@@ -1,5 +1,5 @@
-// What `all` writes, page by page. The six layouts of the two boxes were listed by hand.
-use crate::answers::{FIRST_OF_TWO_BOXES, Row, TWO_BOXES};
+//! What `all` writes, page by page. The six layouts of the two boxes were listed by hand.
+use crate::answers::{FIRST_OF_TWO_BOXES, HOLE, Row, TWO_BOXES};
 use crate::ends::{Outside, ends};
 use geost_run::Status;
 use std::test::Fail;
@@ -15,6 +15,18 @@ const LAST: &[u8] = b"layout\na as s at 3\nb as s at 1\ntoken 1,3/1,1\nend\n";
 const ONE_WITHIN_FOUR: &[u8] = b"layout\na as s at 0\nb as s at 2\ntoken 1,0/1,2\nbudget 4\n";
 
 pub const PAGES: &[Row] = &[
+    (
+        &["all", "1", "100", "1,5/1,0"],
+        HOLE,
+        Status::Answered,
+        b"layout\na as s at 5\nb as s at 1\ntoken 1,5/1,1\nmore\n",
+    ),
+    (
+        &["all", "1", "100", "1,2/1,0"],
+        HOLE,
+        Status::BadToken,
+        b"bad token\n",
+    ),
     (&["all", "2", "5"], TWO_BOXES, Status::Answered, TWO),
     (
         &["all", "2", "4"],

@@ -1,4 +1,4 @@
-// What `make` writes. The sizes of the first objects were drawn by hand, and no source is read.
+//! What `make` writes. The sizes of the first objects were drawn by hand, and no source is read.
 use crate::answers::asked;
 use crate::ends::{Outside, ends};
 use geost_run::Status;

@@ -1,4 +1,4 @@
-// What `first` writes where there is no layout.
+//! What `first` writes where there is no layout.
 use crate::answers::asked;
 use crate::checking::{CHAIN, FALSE, HALVES, NARROW};
 use crate::ends::{Outside, ends};

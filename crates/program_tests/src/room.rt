@@ -1,4 +1,4 @@
-// What is written into a sink that has taken all its memory beforehand.
+//! What is written into a sink that has taken all its memory beforehand.
 use crate::answers::{TWO_BOXES, words};
 use geo_chan::{CleanSource, RoomSink};
 use geost_run::{Status, run};

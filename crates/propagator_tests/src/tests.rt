@@ -1,3 +1,5 @@
+//! Both propagators, against each other and against layouts that are listed by judging.
+
 ghost use Rattle.std.specs.Prelude.{◌≡◌, ◌<◌, ◌≤◌, map};
 ghost use Rattle.geo_base.specs.declared.TheConstants.{MAX_DIMS};
 ghost use Rattle.rule_expand.specs.Rules.{plain_rule_data};
@@ -28,6 +30,21 @@ const TWO_BOXES: &[u8] =
 
 const TWO_BOXES_DOWNWARDS: &[u8] =
     b"geost 1 dims 1 shape s box 0 size 2 ; object a as s at 0..3 ; object b as s at 0..3 ; sides high ; rule r : apart ; end";
+
+/// The object a can be at 0, 1, 5 or 6, and only the last two leave room for b.
+const ROOM_BEHIND_A_HOLE: &[u8] =
+    b"geost 2 dims 1 shape s box 0 size 2 ; object a as s at 0..1, 5..6 ; object b as s at 0..1 ; rule r : apart ; end";
+
+const ROOM_BEHIND_A_HOLE_DOWNWARDS: &[u8] =
+    b"geost 2 dims 1 shape s box 0 size 2 ; object a as s at 0..1, 5..6 ; object b as s at 0..1 ; sides high ; rule r : apart ; end";
+
+/// Numbers 0, 1, 3, 4 and 8 by 0, 2 and 3: 3 + 3, 4 + 2, 4 + 3 and 8 with each.
+const SUM_WITH_HOLES: &[u8] =
+    b"geost 2 dims 2 shape u box 0 0 size 1 1 ; object a as u at 0..1, 3..4, 8..8 0..0, 2..3 ; rule r : a.x1 + a.x2 >= 6 ; end";
+
+/// The sum lies between the pieces.
+const SUM_IN_A_HOLE: &[u8] =
+    b"geost 2 dims 1 shape u box 0 size 1 ; object a as u at 0..3, 7..9 ; rule r : a.x1 >= 4 and a.x1 <= 6 ; end";
 
 const NOTHING: &[u8] = b"geost 1 dims 1 end";
 
@@ -201,6 +218,10 @@ fn judge_all(
 const PROBLEMS: &[(&[u8], usize)] = &[
     (TWO_BOXES, 6),
     (TWO_BOXES_DOWNWARDS, 6),
+    (ROOM_BEHIND_A_HOLE, 4),
+    (ROOM_BEHIND_A_HOLE_DOWNWARDS, 4),
+    (SUM_WITH_HOLES, 6),
+    (SUM_IN_A_HOLE, 0),
     (NOTHING, 1),
     (FALSE_RULE, 0),
     (NO_ROOM, 0),

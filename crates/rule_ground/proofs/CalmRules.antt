@@ -17,6 +17,8 @@ use Rattle.linear_conditions.specs.CondTree.{CondTree}
 use Rattle.linear_conditions.specs.Counts.{Counts, Outcome, Fault, Done, OnDone}
 use Rattle.linear_conditions.proofs.Outcomes.{on_done, on_then}
 use Rattle.linear_conditions.proofs.Values.{left_false}
+use Rattle.rule_ground.specs.Own.{own_conditions}
+use Rattle.rule_ground.proofs.RuleSteps.{before-parts}
 use Rattle.rule_ground.specs.Rules.{ground_demand, before, before_rest, ground_rules, no_counts, grounded}
 use Rattle.rule_ground.proofs.Calm.{formula-calm}
 
@@ -72,4 +74,5 @@ no-faults (Some m) b e = cc
 pub all-calm : (p : ProblemData) (t : Tuple) (cs : List CondTree) → IsWellFormed p → IsTuple p t → expansion_fault p ≡ None → grounded p ≡ Ok cs → AreCalm p t (rules_expanded p)
 all-calm p t cs well w f e =
     let n = no-faults (first_place is_large (rules_expanded p)) (first_place multiplies_coordinates (rules_expanded p)) f in
-    rules-calm p t well w (rules_expanded p) no_counts cs n.0 n.1 e
+    let s = before-parts (own_conditions p) cs (ground_rules p (rules_expanded p) no_counts) e in
+    rules-calm p t well w (rules_expanded p) no_counts s.0 n.0 n.1 s.1

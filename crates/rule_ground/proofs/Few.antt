@@ -1,7 +1,9 @@
 -- How many conditions the rules of a problem give: none without a leaf that was counted, but for one a rule.
-use Rattle.std.proofs.Common.{◌≡◌, ℕ, ◌+◌, ◌-◌, ◌^◌, ◌≤◌, Bool, true, false, not, cond, List, [], ◌∷◌, ◌++◌, map, length, ℤ, pos, ◌-ℤ◌, ◌+ℤ◌, sym, ap, ◌∙◌, refl, arith, subst, length-append}
+use Rattle.std.proofs.Common.{◌≡◌, ℕ, ◌+◌, ◌-◌, ◌≤◌, ◌<◌, Bool, true, false, not, cond, List, [], ◌∷◌, ◌++◌, map, length, ℤ, pos, ◌-ℤ◌, ◌+ℤ◌, sym, ap, ◌∙◌, refl, arith, subst, length-append}
 use Rattle.std.specs.Prelude.{Result, Ok, Err, int_lt}
+use Rattle.std.specs.List.{range_with_len}
 use Rattle.std.proofs.lemmas.List.{length-map}
+use Rattle.std.proofs.lemmas.List.FromFn.{length-range_with_len}
 use Rattle.std.proofs.lemmas.Bool.Decides.{nat_tests}
 use lib.Signed.{le_z}
 use Rattle.geo_tokens.specs.declared.fault.FaultWord.{FaultWord}
@@ -12,6 +14,9 @@ use Rattle.geo_conditions.specs.Form.{Sum}
 use Rattle.rule_syntax.specs.declared.tree.QuantKind.{QuantKind}
 use Rattle.rule_syntax.specs.declared.tree.QuantKind.TheVariants.{ForAll, Exists as SomeOf, AtLeast, AtMost}
 use Rattle.problem_data.specs.Problem.{ProblemData}
+use Rattle.problem_data.specs.Pieces.{pieces_at}
+use Rattle.problem_data.specs.Tuple.{object_of}
+use Rattle.problem_data.specs.WellFormed.{IsWellFormed}
 use Rattle.problem_data.specs.Value.{Thing, Object}
 use Rattle.rule_expand.specs.declared.plain.Subject.TheVariants as subjects
 use Rattle.rule_expand.specs.Plain.{PlainFormulaTree, truth, falsehood, negation, all_of, any_of, implication, equivalence, comparison, quantified, PlainFormulas, no_formulas, a_formula}
@@ -28,12 +33,18 @@ use Rattle.linear_conditions.specs.Folding.{always, never, certain, verdict, fol
 use Rattle.linear_conditions.specs.Counts.{Counts, Outcome, Fault, Done, and_then, allowed, either_way, are_within, within_limits, one_visit, one_leaf, visit, count_sum, count_sums}
 use Rattle.linear_conditions.specs.Compare.{ground_leaves}
 use Rattle.rule_ground.specs.Shapes.{places}
+use Rattle.rule_ground.specs.Ground.{most_conditions}
+use Rattle.rule_ground.specs.Own.{hole_behind, holes_at, own_of, own_conditions}
 use Rattle.rule_ground.specs.Apart.{apart_conditions}
 use Rattle.rule_ground.specs.Within.{within_conditions}
 use Rattle.rule_ground.specs.Grounding.{needs, Element, whole, split, element_of, elements_of, gather, alone, in_turn, manner, body_sign, quantifier_node, Body, shape_child, ground_place, grouped, ground_element, ground, ground_operands, named_objects, ground_named}
 use Rattle.rule_ground.specs.declared.quantifiers.Manner.{Manner}
 use Rattle.rule_ground.specs.declared.quantifiers.Manner.TheVariants as ways
 use Rattle.rule_ground.specs.Rules.{tree_length, is_count, conds_of, conds_of_each, as_leaves, ground_demand, ground_rules, grounded, no_counts, before, before_rest}
+use Rattle.rule_ground.proofs.Numbers.{flat-most}
+use Rattle.rule_ground.proofs.OwnTruth.{are-pieces}
+use Rattle.rule_ground.proofs.RuleSteps.{before-parts}
+use Rattle.rule_ground.proofs.Truths.{all-range-in}
 
 -- ---- leaves of a folded condition
 
@@ -439,10 +450,40 @@ module _ (p : ProblemData) where
       omega (arith, l, few)
   rules-few (r ∷ rest) k cs e few = by-outcome r rest k cs (rules-few rest) few (ground_demand p r.demand k) refl e
 
-  -- a problem has no more conditions than numbers can name
-  pub grounded-few : (cs : List Cond) → length p.rules ≤ 100 → grounded p ≡ Ok (map cond_view cs) → length cs ≤ 10 ^ 9
-  grounded-few cs few e =
-      let l = rules-few (rules_expanded p) no_counts (map cond_view cs) e (omega arith) in
+  -- ---- objects by themselves
+
+  -- at most 7 holes of a range
+  holes-few : (o d : ℕ) → IsWellFormed p → o < length p.objects → d < p.dims → length (holes_at p o d) ≤ 7
+  holes-few o d w h l =
+      let pieces = pieces_at (object_of p o) d in
+      let a = length-map (range_with_len 0 (length pieces - 1)) (hole_behind o d pieces) in
+      let b = length-range_with_len 0 (length pieces - 1) in
+      let f = (are-pieces p w o d h l).few in
+      omega (arith, a, b, f)
+
+  of-object-few : (o : ℕ) → IsWellFormed p → o < length p.objects → length (own_of p o) ≤ 42
+  of-object-few o w h =
+      let each = all-range-in (λ d. length (holes_at p o d) ≤ 7) 0 p.dims (λ d z l. holes-few o d w h (omega (arith, l))) in
+      let f = flat-most 7 (holes_at p o) (range_with_len 0 p.dims) each in
+      let n = length-range_with_len 0 p.dims in
+      let k = w.dimensions in
+      omega (arith, f, n, k)
+
+  own-few : IsWellFormed p → length (own_conditions p) ≤ 8400
+  own-few w =
+      let each = all-range-in (λ o. length (own_of p o) ≤ 42) 0 (length p.objects) (λ o z l. of-object-few o w (omega (arith, l))) in
+      let f = flat-most 42 (own_of p) (range_with_len 0 (length p.objects)) each in
+      let n = length-range_with_len 0 (length p.objects) in
+      let k = w.few in
+      omega (arith, f, n, k)
+
+  -- a problem has far fewer conditions than numbers can name
+  pub grounded-few : (cs : List Cond) → IsWellFormed p → length p.rules ≤ 100 → grounded p ≡ Ok (map cond_view cs) → length cs ≤ most_conditions
+  grounded-few cs w few e =
+      let s = before-parts (own_conditions p) (map cond_view cs) (ground_rules p (rules_expanded p) no_counts) e in
+      let l = rules-few (rules_expanded p) no_counts s.0 s.1 (omega arith) in
       let m = length-map cs cond_view in
       let n = length-map p.rules (rule_expanded p) in
-      omega (arith, l, m, n, few)
+      let a = ap length s.2 ∙ length-append (own_conditions p) s.0 in
+      let b = own-few w in
+      omega (arith, l, m, n, few, a, b)

@@ -12,7 +12,8 @@ use Rattle.geo_conditions.specs.Reach.{Exists, dims}
 use Rattle.geo_conditions.specs.Conditions.{FitsIn, AllFitIn, AllFit}
 use Rattle.rule_syntax.specs.declared.tree.QuantKind.{QuantKind}
 use Rattle.rule_syntax.specs.declared.tree.QuantKind.TheVariants.{ForAll, Exists as SomeOf, AtLeast, AtMost}
-use Rattle.problem_data.specs.Problem.{BoxData, RangeData, ProblemData}
+use Rattle.problem_data.specs.Problem.{BoxData, RangeData, no_object, ProblemData}
+use Rattle.problem_data.specs.Pieces.{range_at, pieces_at, hull, hulls}
 use Rattle.problem_data.specs.Tuple.{object_of}
 use Rattle.problem_data.specs.Value.{Thing, Number, Object, Part}
 use Rattle.problem_data.specs.WellFormed.{IsObject, IsWellFormed}
@@ -31,12 +32,14 @@ use Rattle.linear_conditions.proofs.Inside.{IsInside, AreInside, AllInside, cond
 use Rattle.rule_ground.specs.Shapes.{places, has_several, other_shape, term}
 use Rattle.rule_values.specs.Shapes.{boxes_at}
 use Rattle.rule_ground.specs.Start.{first_state, whole_reach}
+use Rattle.rule_ground.specs.Own.{hole_condition, hole_behind, holes_in, holes_at, own_of, own_conditions}
 use Rattle.rule_ground.specs.Apart.{parted_in, apart_condition, apart_from_box, apart_at_places, apart_at_place, apart_of, apart_behind, apart_conditions}
 use Rattle.rule_ground.specs.Within.{unless_other, from_low, to_high, within_in, within_of_box, within_at_place, within_of, within_conditions}
 use Rattle.rule_ground.specs.Grounding.{needs, Element, whole, split, is_open, element_of, elements_of, things_of, alone, in_turn, manner, body_sign, quantifier_node, Body, shape_child, ground_place, ground_places, grouped, ground_element, ground_elements, ground, ground_operands, named_objects, ground_named}
 use Rattle.rule_ground.specs.declared.quantifiers.Manner.{Manner}
 use Rattle.rule_ground.specs.declared.quantifiers.Manner.TheVariants as ways
 use Rattle.rule_ground.specs.Rules.{tree_length, is_count, conds_of, conds_of_each, ground_demand, ground_rules, grounded, no_counts, before, before_rest}
+use Rattle.rule_ground.proofs.RuleSteps.{before-parts}
 use Rattle.rule_ground.proofs.Settled.{several-there}
 use Rattle.rule_ground.proofs.Sound.{Each, each-of, gather-on}
 use Rattle.rule_ground.proofs.Starts.{reach-at}
@@ -241,6 +244,22 @@ module _ (p : ProblemData) where
       (all-range-in (λ d. All (IsInside p) (within_in p ranges o (get_or (places p o) m s) (get_or (boxes_at p o (get_or (places p o) m s)) q b) d)) 0 p.dims (λ d y x.
       ends-inside ranges o (get_or (places p o) m s) (get_or (boxes_at p o (get_or (places p o) m s)) q b) d (omega arith) (omega arith)))))))
 
+  -- ---- objects by themselves
+
+  hole-inside : (o d : ℕ) (r s : RangeData) → o < length p.objects → d < p.dims → IsInside p (hole_condition o d r s)
+  hole-inside o d r s h l = (((h, l), tt), (((h, l), tt), tt))
+
+  holes-inside : (o d : ℕ) (rs : List RangeData) → o < length p.objects → d < p.dims → All (IsInside p) (holes_in o d rs)
+  holes-inside o d rs h l =
+      All-map (IsInside p) (hole_behind o d rs) (range_with_len 0 (length rs - 1))
+      (all-range-in (λ n. IsInside p (hole_behind o d rs n)) 0 (length rs - 1) (λ n k m. hole-inside o d (range_at rs n) (range_at rs (n + 1)) h l))
+
+  own-inside : All (IsInside p) (own_conditions p)
+  own-inside =
+      all-flat-in (IsInside p) (own_of p) (range_with_len 0 (length p.objects)) (all-range-in (λ o. All (IsInside p) (own_of p o)) 0 (length p.objects) (λ o z h.
+      all-flat-in (IsInside p) (holes_at p o) (range_with_len 0 p.dims) (all-range-in (λ d. All (IsInside p) (holes_at p o d)) 0 p.dims (λ d y l.
+      holes-inside o d (pieces_at (object_of p o) d) (omega (arith, h)) (omega (arith, l))))))
+
   -- ---- rules
 
   demand-inside : (d : PlainDemand) (k : Counts) → OnDone (List CondTree) (ground_demand p d k) (All (IsInside p))
@@ -277,8 +296,8 @@ module _ (p : ProblemData) where
     exists : (o d : ℕ) → o < length p.objects → d < p.dims → Exists (first_state p) o d
     exists o d h l =
         let n : length (first_state p) ≡ length p.objects = length-map p.objects whole_reach in
-        let q : IsObject p (object_of p o) = w.objects o (record { name = []; shapes = []; ranges = []; attributes = [] }) h in
-        let m : dims (first_state p) o ≡ p.dims = ap (λ r. length r.region.lo) (reach-at p o h) ∙ length-map (object_of p o).ranges (λ (r : RangeData). r.low) ∙ q.dimensions in
+        let q : IsObject p (object_of p o) = w.objects o no_object h in
+        let m : dims (first_state p) o ≡ p.dims = ap (λ r. length r.region.lo) (reach-at p o h) ∙ length-map (hulls (object_of p o)) (λ (r : RangeData). r.low) ∙ length-map (object_of p o).pieces hull ∙ q.dimensions in
         (subst (λ k. o < k) (sym n) h, subst (λ k. d < k) (sym m) l)
 
     object : (o : ℕ) → o < length p.objects → o < length (first_state p)
@@ -305,4 +324,6 @@ module _ (p : ProblemData) where
 
     -- the conditions of a problem fit its first state
     pub grounded-fit : (cs : List Cond) → grounded p ≡ Ok (map cond_view cs) → AllFit cs (first_state p)
-    grounded-fit cs e = all-fit cs (rules-inside (rules_expanded p) no_counts (map cond_view cs) e)
+    grounded-fit cs e =
+        let s = before-parts (own_conditions p) (map cond_view cs) (ground_rules p (rules_expanded p) no_counts) e in
+        all-fit cs (subst (All (IsInside p)) (sym s.2) (All-append (IsInside p) (own_conditions p) s.0 own-inside (rules-inside (rules_expanded p) no_counts s.0 s.1)))

@@ -26,3 +26,5 @@ pub mod CalmRules
 pub mod Fit
 pub mod Few
 pub mod Grounded
+pub mod Holes
+pub mod OwnTruth

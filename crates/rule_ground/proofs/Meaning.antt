@@ -1,4 +1,4 @@
--- On each tuple all conditions of a problem are true exactly where every rule holds.
+-- On each wide tuple all conditions of a problem are true exactly where it is a layout.
 use Rattle.std.proofs.Common.{◌≡◌, ◌↔◌, ◌&&◌, ℕ, Bool, true, false, cond, List, [], ◌∷◌, ◌++◌, map, get_or, refl, sym, ap, ◌∙◌, subst}
 use Rattle.std.specs.Prelude.{All, Result, Ok, Err, Option, None, Some}
 use Rattle.std.specs.Option.{option_map_or}
@@ -12,8 +12,8 @@ use Rattle.geo_conditions.specs.declared.cond.Cond.{Cond}
 use Rattle.geo_conditions.specs.Conditions.{holds, AllHold}
 use Rattle.problem_data.specs.Problem.{DemandData, RuleData, ProblemData}
 use Rattle.problem_data.specs.Problem as written
-use Rattle.problem_data.specs.Cells.{IsApart, IsWithin, IsShaped, IsTuple}
-use Rattle.problem_data.specs.Layouts.{DemandHolds}
+use Rattle.problem_data.specs.Cells.{IsApart, IsWithin, IsShaped, IsTuple, IsWideTuple}
+use Rattle.problem_data.specs.Layouts.{DemandHolds, IsLayout}
 use Rattle.problem_data.specs.WellFormed.{IsDemand, IsWellFormed}
 use Rattle.rule_expand.specs.PlainTruth.{plain_holds}
 use Rattle.rule_expand.specs.Rules.{PlainDemand, apart, within, plain, PlainRuleData, demand_expanded, rule_expanded, rules_expanded, expansion_fault, first_place, is_large, multiplies_coordinates}
@@ -25,10 +25,13 @@ use Rattle.linear_conditions.proofs.Outcomes.{on_done, on_then, on_any}
 use Rattle.rule_ground.specs.Apart.{apart_conditions}
 use Rattle.rule_ground.specs.Within.{within_conditions}
 use Rattle.rule_ground.specs.Faults.{HasRanges}
+use Rattle.rule_ground.specs.Own.{own_conditions}
 use Rattle.rule_ground.specs.Rules.{conds_of, ground_demand, ground_rules, grounded, no_counts, before, before_rest}
 use Rattle.rule_ground.proofs.Truths.{all-left, all-right}
 use Rattle.rule_ground.proofs.ApartTruth.{IsTrueOn, apart-out, apart-in}
 use Rattle.rule_ground.proofs.WithinTruth.{within-out, within-in}
+use Rattle.rule_ground.proofs.OwnTruth.{own-out, own-in}
+use Rattle.rule_ground.proofs.RuleSteps.{before-parts}
 use Rattle.rule_ground.proofs.Sound.{Each}
 use Rattle.rule_ground.proofs.NamedSound.{named-true}
 use Rattle.rule_ground.proofs.FlatTruth.{flat-true}
@@ -154,10 +157,19 @@ trees-in : (t : Tuple) (cs : List Cond) → All (IsTrueOn t) (map cond_view cs) 
 trees-in t [] h = All-nil (λ (c : Cond). holds c t ≡ true)
 trees-in t (c ∷ cs) h = All-cons (λ (c : Cond). holds c t ≡ true) c cs (sym (view-true t c) ∙ All-head (IsTrueOn t) (cond_view c) (map cond_view cs) h) (trees-in t cs (All-tail (IsTrueOn t) (cond_view c) (map cond_view cs) h))
 
-pub ground-meant : (p : ProblemData) (cs : List Cond) → IsWellFormed p → expansion_fault p ≡ None → grounded p ≡ Ok (map cond_view cs) → (t : Tuple) → IsTuple p t → AllHold cs t ↔ All (λ (r : RuleData). DemandHolds p t r.demand) p.rules
-ground-meant p cs w x e t h =
-    let r = rules-sound p t (rules_expanded p) w h (each-right p p.rules w.demands (no-product p x)) no_counts (map cond_view cs) e in
-    let s = each-same p t p.rules in (
-      (λ a. s.0 (r.0 (trees-out t cs a))),
-      (λ a. trees-in t cs (r.1 (s.1 a))),
+-- of the rules alone, on a tuple
+rules-meant : (p : ProblemData) (ds : List CondTree) → IsWellFormed p → expansion_fault p ≡ None → ground_rules p (rules_expanded p) no_counts ≡ Ok ds → (t : Tuple) → IsTuple p t → All (IsTrueOn t) ds ↔ All (λ (r : RuleData). DemandHolds p t r.demand) p.rules
+rules-meant p ds w x e t h =
+    let r = rules-sound p t (rules_expanded p) w h (each-right p p.rules w.demands (no-product p x)) no_counts ds e in
+    let s = each-same p t p.rules in ((λ a. s.0 (r.0 a)), (λ a. r.1 (s.1 a)))
+
+pub ground-meant : (p : ProblemData) (cs : List Cond) → IsWellFormed p → expansion_fault p ≡ None → grounded p ≡ Ok (map cond_view cs) → (t : Tuple) → IsWideTuple p t → AllHold cs t ↔ IsLayout p t
+ground-meant p cs w x e t wide =
+    let own = own_conditions p in
+    let s = before-parts own (map cond_view cs) (ground_rules p (rules_expanded p) no_counts) e in (
+      (λ a. let all = subst (All (IsTrueOn t)) s.2 (trees-out t cs a) in
+          let is = own-out p w t wide (all-left (IsTrueOn t) own s.0 all) in
+          record { tuple = is; rules = (rules-meant p s.0 w x s.1 t is).0 (all-right (IsTrueOn t) own s.0 all) }),
+      (λ l. trees-in t cs (subst (All (IsTrueOn t)) (sym s.2)
+          (All-append (IsTrueOn t) own s.0 (own-in p w t l.tuple) ((rules-meant p s.0 w x s.1 t l.tuple).1 l.rules)))),
     )

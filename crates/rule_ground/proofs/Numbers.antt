@@ -1,8 +1,10 @@
 -- How many conditions there are.
 use Rattle.std.proofs.Common.{◌≡◌, ℕ, suc, ◌+◌, ◌*◌, ◌≤◌, List, [], ◌∷◌, ◌++◌, length, refl, ap, ◌∙◌, arith}
+use Rattle.std.specs.Prelude.{All}
 use Rattle.std.specs.List.{flat_map, range_with_len}
 use Rattle.std.proofs.lemmas.Nat.{mul-le}
 use Rattle.std.proofs.lemmas.List.{length-append, length-map}
+use Rattle.std.proofs.lemmas.List.Elements.{All-head, All-tail}
 use Rattle.std.proofs.lemmas.List.FromFn.{length-range_with_len}
 use Rattle.problem_data.specs.Problem.{BoxData, RangeData, ProblemData}
 use Rattle.rule_ground.specs.Shapes.{places}
@@ -25,6 +27,21 @@ spread n m k = grind arith
 pub total-const : {X : Type 0} (n : ℕ) (xs : List X) → total (λ x. n) xs ≡ length xs * n
 total-const n [] = grind arith
 total-const n (x ∷ xs) = ap (λ (m : ℕ). n + m) (total-const n xs) ∙ spread n (length xs) 0
+
+-- lists of at most n items, one behind another
+total-most : {X : Type 0} (f : X → ℕ) (n : ℕ) (xs : List X) → All (λ x. f x ≤ n) xs → total f xs ≤ total (λ x. n) xs
+total-most f n [] h = omega arith
+total-most f n (x ∷ xs) h =
+    let a = All-head (λ y. f y ≤ n) x xs h in
+    let b = total-most f n xs (All-tail (λ y. f y ≤ n) x xs h) in
+    omega (arith, a, b)
+
+pub flat-most : {X A : Type 0} (n : ℕ) (f : X → List A) (xs : List X) → All (λ x. length (f x) ≤ n) xs → length (flat_map f xs) ≤ length xs * n
+flat-most n f xs h =
+    let a = total-most (λ x. length (f x)) n xs h in
+    let b = total-const n xs in
+    let c = length-flat f xs in
+    omega (arith, a, b, c)
 
 left_out : (k a b : ℕ) → k * a + k * b ≡ k * (a + b)
 left_out k a b = grind arith

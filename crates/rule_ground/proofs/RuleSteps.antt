@@ -27,9 +27,10 @@ before-before : (cs bs : List CondTree) (r : Result (List CondTree) TextFault) �
 before-before cs bs (Ok ds) = ap Ok (sym (append_assoc cs bs ds))
 before-before cs bs (Err e) = refl
 
-pub before-init : (r : Result (List CondTree) TextFault) → r ≡ before [] r
-before-init (Ok ds) = refl
-before-init (Err e) = refl
+-- where there are conditions, they are those before and those of the rest
+pub before-parts : (cs all : List CondTree) (r : Result (List CondTree) TextFault) → before cs r ≡ Ok all → (ds : List CondTree) × (r ≡ Ok ds) × (all ≡ cs ++ ds)
+before-parts cs all (Ok ds) e = (ds, refl, (let f : cs ++ ds ≡ all = cc in sym f))
+before-parts cs all (Err x) e = cc
 
 stepped : (cs ds : List CondTree) (place : ℕ) (o : Outcome (List CondTree)) (rest : Counts → Result (List CondTree) TextFault) (j : Counts) → behind cs o ≡ Done ds j → before cs (before_rest place o rest) ≡ before ds (rest j)
 unfolding behind and_then before_rest
@@ -51,8 +52,8 @@ same-rules-fault r q e h i = subst (λ u. IsRulesFault u e) (sym h) i
 rules-at : (rules : List PlainRule) (i : ℕ) (r : PlainRule) → i < length rules → r ≡ get_or rules i r → map plain_rule_data (drop i rules) ≡ plain_rule_data r ∷ map plain_rule_data (drop (i + 1) rules)
 rules-at rules i r h e = ap (map plain_rule_data) (drop_more rules i r h) ∙ ap (λ y. plain_rule_data y ∷ map plain_rule_data (drop (i + 1) rules)) (sym e)
 
-pub rules-init : (whole : Result (List CondTree) TextFault) (out : List Cond) → out ≡ [] → whole ≡ before (map cond_view out) whole
-rules-init whole out e = before-init whole ∙ ap (λ l. before (map cond_view l) whole) (sym e)
+pub rules-init : (cs : List CondTree) (rest : Result (List CondTree) TextFault) (out more : List Cond) → out ≡ [] → map cond_view more ≡ map cond_view out ++ cs → before cs rest ≡ before (map cond_view more) rest
+rules-init cs rest out more e h = ap (λ l. before l rest) (sym (h ∙ ap (λ l. map cond_view l ++ cs) e))
 
 pub rules-step : (p : ProblemData) (whole : Result (List CondTree) TextFault) (rules : List PlainRule) (i : ℕ) (r : PlainRule) (k j : Counts) (out more : List Cond) →
     whole ≡ before (map cond_view out) (ground_rules p (map plain_rule_data (drop i rules)) k) → i < length rules → r ≡ get_or rules i r →

@@ -1,10 +1,10 @@
 -- A problem has few rules and few objects, and each of these few shapes.
-use Rattle.std.proofs.Common.{◌≡◌, ℕ, ◌<◌, ◌≤◌, true, [], length, ap, arith}
+use Rattle.std.proofs.Common.{◌≡◌, ℕ, ◌<◌, ◌≤◌, true, length, ap, arith}
 use Rattle.std.proofs.Math.Logic.{⊎_elim}
 use Rattle.std.proofs.lemmas.Bool.{cases_lt}
 use Rattle.std.proofs.lemmas.Bool.Decides.{nat_tests}
 use Rattle.std.proofs.lemmas.List.{get_or_past}
-use Rattle.problem_data.specs.Problem.{ObjectData, ProblemData}
+use Rattle.problem_data.specs.Problem.{ObjectData, no_object, ProblemData}
 use Rattle.problem_data.specs.Tuple.{object_of}
 use Rattle.problem_data.specs.Accepted.{IsSaid}
 use Rattle.problem_data.specs.WellFormed.{IsWellFormed}
@@ -20,8 +20,8 @@ said-rules p s = accepted-rules s.text p s.accepts
 
 pub few-shapes : (p : ProblemData) (o : ℕ) → IsWellFormed p → length (object_of p o).shapes ≤ 16
 few-shapes p o w = ⊎_elim
-    (λ l. (w.objects o (record { name = []; shapes = []; ranges = []; attributes = [] }) l).few)
-    (λ l. let e : length (object_of p o).shapes ≡ 0 = ap (λ (b : ObjectData). length b.shapes) (get_or_past p.objects o (record { name = []; shapes = []; ranges = []; attributes = [] }) l) in omega arith)
+    (λ l. (w.objects o no_object l).few)
+    (λ l. let e : length (object_of p o).shapes ≡ 0 = ap (λ (b : ObjectData). length b.shapes) (get_or_past p.objects o no_object l) in omega arith)
     (cases_lt o (length p.objects))
 
 pub small-object : (p : ProblemData) (o n : ℕ) → IsWellFormed p → n ≡ length (object_of p o).shapes → 1 < n → o < 200

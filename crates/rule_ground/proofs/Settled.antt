@@ -6,7 +6,7 @@ use Rattle.std.proofs.lemmas.Bool.Decides.{nat_tests}
 use Rattle.std.proofs.lemmas.Bool.{cases_lt}
 use Rattle.std.proofs.lemmas.List.{get_or_past}
 use Rattle.geo_base.specs.Tuple.{Tuple, spot}
-use Rattle.problem_data.specs.Problem.{ObjectData, ProblemData}
+use Rattle.problem_data.specs.Problem.{ObjectData, no_object, ProblemData}
 use Rattle.problem_data.specs.Tuple.{object_of, shape_of}
 use Rattle.problem_data.specs.Value.{Thing, Number, Object, Part}
 use Rattle.problem_data.specs.Cells.{IsTuple}
@@ -35,7 +35,7 @@ last-place p t o h l = (h.each o l).form.last
 
 -- an object that is not there has no shape
 no-shapes : (p : ProblemData) (o : ℕ) → length p.objects ≤ o → (object_of p o).shapes ≡ []
-no-shapes p o h = ap (λ (b : ObjectData). b.shapes) (get_or_past p.objects o (record { name = []; shapes = []; ranges = []; attributes = [] }) h)
+no-shapes p o h = ap (λ (b : ObjectData). b.shapes) (get_or_past p.objects o no_object h)
 
 none-at : (b : Bool) (xs : List ℕ) (n : ℕ) → xs ≡ [] → (if b then None else slice_get xs n) ≡ None
 none-at true xs n e = refl

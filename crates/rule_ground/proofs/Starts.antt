@@ -16,15 +16,14 @@ use Rattle.geo_conditions.specs.declared.object.ObjId.{ObjId}
 use Rattle.geo_conditions.specs.Order.{numbers_of}
 use Rattle.geo_conditions.specs.Walk.{Order, NamesEach}
 use Rattle.problem_data.specs.declared.tree.Side.{Side}
-use Rattle.problem_data.specs.Problem.{RangeData, ObjectData, ProblemData, runs_down}
+use Rattle.problem_data.specs.Problem.{RangeData, ObjectData, no_object, ProblemData, runs_down}
+use Rattle.problem_data.specs.Pieces.{hull, hulls}
 use Rattle.problem_data.specs.Tuple.{object_of}
-use Rattle.problem_data.specs.Cells.{range_at, IsInRanges, IsSpotOf, IsTuple}
+use Rattle.problem_data.specs.Cells.{range_at, IsInRanges, IsWideSpotOf, IsWideTuple}
 use Rattle.problem_data.specs.WellFormed.{IsRange, IsObject, IsWellFormed}
 use Rattle.rule_ground.specs.Order.{order_of}
 use Rattle.rule_ground.specs.Start.{whole_region, whole_reach, first_state, HasSmallEnds}
-
-no_object : ObjectData
-no_object = record { name = []; shapes = []; ranges = []; attributes = [] }
+use Rattle.problem_data.proofs.Hulls.{hulls_are_ranges}
 
 -- ---- the order
 
@@ -134,35 +133,38 @@ in-box-in rs x n i = record {
     past_x : (d : ℕ) → length rs ≤ d → coordinate x d ≡ pos 0
     past_x d h = get_or_past x d (pos 0) (omega arith)
 
--- ---- tuples of the first state
+-- ---- wide tuples are those of the first state
 
 pub reach-at : (p : ProblemData) (o : ℕ) → o < length p.objects → reach (first_state p) o ≡ whole_reach (object_of p o)
-reach-at p o h = get_or-map whole_reach p.objects o (record { name = []; shapes = []; ranges = []; attributes = [] }) nowhere h
+reach-at p o h = get_or-map whole_reach p.objects o no_object nowhere h
 
-spot-out : (p : ProblemData) (o : ObjectData) (s : Spot) → IsObject p o → SpotIn s (whole_reach o) → IsSpotOf p o s
+hulls-dims : (p : ProblemData) (o : ObjectData) → IsObject p o → length (hulls o) ≡ p.dims
+hulls-dims p o w = length-map o.pieces hull ∙ w.dimensions
+
+spot-out : (p : ProblemData) (o : ObjectData) (s : Spot) → IsObject p o → SpotIn s (whole_reach o) → IsWideSpotOf p o s
 spot-out p o s w i =
     let place = (place-there (length o.shapes) s.place w.few).0 i.place in
-    let box = in-box-out o.ranges s.origin i.origin in
-    record { form = record { first = place.0; last = place.1; dimensions = box.0 ∙ w.dimensions }; ranges = box.1 }
+    let box = in-box-out (hulls o) s.origin i.origin in
+    record { form = record { first = place.0; last = place.1; dimensions = box.0 ∙ hulls-dims p o w }; hulls = box.1 }
 
-spot-in : (p : ProblemData) (o : ObjectData) (s : Spot) → IsObject p o → IsSpotOf p o s → SpotIn s (whole_reach o)
+spot-in : (p : ProblemData) (o : ObjectData) (s : Spot) → IsObject p o → IsWideSpotOf p o s → SpotIn s (whole_reach o)
 spot-in p o s w i = record {
   place = (place-there (length o.shapes) s.place w.few).1 (i.form.first, i.form.last);
-  origin = in-box-in o.ranges s.origin (i.form.dimensions ∙ sym w.dimensions) i.ranges;
+  origin = in-box-in (hulls o) s.origin (i.form.dimensions ∙ sym (hulls-dims p o w)) i.hulls;
 }
 
-pub tuples-are : (p : ProblemData) (t : Tuple) → IsWellFormed p → TupleIn t (first_state p) ↔ IsTuple p t
+pub tuples-are : (p : ProblemData) (t : Tuple) → IsWellFormed p → TupleIn t (first_state p) ↔ IsWideTuple p t
 tuples-are p t w =
     let n : length (first_state p) ≡ length p.objects = length-map p.objects whole_reach in (
       (λ i. record {
         objects = i.objects ∙ n;
-        each = λ o h. spot-out p (object_of p o) (spot t o) (w.objects o (record { name = []; shapes = []; ranges = []; attributes = [] }) h)
+        each = λ o h. spot-out p (object_of p o) (spot t o) (w.objects o no_object h)
             (subst (SpotIn (spot t o)) (reach-at p o h) (i.each o (subst (λ (m : ℕ). o < m) (sym n) h)));
       }),
       (λ i. record {
         objects = i.objects ∙ sym n;
         each = λ o h. let l : o < length p.objects = subst (λ (m : ℕ). o < m) n h in
-            subst (SpotIn (spot t o)) (sym (reach-at p o l)) (spot-in p (object_of p o) (spot t o) (w.objects o (record { name = []; shapes = []; ranges = []; attributes = [] }) l) (i.each o l));
+            subst (SpotIn (spot t o)) (sym (reach-at p o l)) (spot-in p (object_of p o) (spot t o) (w.objects o no_object l) (i.each o l));
       }),
     )
 
@@ -183,12 +185,12 @@ reach-small r a b d = ((a d).0, (a d).1, (b d).0, (b d).1)
 
 pub ends-small : (p : ProblemData) → IsWellFormed p → HasSmallEnds (first_state p)
 ends-small p w o d = ⊎_elim
-    (λ h. let i : IsObject p (object_of p o) = w.objects o (record { name = []; shapes = []; ranges = []; attributes = [] }) h in
+    (λ h. let i : IsObject p (object_of p o) = w.objects o no_object h in
     subst (λ (r : Reach). (negsuc 999999 ≤ℤ coordinate r.region.lo d) × (coordinate r.region.lo d ≤ℤ pos 1000000) × (negsuc 999999 ≤ℤ coordinate r.region.hi d) × (coordinate r.region.hi d ≤ℤ pos 1000000))
     (sym (reach-at p o h))
     (reach-small (whole_reach (object_of p o))
-    (small-at (λ (r : RangeData). r.low) (object_of p o).ranges (λ r s. let l = s.low in let f = s.filled in let m = s.high in (l, omega (arith, ints, l, f, m))) i.ranges)
-    (small-at (λ (r : RangeData). r.high) (object_of p o).ranges (λ r s. let l = s.low in let f = s.filled in let m = s.high in (omega (arith, ints, l, f, m), m)) i.ranges) d))
+    (small-at (λ (r : RangeData). r.low) (hulls (object_of p o)) (λ r s. let l = s.low in let f = s.filled in let m = s.high in (l, omega (arith, ints, l, f, m))) (hulls_are_ranges p (object_of p o) i))
+    (small-at (λ (r : RangeData). r.high) (hulls (object_of p o)) (λ r s. let l = s.low in let f = s.filled in let m = s.high in (omega (arith, ints, l, f, m), m)) (hulls_are_ranges p (object_of p o) i)) d))
     (λ h. subst (λ (r : Reach). (negsuc 999999 ≤ℤ coordinate r.region.lo d) × (coordinate r.region.lo d ≤ℤ pos 1000000) × (negsuc 999999 ≤ℤ coordinate r.region.hi d) × (coordinate r.region.hi d ≤ℤ pos 1000000))
     (sym (get_or_past (map whole_reach p.objects) o nowhere (let m = length-map p.objects whole_reach in omega (arith, m, h))))
     (omega (arith, ints), omega (arith, ints), omega (arith, ints), omega (arith, ints)))
@@ -208,8 +210,8 @@ order-is p objects made down flags i j {os} {ss} a b e f g h l m =
     λ k. record { objects = numbers k; down = downs' k }
 
 -- the box of the ends that were set
-pub region-whole : (k : ℕ) (o : ObjectData) (rs : List RangeData) (lo hi : Point k) (b : KBox k) → b.lo ≡ lo → b.hi ≡ hi → rs ≡ o.ranges → length lo.coordinates ≡ k → length hi.coordinates ≡ k → length o.ranges ≡ k
+pub region-whole : (k : ℕ) (o : ObjectData) (rs : List RangeData) (lo hi : Point k) (b : KBox k) → b.lo ≡ lo → b.hi ≡ hi → rs ≡ hulls o → length lo.coordinates ≡ k → length hi.coordinates ≡ k → length o.pieces ≡ k
     → ((e : ℕ) → e < k → coordinate lo.coordinates e ≡ (range_at rs e).low) → ((e : ℕ) → e < k → coordinate hi.coordinates e ≡ (range_at rs e).high) → region_of b ≡ whole_region o
 region-whole k o rs lo hi b x y e m n l lows highs =
-    let made = region-made k lo.coordinates hi.coordinates rs m n (ap length e ∙ l) lows highs in
+    let made = region-made k lo.coordinates hi.coordinates rs m n (ap length e ∙ length-map o.pieces hull ∙ l) lows highs in
     λ i. record { lo = (ap (λ (q : Point k). q.coordinates) x ∙ made.0 ∙ ap (map (λ (r : RangeData). r.low)) e) i; hi = (ap (λ (q : Point k). q.coordinates) y ∙ made.1 ∙ ap (map (λ (r : RangeData). r.high)) e) i }

@@ -72,6 +72,20 @@ high c x p e a l hi g = shifted (c +ℤ (p +ℤ pos 0)) (((x +ℤ a) +ℤ l) -�
 pub high-true : (x a l hi : ℤ) → le_z ((((a +ℤ l) -ℤ pos 1) -ℤ hi) +ℤ (pos 1 *ℤ x +ℤ pos 0)) (pos 0) ≡ le_z (((x +ℤ a) +ℤ l) -ℤ pos 1) hi
 high-true x a l hi = high (((a +ℤ l) -ℤ pos 1) -ℤ hi) x (pos 1 *ℤ x) (once x) a l hi refl
 
+-- a coordinate that is at most a number, and one that is at least a number
+
+up : (c x p : ℤ) → p ≡ x → (v : ℤ) → c ≡ pos 0 -ℤ v → le_z (c +ℤ (p +ℤ pos 0)) (pos 0) ≡ le_z x v
+up c x p e v g = shifted (c +ℤ (p +ℤ pos 0)) x v (omega (arith, ints))
+
+pub up-true : (x v : ℤ) → le_z ((pos 0 -ℤ v) +ℤ (pos 1 *ℤ x +ℤ pos 0)) (pos 0) ≡ le_z x v
+up-true x v = up (pos 0 -ℤ v) x (pos 1 *ℤ x) (once x) v refl
+
+down : (c x p : ℤ) → p ≡ neg_ℤ x → le_z (c +ℤ (p +ℤ pos 0)) (pos 0) ≡ le_z c x
+down c x p e = shifted (c +ℤ (p +ℤ pos 0)) c x (omega (arith, ints))
+
+pub down-true : (x v : ℤ) → le_z (v +ℤ (negsuc 0 *ℤ x +ℤ pos 0)) (pos 0) ≡ le_z v x
+down-true x v = down v x (negsuc 0 *ℤ x) (turned x)
+
 -- ---- each of the items of joined lists
 
 pub all-left : {B : Type 0} (P : B → Type 0) (xs ys : List B) → All P (xs ++ ys) → All P xs

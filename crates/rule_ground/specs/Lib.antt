@@ -1,8 +1,10 @@
 pub mod Apart
 pub mod BoxCounts
 pub mod Ground
+pub mod Meant
 pub mod Grounding
 pub mod Order
+pub mod Own
 pub mod Rules
 pub mod Shapes
 pub mod Start

@@ -1,4 +1,5 @@
--- The conditions of a problem, rule by rule, and the fault where they are too many or too large.
+-- The conditions of a problem: of its objects, and then rule by rule; and the fault where those of
+-- the rules are too many or too large.
 use Rattle.std.specs.Prelude.{ℕ, ◌+◌, ◌==◌, Bool, false, if◌then◌else◌, List, [], ◌∷◌, ◌++◌, length, ℤ, pos, negsuc, Result, Ok, Err}
 use Rattle.geo_tokens.specs.declared.fault.TextFault.{TextFault}
 use Rattle.geo_tokens.specs.declared.fault.TextFault.TheVariants as faults
@@ -6,6 +7,7 @@ use Rattle.problem_data.specs.Problem.{ProblemData}
 use Rattle.rule_expand.specs.Rules.{PlainDemand, apart, within, plain, PlainRuleData, rules_expanded}
 use Rattle.linear_conditions.specs.CondTree.{CondTree, linear, shape_is, shape_is_not, at_least, CondTrees, no_conds, a_cond}
 use Rattle.linear_conditions.specs.Counts.{Counts, Outcome, Fault, Done, and_then, within_limits}
+use Rattle.rule_ground.specs.Own.{own_conditions}
 use Rattle.rule_ground.specs.Apart.{apart_conditions}
 use Rattle.rule_ground.specs.Within.{within_conditions}
 use Rattle.rule_ground.specs.Grounding.{named_objects, ground_named}
@@ -58,6 +60,7 @@ ground_rules p (r ∷ rest) k = before_rest r.place (ground_demand p r.demand k)
 abbrev pub no_counts : Counts
 no_counts = record { visits = 0; leaves = 0; terms = 0 }
 
--- all conditions of a problem, or its fault
+-- all conditions of a problem, or its fault: those that its objects have by themselves, which are
+-- not counted, and those of its rules
 abbrev pub grounded : ProblemData → Result (List CondTree) TextFault
-grounded p = ground_rules p (rules_expanded p) no_counts
+grounded p = before (own_conditions p) (ground_rules p (rules_expanded p) no_counts)

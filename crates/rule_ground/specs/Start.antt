@@ -1,17 +1,18 @@
--- The state in which a search begins: all shapes and all ranges.
+-- The state in which a search begins: all shapes and the hulls of all ranges.
 use Rattle.std.specs.Prelude.{◌≤ℤ◌, ℕ, pos, negsuc, map, length}
 use Rattle.problem_data.specs.Problem.{RangeData, ObjectData, ProblemData}
+use Rattle.problem_data.specs.Pieces.{hulls}
 use Rattle.geo_conditions.specs.Reach.{State, Reach, Region, first_places, low, high}
 
--- the points that the ranges of an object allow
+-- the points within the hulls of an object's ranges
 abbrev pub whole_region : ObjectData → Region
-whole_region o = record { lo = map (λ (r : RangeData). r.low) o.ranges; hi = map (λ (r : RangeData). r.high) o.ranges }
+whole_region o = record { lo = map (λ (r : RangeData). r.low) (hulls o); hi = map (λ (r : RangeData). r.high) (hulls o) }
 
 -- all that is open to an object
 abbrev pub whole_reach : ObjectData → Reach
 whole_reach o = record { places = first_places (length o.shapes); region = whole_region o }
 
--- for each object all its shapes and all its ranges
+-- for each object all its shapes and all its hulls
 abbrev pub first_state : ProblemData → State
 first_state p = map whole_reach p.objects
 

@@ -1,12 +1,11 @@
 //! All conditions of a problem.
 
-ghost use Rattle.std.specs.Prelude.{◌≡◌, ◌↔◌, ◌≤◌, ◌^◌, All, IfOk, MatchResult, None, length, map};
+ghost use Rattle.std.specs.Prelude.{◌≡◌, ◌↔◌, ◌≤◌, All, IfOk, MatchResult, None, length, map};
 ghost use Rattle.geo_base.specs.Tuple.{Tuple};
 ghost use Rattle.geo_conditions.specs.Conditions.{AllFit, AllHold};
 ghost use Rattle.linear_conditions.specs.CondTree.{cond_view};
-ghost use Rattle.problem_data.specs.Cells.{IsTuple};
-ghost use Rattle.problem_data.specs.Layouts.{DemandHolds};
-ghost use Rattle.problem_data.specs.Problem.{RuleData};
+ghost use Rattle.problem_data.specs.Cells.{IsTuple, IsWideTuple};
+ghost use Rattle.problem_data.specs.Layouts.{IsLayout};
 ghost use Rattle.problem_data.specs.ProblemView.{range_data};
 ghost use Rattle.problem_data.specs.WellFormed.{IsRange};
 ghost use Rattle.rule_expand.specs.PlainView.{plain_formula_view};
@@ -14,9 +13,10 @@ ghost use Rattle.rule_expand.specs.Rules.{PlainRuleData, body_data, expansion_fa
 ghost use Rattle.rule_ground.specs.Answers.{Appends};
 ghost use Rattle.rule_ground.specs.Apart.{apart_conditions};
 ghost use Rattle.rule_ground.specs.Faults.{AnswersRules, HasRanges, fault_at};
-ghost use Rattle.rule_ground.specs.Ground.{IsFaultOf, conditions, ground_fault};
+ghost use Rattle.rule_ground.specs.Ground.{IsFaultOf, conditions, ground_fault, most_conditions};
+ghost use Rattle.rule_ground.specs.Own.{own_conditions};
 ghost use Rattle.rule_ground.specs.Phases.{AnswersGrounded};
-ghost use Rattle.rule_ground.specs.Rules.{as_leaves, ground_demand, ground_rules, no_counts};
+ghost use Rattle.rule_ground.specs.Rules.{as_leaves, before, ground_demand, ground_rules, no_counts};
 ghost use Rattle.rule_ground.specs.Shapes.{HasSmallShapes};
 ghost use Rattle.rule_ground.specs.Start.{first_state};
 ghost use Rattle.rule_ground.specs.Within.{within_conditions};
@@ -26,6 +26,7 @@ use crate::apart::push_apart;
 use crate::counts::{count_apart, count_within};
 use crate::flat::push_conditions;
 use crate::named::{ground_named, named_objects};
+use crate::own::push_own;
 use crate::within::push_within;
 use geo_conditions::Cond;
 use geo_tokens::fault::{FaultWord, TextFault};
@@ -149,7 +150,7 @@ fn ground_body(
     }
 }
 
-// The conditions of some rules.
+// The conditions that objects have by themselves, and behind them those of some rules.
 fn ground_each(
     alloc: Global,
     problem: &Problem,
@@ -158,11 +159,14 @@ fn ground_each(
     requires shapes { HasSmallShapes problem.now }
     requires ranges { All (λ (r : PlainRuleData). HasRanges problem.now r.demand)
         (map plain_rule_data rules.now) }
-    ensures { AnswersRules
-        (ground_rules problem.now (map plain_rule_data rules.now) no_counts) result }
+    ensures { AnswersRules (before (own_conditions problem.now)
+        (ground_rules problem.now (map plain_rule_data rules.now) no_counts)) result }
 {
     let mut counter = Counter::new();
     let mut out = Vec::new(alloc);
+    if let Err(_e) = push_own(alloc, problem, &mut out) {
+        return Err(TextFault::Memory);
+    }
     for rule in rules {
         if let Err(fault) = ground_body(alloc, problem, &rule.body, &mut counter, &mut out) {
             return Err(fault_at(rule.place, fault));
@@ -171,15 +175,19 @@ fn ground_each(
     Ok(out)
 }
 
-/// The conditions of the rules of a problem, in file order; `rules` are its rules without macros.
+/// All conditions of a problem; `rules` are its rules without macros, in file order.
 ///
-/// `apart` gives its conditions for each two objects in file order, their shapes and their boxes; `within` for each object, its
-/// shapes, their boxes and the dimensions, the low end first. A formula gives those of the tree that it is grounded to. The
-/// first rule with which a form is out of bounds is refused with `overflow`, and the first with which there are more than
-/// 20,000,000 visits, 1,000,000 leaves or 8,000,000 terms, counted over all rules, with `ground`, whichever is met first; each
-/// at the place of its name. So there are at most 1,000,000,000 conditions, as many as numbers can pick. On each tuple of the
-/// problem all conditions are true exactly where every rule holds, and the evaluation of the rules meets only numbers that fit
-/// 128 bits.
+/// First come those of the objects by themselves, for each object in file order, the dimensions and
+/// each two neighbouring pieces of its range: the coordinate is not between them. They are not
+/// counted. Behind them come those of the rules, in file order. `apart` gives its conditions for
+/// each two objects in file order, their shapes and their boxes; `within` for each object, its
+/// shapes, their boxes and the dimensions, the low end first. A formula gives those of the tree that
+/// it is grounded to. The first rule with which a form is out of bounds is refused with `overflow`,
+/// and the first with which there are more than 20,000,000 visits, 1,000,000 leaves or 8,000,000
+/// terms, counted over all rules, with `ground`, whichever is met first; each at the place of its
+/// name. So there are at most 1,010,000 conditions, far fewer than numbers can pick. On each tuple
+/// of the problem's hulls all conditions are true exactly where it is a layout, and on each tuple of
+/// the problem the evaluation of the rules meets only numbers that fit 128 bits.
 pub fn ground_rules(
     alloc: Global,
     problem: &Problem,
@@ -190,11 +198,10 @@ pub fn ground_rules(
     ensures conditions { MatchResult result
         (λ v. (map cond_view v.items ≡ conditions problem.now) × (ground_fault problem.now ≡ None))
         (λ e. IsFaultOf (ground_fault problem.now) e) }
-    ensures meaning { IfOk result (λ v. (t : Tuple) → IsTuple problem.now t
-        → AllHold v.items t
-        ↔ All (λ (r : RuleData). DemandHolds problem.now t r.demand) problem.now.rules) }
+    ensures meaning { IfOk result (λ v. (t : Tuple) → IsWideTuple problem.now t
+        → AllHold v.items t ↔ IsLayout problem.now t) }
     ensures fit { IfOk result (λ v. AllFit v.items (first_state problem.now)) }
-    ensures few { IfOk result (λ v. length v.items ≤ 10 ^ 9) }
+    ensures few { IfOk result (λ v. length v.items ≤ most_conditions) }
     ensures calm { IfOk result (λ v. (t : Tuple) → IsTuple problem.now t
         → AreCalm problem.now t (map plain_rule_data rules.now)) }
 {
@@ -206,9 +213,8 @@ pub fn ground_rules(
 /// too large or multiply coordinates, and then the conditions.
 pub fn ground(alloc: Global, problem: &Problem) -> Result<Vec<Cond>, TextFault>
     ensures answers { AnswersGrounded result problem.now }
-    ensures meaning { IfOk result (λ v. (t : Tuple) → IsTuple problem.now t
-        → AllHold v.items t
-        ↔ All (λ (r : RuleData). DemandHolds problem.now t r.demand) problem.now.rules) }
+    ensures meaning { IfOk result (λ v. (t : Tuple) → IsWideTuple problem.now t
+        → AllHold v.items t ↔ IsLayout problem.now t) }
 {
     check_names(alloc, problem)?;
     let rules = expand_all(alloc, problem)?;

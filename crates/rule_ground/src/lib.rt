@@ -8,11 +8,14 @@ mod elements;
 mod flat;
 mod formulas;
 pub mod ground;
+mod laws;
 mod literals;
 mod named;
 mod needs;
+mod own;
 pub mod quantifiers;
 mod shapes;
 mod within;
 
 pub use beginning::{order, start};
+pub use laws::conditions_are_meant;

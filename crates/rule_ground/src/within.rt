@@ -78,8 +78,8 @@ fn unless_other(alloc: Global, problem: &Problem, at: Placed, c: Cond) -> Result
     }
 }
 
-// The range of the dimension d.
-fn range_in(ranges: &[RangeDef], d: usize) -> RangeDef
+// The range at a place of a list.
+pub fn range_in(ranges: &[RangeDef], d: usize) -> RangeDef
     requires ranges { All IsRange (map range_data ranges.now) }
     requires d { d < length ranges.now }
     ensures is { range_data result ≡ range_at (map range_data ranges.now) d }

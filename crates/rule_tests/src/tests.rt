@@ -1,10 +1,13 @@
-use geo_conditions::{Cond, Form};
+//! Grounding and judging, against conditions and rules by hand.
+
+use geo_conditions::{Cond, Form, ObjId};
 use geo_meaning::{Judged, judge};
 use geo_tokens::fault::TextFault;
 use layout_text::read_layout;
 use problem_generator::make_problem;
 use problem_text::read::read_problem;
 use rule_ground::ground::ground;
+use rule_ground::start::start_state;
 use std::alloc::{AllocError, Global};
 use std::process::Abort;
 use std::test::Fail;
@@ -77,6 +80,14 @@ const TWO: &[u8] =
 const SHAPES: &[u8] =
     b"geost 1 dims 1 shape s box 0 size 1 ; shape t box 0 size 2 ; object a as t, s at 0..9 ; object b as s at 0..9 ; rule r : ";
 
+/// An object of two cells whose range has three pieces, and one in a single piece.
+const HOLES: &[u8] =
+    b"geost 2 dims 1 shape s box 0 size 2 ; object a as s at 0..1, 5..6, 9..9 ; object b as s at 0..1 ; ";
+
+/// Two objects in two dimensions: the first has a hole in each, the second in the second alone.
+const HOLES_IN_THE_PLANE: &[u8] =
+    b"geost 2 dims 2 shape s box 0 0 size 1 1 ; object a as s at 0..0, 2..2 0..1, 4..4 ; object b as s at 7..7 0..1, 3..3 ; ";
+
 /// Problems in two texts, with their conditions or their first fault.
 const ROWS: &[(&[u8], &[u8], &str)] = &[
     // rules that are too large, and one whose argument is not used
@@ -94,6 +105,22 @@ const ROWS: &[(&[u8], &[u8], &str)] = &[
         ONE,
         b"macro z(n : int) is 1 ; rule r : $z(a.x1 * a.x1) <= a.x1 ; end",
         "1 -1*x0; ",
+    ),
+    // holes stand before the rules, by object, by dimension and from the least number on
+    (
+        HOLES,
+        b"end",
+        "1 of [-1 1*x0] [5 -1*x0]; 1 of [-6 1*x0] [9 -1*x0]; ",
+    ),
+    (
+        HOLES,
+        b"rule r : apart ; end",
+        "1 of [-1 1*x0] [5 -1*x0]; 1 of [-6 1*x0] [9 -1*x0]; 1 of [2 1*x0 -1*x1] [2 -1*x0 1*x1]; ",
+    ),
+    (
+        HOLES_IN_THE_PLANE,
+        b"rule r : a.x1 <= 1 ; end",
+        "1 of [0 1*x0] [2 -1*x0]; 1 of [-1 1*x0] [4 -1*x0]; 1 of [-1 1*x1] [3 -1*x1]; -1 1*x0; ",
     ),
     // formulas
     (TWO, b"true ; end", ""),
@@ -183,6 +210,35 @@ fn the_rules_of_made_problems_give_3600_conditions(rt: HostRuntime) -> Result<()
         }
         assert!(rt; number == 3600);
     }
+    Ok(())
+}
+
+/// The intervals in which a search begins, of a problem in one dimension.
+fn hulls(alloc: Global, text: &[u8]) -> Result<String, TextFault> {
+    let problem = read_problem(alloc, text)?;
+    let mut shown = String::new(alloc);
+    if problem.dims() != 1 {
+        return Ok(shown);
+    }
+    let state = start_state::<1>(alloc, &problem)?;
+    if state.objects() != 2 {
+        return Ok(shown);
+    }
+    for o in [ObjId(0), ObjId(1)] {
+        let region = state.region(o);
+        let line = format!(in alloc; "{}..{}; ", region.lo.get(0), region.hi.get(0))?;
+        shown.push_str(line.as_str())?;
+    }
+    Ok(shown)
+}
+
+/// A search begins with the hulls of all pieces.
+#[test]
+fn a_search_begins_with_hulls(rt: HostRuntime) -> Result<(), Fail> {
+    let mut text = Vec::from_slice(rt.alloc(), HOLES)?;
+    text.extend_from_slice(b"end")?;
+    let shown = hulls(rt.alloc(), &text)?;
+    assert!(rt; shown.as_str() == "0..9; 0..1; ", "{}", shown.as_str());
     Ok(())
 }
 

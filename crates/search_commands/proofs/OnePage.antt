@@ -16,9 +16,11 @@ use Rattle.layout_search.proofs.Members.{values-tell}
 use Rattle.layout_search.proofs.States.{state-is}
 use Rattle.layout_text.proofs.ReadBack.{one_token}
 use Rattle.problem_data.specs.Problem.{ProblemData}
+use Rattle.problem_data.specs.Cells.{IsWideTuple}
 use Rattle.problem_data.specs.Layouts.{IsLayout}
 use Rattle.problem_data.specs.WellFormed.{IsWellFormed}
 use Rattle.problem_data.proofs.Accepted.{accepted_well_formed}
+use Rattle.problem_data.proofs.Hulls.{tuple_is_wide}
 use Rattle.rule_ground.specs.Order.{order_of, variables_for}
 use Rattle.rule_ground.specs.Start.{first_state}
 use Rattle.rule_ground.proofs.Starts.{names-each}
@@ -57,7 +59,9 @@ same_layouts p well [] [] a b e = refl
 same_layouts p well [] (u ∷ us) a b e = absurd (omega (arith, ap length e))
 same_layouts p well (t ∷ ts) [] a b e = absurd (omega (arith, ap length e))
 same_layouts p well (t ∷ ts) (u ∷ us) a b e =
-    let h : t ≡ u = values-tell p t u well (All-head (IsLayout p) t ts a).tuple (All-head (IsLayout p) u us b).tuple (first_same (values (variables_for p) t) (values (variables_for p) u) _ _ e) in
+    let one : IsWideTuple p t = tuple_is_wide p t well (All-head (IsLayout p) t ts a).tuple in
+    let other : IsWideTuple p u = tuple_is_wide p u well (All-head (IsLayout p) u us b).tuple in
+    let h : t ≡ u = values-tell p t u well one other (first_same (values (variables_for p) t) (values (variables_for p) u) _ _ e) in
     let r : ts ≡ us = same_layouts p well ts us (All-tail (IsLayout p) t ts a) (All-tail (IsLayout p) u us b) (rest_same (values (variables_for p) t) (values (variables_for p) u) _ _ e) in
     λ i. h i ∷ r i
   where

@@ -14,7 +14,8 @@ use Rattle.derivation_text.specs.Lines.{shapes_of}
 use Rattle.printed_derivation.specs.Tables.{IsTableOf}
 use Rattle.printed_derivation.specs.Laws.{printed}
 use Rattle.printed_derivation.proofs.ReadBack.{is_printed}
-use Rattle.problem_data.specs.Problem.{RangeData, ObjectData, ProblemData}
+use Rattle.problem_data.specs.Problem.{RangeData, no_object, ProblemData}
+use Rattle.problem_data.specs.Pieces.{hull, hulls}
 use Rattle.problem_data.specs.Tuple.{object_of}
 use Rattle.problem_data.specs.WellFormed.{IsWellFormed}
 use Rattle.problem_text.specs.NameTable.{named_object, name_table}
@@ -24,14 +25,12 @@ use Rattle.layout_search.proofs.AlikeRows.{rows-alike}
 use Rattle.command_reply.specs.Accepted.{AreConditions}
 use Rattle.search_commands.specs.First.{ShowsNone, SaysNone}
 
-abbrev no_object : ObjectData
-no_object = record { name = []; shapes = []; ranges = []; attributes = [] }
-
 -- an object has as many dimensions as its problem
 dimensions-of : (p : ProblemData) → IsWellFormed p → (o : ℕ) → o < length p.objects → dims (first_state p) o ≡ p.dims
 dimensions-of p w o h =
     ap (λ (r : Reach). length r.region.lo) (reach-at p o h)
-    ∙ length-map (object_of p o).ranges (λ (r : RangeData). r.low)
+    ∙ length-map (hulls (object_of p o)) (λ (r : RangeData). r.low)
+    ∙ length-map (object_of p o).pieces hull
     ∙ (w.objects o no_object h).dimensions
 
 -- a place that an object has is one of its shapes, which the table lists

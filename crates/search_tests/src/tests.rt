@@ -1,7 +1,12 @@
+//! Sweeps, prunes, settles and derivations, against points and events by hand.
+
 mod boxes;
 mod checking;
+mod dimensions;
 mod events;
 mod forbidden;
+mod holes;
+mod indexicals;
 mod lines;
 mod literals;
 mod pruning;

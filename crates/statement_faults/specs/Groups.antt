@@ -5,7 +5,7 @@ use Rattle.problem_data.specs.Parts.{Parts}
 use Rattle.problem_data.specs.Faults.{Among, VersionFault, DimsFault, ShapesFault, ObjectsFault, OrderFault, SidesFault, MacrosFault, RulesFault, shape_names, object_names}
 
 abbrev pub HeadFault : Parts → Fault → Type 0
-HeadFault p f = VersionFault p.version f ⊎ DimsFault p.dims f
+HeadFault p f = VersionFault p.version f ⊎ DimsFault p.version p.dims f
 
 -- `made` are the names of the shapes
 abbrev pub ObjectOrOrderFault : ℕ → List (List ℕ) → Parts → Fault → Type 0

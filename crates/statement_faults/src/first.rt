@@ -1,9 +1,10 @@
 //! The first fault of statements.
 
 ghost use Rattle.std.specs.Prelude.{◌≡◌, ◌↔◌, pos, IfOk, IsTrue};
+ghost use Rattle.problem_data.specs.Limits.{IsVersion, most_dims_in};
 ghost use Rattle.problem_data.specs.Parts.{parts_view};
 ghost use Rattle.problem_data.specs.Least.{IsLeast};
-ghost use Rattle.problem_data.specs.Faults.{VersionFault, DimsFault, IsFault, count_of};
+ghost use Rattle.problem_data.specs.Faults.{VersionFault, IsDims, DimsFault, IsFault, count_of};
 ghost use Rattle.statement_faults.specs.Groups.{HeadFault, ObjectOrOrderFault, NamingFault, TailFault};
 
 use crate::names::met_names;
@@ -19,7 +20,10 @@ use problem_data::tree::Int;
 use std::alloc::{AllocError, Global};
 
 /// How many dimensions a text may have.
-const MOST_DIMS: i64 = 4;
+const MOST_DIMS: i64 = 6;
+
+/// How many dimensions a text of version 1 may have.
+const MOST_FIRST_DIMS: i64 = 4;
 
 /// The number of dimensions that is stated.
 pub fn count_of(dims: Int) -> usize
@@ -33,9 +37,9 @@ pub fn count_of(dims: Int) -> usize
 }
 
 fn is_version(value: i64) -> bool
-    ensures { IsTrue result ↔ (value ≡ pos 1) }
+    ensures { IsTrue result ↔ IsVersion value }
 {
-    value == 1
+    value == 1 || value == 2
 }
 
 fn version_fault(version: Int) -> Option<Fault>
@@ -45,10 +49,26 @@ fn version_fault(version: Int) -> Option<Fault>
     fault_if(!known, version.place, FaultWord::Limit)
 }
 
-fn dims_fault(dims: Int) -> Option<Fault>
-    ensures { IsLeast (DimsFault dims) result }
+fn most_dims(version: i64) -> i64
+    ensures { result ≡ pos (most_dims_in (count_of version)) }
 {
-    let right = 1 <= dims.value && dims.value <= MOST_DIMS;
+    if version == 2 {
+        MOST_DIMS
+    } else {
+        MOST_FIRST_DIMS
+    }
+}
+
+fn has_dims(version: i64, dims: i64) -> bool
+    ensures { IsTrue result ↔ IsDims version dims }
+{
+    1 <= dims && dims <= most_dims(version)
+}
+
+fn dims_fault(version: Int, dims: Int) -> Option<Fault>
+    ensures { IsLeast (DimsFault version dims) result }
+{
+    let right = has_dims(version.value, dims.value);
     fault_if(!right, dims.place, FaultWord::Limit)
 }
 
@@ -57,7 +77,7 @@ fn head_fault(said: &Parts) -> Option<Fault>
     ensures { IsLeast (HeadFault (parts_view said.now)) result }
 {
     let version = version_fault(said.version);
-    let dims = dims_fault(said.dims);
+    let dims = dims_fault(said.version, said.dims);
     earlier(version, dims)
 }
 

@@ -9,5 +9,6 @@ pub mod names;
 pub mod numbers;
 mod objects;
 mod order;
+mod pieces;
 mod rules;
 mod shapes;

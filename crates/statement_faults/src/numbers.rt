@@ -106,7 +106,7 @@ fn upside_down(range: &RangeText) -> Option<Fault>
     )
 }
 
-fn range_fault(range: &RangeText) -> Option<Fault>
+pub fn range_fault(range: &RangeText) -> Option<Fault>
     ensures { IsLeast (RangeFault range.now) result }
 {
     let low = offset_fault(range.low);
@@ -128,7 +128,8 @@ impl FindFault<RangeText> for Ranges {
     }
 }
 
-fn first_range(ranges: &[RangeText]) -> u64
+/// The place of the first range, and 0 where there is none.
+pub fn first_range(ranges: &[RangeText]) -> u64
     ensures { result ≡ first_place range_place ranges.now }
 {
     match ranges {
@@ -137,7 +138,7 @@ fn first_range(ranges: &[RangeText]) -> u64
     }
 }
 
-/// The first fault of the ranges of an object or of `within`.
+/// The first fault of the ranges of `within`.
 pub fn ranges_fault(k: usize, ranges: &[RangeText]) -> Option<Fault>
     ensures { IsLeast (RangesFault k ranges.now) result }
 {

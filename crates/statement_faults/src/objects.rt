@@ -8,7 +8,7 @@ ghost use Rattle.problem_data.specs.Faults.{FieldFault, AttributesFault, ObjectF
 
 use crate::each::{FindFault, TryFindFault, each_fault, try_each_fault};
 use crate::names::{limited, names_fault, not_made};
-use crate::numbers::ranges_fault;
+use crate::pieces::origin_fault;
 use geo_tokens::fault::FaultWord;
 use problem_data::fault::{Fault, earlier, fault_if};
 use problem_data::seen::SeenNames;
@@ -83,9 +83,9 @@ fn object_fault(
     let shapes = object.shapes.as_slice();
     let names = names_fault(alloc, MOST_OBJECT_SHAPES, shapes)?;
     let unknown = not_made(made, shapes);
-    let ranges = ranges_fault(k, object.ranges.as_slice());
+    let origin = origin_fault(k, object.pieces.as_slice());
     let attributes = attributes_fault(alloc, object.attributes.as_slice())?;
-    let lists = earlier(ranges, attributes);
+    let lists = earlier(origin, attributes);
     let others = earlier(unknown, lists);
     Ok(earlier(names, others))
 }

@@ -1,3 +1,7 @@
+//! Which picked condition forbids a point, and the box around it that it forbids. The conditions
+//! are asked in turn from the one that answered last, since the point that a jump comes to lies
+//! most often beside the box of its neighbour.
+
 ghost use Rattle.std.specs.Prelude.{◌≡◌, ℕ, ◌+◌, ◌-◌, ◌<◌, ◌≤◌, true, length, map, slice_get, IfSome, IfNone, Some};
 ghost use Rattle.geo_base.specs.Boxes.{Has};
 ghost use Rattle.geo_conditions.specs.declared.cond.Cond.{Cond};

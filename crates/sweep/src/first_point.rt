@@ -1,3 +1,7 @@
+//! The sweep: from the first corner of a region it jumps over forbidden boxes to the first point
+//! that no picked condition forbids. The jump vector keeps for each dimension the least end of the
+//! boxes met so far, after Beldiceanu, Carlsson, Poder, Sadek and Truchet (2007).
+
 ghost use Rattle.std.specs.Prelude.{◌≡◌, ℕ, ◌+◌, ◌-◌, ◌*◌, ◌^◌, ◌<◌, ◌≤◌, true, length, map, Some, None, if◌then◌else◌, IfOk, MatchOption};
 ghost use Rattle.std.specs.List.{All};
 ghost use Rattle.std.specs.Option.{option_map};
@@ -12,10 +16,10 @@ ghost use Rattle.sweep.specs.Picks.{ArePicks, picked};
 ghost use Rattle.sweep.specs.Sweep.{part_before, IsCovered};
 ghost use Rattle.sweep.specs.Swept.{IsBegun, HasSwept};
 
-use super::ask::ask;
-use super::marks::Marks;
-use super::record::open_chains;
-use super::turn::{stop, turn};
+use crate::ask::ask;
+use crate::marks::Marks;
+use crate::record::open_chains;
+use crate::turn::{stop, turn};
 use derivation::{Event, Recorder};
 use geo_base::{KBox, Point, Steps, Way};
 use geo_conditions::{ObjId, State};

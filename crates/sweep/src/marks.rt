@@ -1,3 +1,6 @@
+//! Where in the record of a sweep the open cuts stand, one for each dimension by significance:
+//! their numbers are put in when the jump is known.
+
 ghost use Rattle.std.specs.Prelude.{◌≡◌, ◌≢◌, ℕ, ◌<◌, slice_index};
 
 /// Where the cuts that hold a place stand in a record, one for each dimension by significance.

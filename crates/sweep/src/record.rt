@@ -10,7 +10,7 @@ ghost use Rattle.derivation.specs.Events.{Grows, GrowsFrom};
 ghost use Rattle.sweep.specs.Chains.{IsCutBefore, IsOpen, IsOpenAtJump, SomeOpenAtJump, SomeOpenBy};
 ghost use Rattle.sweep.specs.Jump.{IsSmallJump};
 
-use super::marks::Marks;
+use crate::marks::Marks;
 use derivation::{Event, Recorder, Side};
 use geo_base::{KBox, Point, Way};
 use std::alloc::AllocError;

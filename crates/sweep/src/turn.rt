@@ -1,3 +1,6 @@
+//! One turn of a sweep: the jump over a forbidden box, and what it adds to the record, so that the
+//! events are at each moment a cover of what the sweep has left behind.
+
 ghost use Rattle.std.specs.Prelude.{◌≡◌, ◌⊎◌, ℕ, ◌+◌, ◌-◌, ◌*◌, ◌≤◌, ℤ, ◌<ℤ◌, Bool, true, List, length, if◌then◌else◌, OnOk, OnErr, IfOk, MatchBool};
 ghost use Rattle.geo_base.specs.Boxes.{Has};
 ghost use Rattle.geo_base.specs.Ways.{IsSmallPoint, key, start};
@@ -7,8 +10,8 @@ ghost use Rattle.sweep.specs.Chains.{IsOpen, IsRecordOf, SomeOpen, SomeOpenBy};
 ghost use Rattle.sweep.specs.Jump.{IsPlaced, IsPast};
 ghost use Rattle.sweep.specs.Turned.{HasTurned};
 
-use super::marks::Marks;
-use super::record::{open_chains, record_turn};
+use crate::marks::Marks;
+use crate::record::{open_chains, record_turn};
 use derivation::{Event, Recorder};
 use geo_base::{KBox, Point, Way, advance_between};
 use std::alloc::AllocError;

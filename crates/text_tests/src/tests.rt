@@ -1,3 +1,5 @@
+//! Texts that are read, refused and written, against tables by hand.
+
 mod answer;
 mod boxes;
 mod derivations;

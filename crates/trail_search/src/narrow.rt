@@ -1,3 +1,5 @@
+//! How a variable is fixed, split off and bounded in a state with levels.
+
 ghost use Rattle.std.specs.Prelude.{◌≡◌, ℕ, ℤ, ◌<◌, ◌≤◌, ◌<ℤ◌, ◌≤ℤ◌, ◌↔◌, IsTrue, true, false, pos, length, slice_set};
 ghost use Rattle.geo_conditions.specs.Reach.{reach, has, low, high, with_low, with_high, NotEmpty};
 ghost use Rattle.geo_conditions.specs.Walk.{PlaceOf, CoordinateOf, object_of, IsFirstValue, IsFixed};
@@ -7,7 +9,7 @@ ghost use Rattle.trail_search.specs.Record.{with_first, with_later, IsFixedTo};
 ghost use Rattle.trail_search.specs.Shed.{Clears, Sheds};
 ghost use Rattle.trail_search.specs.Variables.{variable_of};
 
-use super::variable::Variable;
+use crate::variable::Variable;
 use geo_base::MAX_DIMS;
 use geo_conditions::{ObjId, State};
 use geo_state::Trailed;

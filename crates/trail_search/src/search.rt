@@ -1,3 +1,7 @@
+//! The search: a walk over the prefixes of values in the stated order, as far as a supported state
+//! is left. Its members are counted, and the count alone ends it early, so that its answers do not
+//! depend on the machine.
+
 ghost use Rattle.std.specs.Prelude.{◌≡◌, ◌≢◌, ◌==◌, ◌||◌, ℤ, ◌≤◌, ◌<◌, true, false, None, Some, IfOk, IfSome, IsSome, length};
 ghost use Rattle.std.specs.List.{All};
 ghost use Rattle.std.specs.Option.{option_copied, option_map};
@@ -9,10 +13,10 @@ ghost use Rattle.geo_conditions.specs.Walk.{NamesEach, variables_in, values};
 ghost use Rattle.geo_state.specs.Trail.{HasSmallIntervals};
 ghost use Rattle.trail_search.specs.Next.{Steps, HasRecorded, HasFound, is_found};
 
-use super::start::start_walker;
-use super::step::Step;
-use super::walk::go_on;
-use super::walker::Walker;
+use crate::start::start_walker;
+use crate::step::Step;
+use crate::walk::go_on;
+use crate::walker::Walker;
 use derivation::Recorder;
 use geo_base::MAX_DIMS;
 use geo_conditions::{Layout, ObjId, SearchOrder, State};

@@ -1,3 +1,6 @@
+//! What a search takes before it sets off: its variables, the values of its token, its levels. All
+//! memory is taken here.
+
 ghost use Rattle.std.specs.Prelude.{◌≡◌, ◌≤◌, ◌<◌, IfOk, IfSome, length, map, pos};
 ghost use Rattle.std.specs.List.{All};
 ghost use Rattle.std.specs.Option.{option_copied, option_map};
@@ -8,8 +11,8 @@ ghost use Rattle.trail_search.specs.Cursor.{HasDimension};
 ghost use Rattle.trail_search.specs.Variables.{variable_of};
 ghost use Rattle.trail_search.specs.Walker.{IsWell, IsFresh, token_of};
 
-use super::variable::{Variable, list_variables};
-use super::walker::Walker;
+use crate::variable::{Variable, list_variables};
+use crate::walker::Walker;
 use geo_base::MAX_DIMS;
 use geo_conditions::{Layout, SearchOrder, State};
 use geo_state::Trailed;

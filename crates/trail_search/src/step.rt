@@ -1,3 +1,5 @@
+//! What a step of a search gives.
+
 /// What one step of a search gives.
 #[derive(Clone, Copy)]
 pub enum Step {

@@ -1,3 +1,6 @@
+//! The variables of a walk and the order of their values: for each object its place and then its
+//! coordinates.
+
 ghost use Rattle.std.specs.Prelude.{◌≡◌, ◌+◌, ◌<◌, ◌≤◌, ◌++◌, length, map, OnOk, IfOk, IsTrue, ◌↔◌, pos, ◌≤ℤ◌};
 ghost use Rattle.std.specs.List.{All};
 ghost use Rattle.geo_conditions.specs.Walk.{variables, variables_of, variables_in};

@@ -1,3 +1,6 @@
+//! The walk from one full member to the next: down to the first value of the next variable, and
+//! back to the last level whose variable has another value.
+
 ghost use Rattle.std.specs.Prelude.{◌≡◌, ℕ, ℤ, ◌≤◌, ◌<◌, true, false, None, List, [], length};
 ghost use Rattle.std.specs.List.{All};
 ghost use Rattle.derivation.specs.Events.{Growth};
@@ -5,8 +8,8 @@ ghost use Rattle.geo_conditions.specs.Conditions.{FitsIn};
 ghost use Rattle.trail_search.specs.Record.{IsRecord, IsUnmoved, RecordsStep};
 ghost use Rattle.trail_search.specs.Walker.{IsWell, SameWalk, depth, Searches, Walks, is_answer, GoesOnAs, IsReady, StandsAt};
 
-use super::step::Step;
-use super::walker::Walker;
+use crate::step::Step;
+use crate::walker::Walker;
 use derivation::Recorder;
 use geo_base::MAX_DIMS;
 use geo_state::{Propagate, Settled};

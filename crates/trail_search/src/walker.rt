@@ -1,3 +1,6 @@
+//! The place of a search in its walk: the state with its open levels, the number of members so
+//! far, and how far it still follows its token.
+
 ghost use Rattle.std.specs.Prelude.{◌≡◌, ℕ, ℤ, pos, ◌+◌, ◌-◌, ◌^◌, min, ◌<◌, ◌≤◌, ◌↔◌, ◌≢◌, None, Some, IsTrue, true, false, List, [], ◌∷◌, ◌++◌, length, get_or, slice_set, IfOk, OnOk, MatchBool};
 ghost use Rattle.std.specs.List.{All};
 ghost use Rattle.geo_conditions.specs.declared.cond.Cond.{Cond};
@@ -12,8 +15,8 @@ ghost use Rattle.trail_search.specs.Record.{IsClosedRecord, IsFixedTo, IsRecord,
 ghost use Rattle.trail_search.specs.Variables.{variable_of, IsAt, HasOne};
 ghost use Rattle.trail_search.specs.Walker.{IsWell, SameWalk, depth, path, FirstBound, IsFresh, Leaves, StaysOn, Tightens, Rests, Searches, IsStuck, IsReady, SettledAs};
 
-use super::narrow::{bound, first_value, fix, has_after};
-use super::variable::{Variable, after, is_at, place_of, split, token_bound};
+use crate::narrow::{bound, first_value, fix, has_after};
+use crate::variable::{Variable, after, is_at, place_of, split, token_bound};
 use derivation::Recorder;
 use geo_base::MAX_DIMS;
 use geo_conditions::{ObjId, State};

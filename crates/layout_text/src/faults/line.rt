@@ -4,16 +4,16 @@ ghost use Rattle.std.specs.Prelude.{◌≡◌, ℕ, List, length, map, slice_get
 ghost use Rattle.geo_tokens.specs.declared.fault.FaultWord.TheVariants.{Limit};
 ghost use Rattle.problem_data.specs.declared.tree.Int.{Int};
 ghost use Rattle.problem_data.specs.Least.{IsLeast};
-ghost use Rattle.problem_data.specs.ProblemView.{range_data};
 ghost use Rattle.problem_data.specs.WellFormed.{IsObject};
 ghost use Rattle.layout_text.specs.View.{line_view};
-ghost use Rattle.layout_text.specs.Faults.{NameFault, ShapeFault, CountFault, OutsideFault, RangesFault, LineFault};
+ghost use Rattle.layout_text.specs.Faults.{NameFault, ShapeFault, CountFault, OutsideFault, PiecesFault, LineFault};
 
 use crate::names::shape_position;
+use crate::pieces::is_in_pieces;
 use crate::tree::LineText;
 use geo_tokens::fault::FaultWord;
 use problem_data::fault::{Fault, earlier, fault_if};
-use problem_data::problem::{ObjectDef, Problem, RangeDef};
+use problem_data::problem::{ObjectDef, PiecesDef, Problem};
 use problem_data::tree::Int;
 use statement_faults::numbers::first_int;
 
@@ -39,29 +39,29 @@ fn count_fault(dims: usize, origin: &[Int]) -> Option<Fault>
     fault_if(origin.len() != dims, first_int(origin), FaultWord::Limit)
 }
 
-fn outside_fault(range: &RangeDef, number: Int) -> Option<Fault>
-    ensures { IsLeast (OutsideFault (Some (range_data range.now)) number) result }
+fn outside_fault(pieces: &PiecesDef, number: Int) -> Option<Fault>
+    ensures { IsLeast (OutsideFault (Some pieces.now) number) result }
 {
-    let inside = range.low <= number.value && number.value <= range.high;
+    let inside = is_in_pieces(pieces, number);
     fault_if(!inside, number.place, FaultWord::Range)
 }
 
 // The fault of a coordinate that has so many coordinates before it.
-fn coordinate_fault(ranges: &[RangeDef], index: usize, number: Int) -> Option<Fault>
-    ensures { IsLeast (OutsideFault (slice_get (map range_data ranges.now) index) number) result }
+fn coordinate_fault(pieces: &[PiecesDef], index: usize, number: Int) -> Option<Fault>
+    ensures { IsLeast (OutsideFault (slice_get pieces.now index) number) result }
 {
-    if index >= ranges.len() {
+    if index >= pieces.len() {
         return None;
     }
-    outside_fault(&ranges[index], number)
+    outside_fault(&pieces[index], number)
 }
 
-fn ranges_fault(ranges: &[RangeDef], origin: &[Int]) -> Option<Fault>
-    ensures { IsLeast (RangesFault (map range_data ranges.now) origin.now) result }
+fn pieces_fault(pieces: &[PiecesDef], origin: &[Int]) -> Option<Fault>
+    ensures { IsLeast (PiecesFault pieces.now origin.now) result }
 {
     let mut found = None;
     for (i, number) in origin.iter().enumerate() {
-        let here = coordinate_fault(ranges, i, *number);
+        let here = coordinate_fault(pieces, i, *number);
         found = earlier(found, here);
     }
     found
@@ -76,8 +76,8 @@ fn object_line_fault(problem: &Problem, object: &ObjectDef, line: &LineText) -> 
     let name = name_fault(object, line);
     let shape = shape_fault(problem, object, line);
     let count = count_fault(problem.dims(), origin);
-    let ranges = ranges_fault(object.ranges(), origin);
-    let last = earlier(count, ranges);
+    let pieces = pieces_fault(object.pieces(), origin);
+    let last = earlier(count, pieces);
     let last = earlier(shape, last);
     earlier(name, last)
 }

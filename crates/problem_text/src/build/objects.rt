@@ -1,13 +1,13 @@
 //! The objects that statements spell.
 
 ghost use Rattle.std.specs.Prelude.{◌≡◌, ◌≤◌, map, length, IfOk};
-ghost use Rattle.problem_data.specs.View.{object_view};
+ghost use Rattle.problem_data.specs.View.{pieces_view, object_view};
 ghost use Rattle.problem_data.specs.ProblemView.{range_data, attribute_data};
-ghost use Rattle.problem_data.specs.Meaning.{position_of, range_of, attribute_of, object_of};
+ghost use Rattle.problem_data.specs.Meaning.{position_of, range_of, pieces_of, attribute_of, object_of};
 
-use problem_data::problem::{AttributeDef, ObjectDef, RangeDef};
+use problem_data::problem::{AttributeDef, ObjectDef, PiecesDef, RangeDef};
 use problem_data::seen::SeenNames;
-use problem_data::tree::{AttributeText, ObjectText, RangeText};
+use problem_data::tree::{AttributeText, ObjectText, PiecesText, RangeText};
 use rule_syntax::tree::PlacedName;
 use std::alloc::{AllocError, Global};
 
@@ -37,13 +37,33 @@ fn build_range(range: &RangeText) -> RangeDef
     }
 }
 
-/// The ranges of an object or of `within`.
+/// The pieces of a range, or the ranges of `within`.
 pub fn build_ranges(alloc: Global, ranges: &[RangeText]) -> Result<Vec<RangeDef>, AllocError>
     ensures { IfOk result (λ v. map range_data v.items ≡ map range_of ranges.now) }
 {
     let mut made = Vec::new(alloc);
     for range in ranges {
         let one = build_range(range);
+        made.push(one)?;
+    }
+    Ok(made)
+}
+
+/// The range of a coordinate, by its pieces.
+fn build_pieces(alloc: Global, pieces: &PiecesText) -> Result<PiecesDef, AllocError>
+    ensures { IfOk result (λ p. p ≡ pieces_of (pieces_view pieces.now)) }
+{
+    let ranges = build_ranges(alloc, pieces.ranges.as_slice())?;
+    Ok(PiecesDef::new(ranges))
+}
+
+/// The range of each coordinate of an object.
+fn build_each_pieces(alloc: Global, ranges: &[PiecesText]) -> Result<Vec<PiecesDef>, AllocError>
+    ensures { IfOk result (λ v. v.items ≡ map pieces_of (map pieces_view ranges.now)) }
+{
+    let mut made = Vec::new(alloc);
+    for pieces in ranges {
+        let one = build_pieces(alloc, pieces)?;
         made.push(one)?;
     }
     Ok(made)
@@ -83,33 +103,33 @@ fn build_object(
     ensures { IfOk result (λ o. o ≡ object_of met.now (object_view object)) }
 {
     let shapes = build_positions(alloc, met, object.shapes.as_slice())?;
-    let ranges = build_ranges(alloc, object.ranges.as_slice())?;
-    end_object(alloc, shapes, ranges, object)
+    let pieces = build_each_pieces(alloc, object.pieces.as_slice())?;
+    end_object(alloc, shapes, pieces, object)
 }
 
 /// The object, where its shapes and its ranges are built.
 fn end_object(
     alloc: Global,
     shapes: Vec<u16>,
-    ranges: Vec<RangeDef>,
+    pieces: Vec<PiecesDef>,
     object: ObjectText,
 ) -> Result<ObjectDef, AllocError>
     ensures { IfOk result (λ o. o ≡ record {
       name = object.name.name;
       shapes = shapes.items;
-      ranges = map range_data ranges.items;
+      pieces = pieces.items;
       attributes = map attribute_of object.attributes.items;
     }) }
 {
     let ObjectText {
         name,
         shapes: _,
-        ranges: _,
+        pieces: _,
         attributes,
     } = object;
     let attributes = build_attributes(alloc, attributes)?;
     let PlacedName { place: _, name } = name;
-    Ok(ObjectDef::new(name, shapes, ranges, attributes))
+    Ok(ObjectDef::new(name, shapes, pieces, attributes))
 }
 
 /// The objects, where these are the names of the shapes.

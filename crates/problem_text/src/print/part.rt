@@ -4,11 +4,11 @@ ghost use Rattle.std.specs.Prelude.{◌≡◌, ◌++◌, IfOk, map, flat_map};
 ghost use Rattle.rule_print.specs.Canonical.{written};
 ghost use Rattle.problem_data.specs.View.{body_view};
 ghost use Rattle.problem_data.specs.ProblemView.{range_data, attribute_data, param_data, demand_data};
-ghost use Rattle.problem_text.specs.Canonical.{listed, int_spelling, ints_spelling, range_spelling, ranges_spelling, box_spelling, attribute_spelling, attributes_spelling, kind_word, param_spelling, body_spelling, demand_spelling, side_spelling};
+ghost use Rattle.problem_text.specs.Canonical.{listed, int_spelling, ints_spelling, range_spelling, ranges_spelling, pieces_spelling, box_spelling, attribute_spelling, attributes_spelling, kind_word, param_spelling, body_spelling, demand_spelling, side_spelling};
 
 use crate::print::line::push_name;
 use geo_tokens::token::{Keyword, Sym};
-use problem_data::problem::{AttributeDef, BoxDef, Demand, ParamDef, RangeDef};
+use problem_data::problem::{AttributeDef, BoxDef, Demand, ParamDef, PiecesDef, RangeDef};
 use problem_data::tree::{MacroBody, ParamKind, Side};
 use rule_print::expression::spell_expression;
 use rule_print::formula::spell_formula;
@@ -45,12 +45,39 @@ fn spell_range<'a>(range: RangeDef, into: &mut Vec<Lexeme<'a>>) -> Result<(), Al
     spell_int(range.high, into)
 }
 
-pub fn spell_ranges<'a>(ranges: &[RangeDef], into: &mut Vec<Lexeme<'a>>) -> Result<(), AllocError>
+fn spell_ranges<'a>(ranges: &[RangeDef], into: &mut Vec<Lexeme<'a>>) -> Result<(), AllocError>
     ensures { IfOk result (λ _. map written into.new.items ≡ map written into.old.items
         ++ ranges_spelling (map range_data ranges.now)) }
 {
     'each: for range in ranges {
         spell_range(*range, into)?;
+    }
+    Ok(())
+}
+
+fn spell_pieces<'a>(pieces: &[RangeDef], into: &mut Vec<Lexeme<'a>>) -> Result<(), AllocError>
+    ensures { IfOk result (λ _. map written into.new.items ≡ map written into.old.items
+        ++ pieces_spelling (map range_data pieces.now)) }
+{
+    let mut is_first = true;
+    'pieces: for piece in pieces {
+        push_if(!is_first, Sym::Comma, into)?;
+        spell_range(*piece, into)?;
+        is_first = false;
+    }
+    Ok(())
+}
+
+/// The range of each coordinate of an object, by its pieces.
+pub fn spell_each_pieces<'a>(
+    ranges: &[PiecesDef],
+    into: &mut Vec<Lexeme<'a>>,
+) -> Result<(), AllocError>
+    ensures { IfOk result (λ _. map written into.new.items ≡ map written into.old.items
+        ++ flat_map pieces_spelling ranges.now) }
+{
+    'each: for pieces in ranges {
+        spell_pieces(pieces.ranges(), into)?;
     }
     Ok(())
 }

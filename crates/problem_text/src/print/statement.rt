@@ -7,7 +7,7 @@ ghost use Rattle.problem_text.specs.Canonical.{listed, name_spelling, name_at, s
 
 use crate::print::line::push_closed_line;
 use crate::print::part::{
-    spell_attributes, spell_body, spell_boxes, spell_demand, spell_params, spell_ranges,
+    spell_attributes, spell_body, spell_boxes, spell_demand, spell_each_pieces, spell_params,
     spell_sides,
 };
 use geo_tokens::token::{Keyword, Sym};
@@ -82,7 +82,7 @@ pub fn push_object(
     )?;
     spell_shape_names(shapes, object.shapes(), &mut lexemes)?;
     push_word(Keyword::At, &mut lexemes)?;
-    spell_ranges(object.ranges(), &mut lexemes)?;
+    spell_each_pieces(object.pieces(), &mut lexemes)?;
     spell_attributes(object.attributes(), &mut lexemes)?;
     push_closed_line(alloc, lexemes, text)
 }

@@ -25,7 +25,7 @@ fn push_head(alloc: Global, problem: &Problem, text: &mut Vec<u8>) -> Result<(),
         alloc,
         &[
             Lexeme::Word(Keyword::Geost),
-            Lexeme::Number(1),
+            Lexeme::Number(problem.version() as u64),
             Lexeme::Word(Keyword::Dims),
             Lexeme::Number(problem.dims() as u64),
         ],

@@ -7,7 +7,7 @@ ghost use Rattle.geo_conditions.specs.Conditions.{AllFit};
 ghost use Rattle.problem_data.specs.WellFormed.{IsWellFormed};
 ghost use Rattle.rule_ground.specs.Start.{first_state};
 
-use super::tuples::Put;
+use crate::tests::tuples::Put;
 use derivation::NoRecord;
 use geo_base::MAX_DIMS;
 use geo_conditions::{MAX_OBJECTS, ObjId, State};

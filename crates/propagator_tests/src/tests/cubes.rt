@@ -4,10 +4,10 @@ ghost use Rattle.std.specs.Prelude.{map};
 ghost use Rattle.rule_expand.specs.Rules.{plain_rule_data};
 ghost use Rattle.propagator_tests.specs.Ready.{IsReady};
 
-use super::answers::{Answers, MOST_LAYOUTS};
-use super::task::read_task;
-use super::tuples::{Put, is_layout, keys_of};
-use super::{all_answers, are_same, difference};
+use crate::tests::answers::{Answers, MOST_LAYOUTS};
+use crate::tests::task::read_task;
+use crate::tests::tuples::{Put, is_layout, keys_of};
+use crate::tests::{all_answers, are_same, difference};
 use geo_tokens::fault::TextFault;
 use problem_data::problem::Problem;
 use rule_expand::plain::PlainRule;

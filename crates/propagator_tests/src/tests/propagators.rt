@@ -8,8 +8,8 @@ ghost use Rattle.rule_expand.specs.Rules.{plain_rule_data};
 ghost use Rattle.rule_ground.specs.Start.{first_state};
 ghost use Rattle.propagator_tests.specs.Ready.{IsReady};
 
-use super::answers::{Answers, BUDGET, search_on, settled};
-use super::task::conditions;
+use crate::tests::answers::{Answers, BUDGET, search_on, settled};
+use crate::tests::task::conditions;
 use derivation::{NoRecord, Recorder};
 use fixpoint::Fixpoint;
 use geo_base::MAX_DIMS;

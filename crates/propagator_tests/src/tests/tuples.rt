@@ -4,10 +4,10 @@ ghost use Rattle.std.specs.Prelude.{◌≤◌, map};
 ghost use Rattle.rule_expand.specs.Rules.{plain_rule_data};
 ghost use Rattle.propagator_tests.specs.Ready.{IsReady};
 
-use super::task::is_good;
+use crate::tests::task::is_good;
 use geo_tokens::fault::TextFault;
 use layout_text::read_layout;
-use problem_data::problem::{ObjectDef, Problem};
+use problem_data::problem::{ObjectDef, PiecesDef, Problem};
 use problem_data::tree::Side;
 use rule_expand::plain::PlainRule;
 use std::alloc::{AllocError, Global};
@@ -53,6 +53,30 @@ fn width(low: i64, high: i64) -> u32
         .saturating_add(1)
 }
 
+/// How many numbers a range has in its pieces.
+fn numbers(range: &PiecesDef) -> u32
+    ensures { 1 ≤ result }
+{
+    let mut count = 0u32;
+    for piece in range.ranges() {
+        count = count.saturating_add(width(piece.low, piece.high));
+    }
+    count.max(1)
+}
+
+/// The number of a range behind so many others.
+fn number_behind(range: &PiecesDef, before: u32) -> i64 {
+    let mut rest = before;
+    for piece in range.ranges() {
+        let width = width(piece.low, piece.high);
+        if rest < width {
+            return piece.low.saturating_add(i64::from(rest));
+        }
+        rest -= width;
+    }
+    0
+}
+
 /// How many shapes an object has.
 fn shapes(object: &ObjectDef) -> u8
     ensures { 1 ≤ result }
@@ -65,8 +89,8 @@ fn shapes(object: &ObjectDef) -> u8
 /// How many spots an object has.
 fn spots(object: &ObjectDef) -> u32 {
     let mut count = u32::from(shapes(object));
-    for range in object.ranges() {
-        count = count.saturating_mul(width(range.low, range.high));
+    for range in object.pieces() {
+        count = count.saturating_mul(numbers(range));
     }
     count
 }
@@ -85,9 +109,9 @@ fn spot(alloc: Global, object: &ObjectDef, digits: &mut Digits) -> Result<Put, A
     let mut origin = Vec::new(alloc);
     let shapes = shapes(object);
     let place = digits.take(u32::from(shapes));
-    for range in object.ranges() {
-        let steps = digits.take(width(range.low, range.high));
-        origin.push(range.low.saturating_add(i64::from(steps)))?;
+    for range in object.pieces() {
+        let before = digits.take(numbers(range));
+        origin.push(number_behind(range, before))?;
     }
     let place = u8::try_from(place).unwrap_or(0).saturating_add(1);
     Ok(Put { place, origin })

@@ -5,7 +5,7 @@ ghost use Rattle.geo_base.specs.Ways.{IsSmallPoint};
 ghost use Rattle.geo_conditions.specs.Conditions.{AllFit, FitsIn};
 ghost use Rattle.indexical.specs.Apart.{apart};
 
-use super::literals::{A, B, C, state};
+use crate::tests::literals::{A, B, C, state};
 use derivation::{Log, NoRecord, Recorder};
 use geo_base::{KBox, Point, Steps, Way};
 use geo_conditions::{ObjId, State};

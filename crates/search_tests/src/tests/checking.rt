@@ -1,32 +1,50 @@
 //! Derivations, and what the check says of them.
 
-use super::events::{many_splits, record};
-use super::lines::{CHAIN, FALSE, FREE, Rules, TWO_APART, conditions, line};
-use super::literals::{A, B, C};
+ghost use Rattle.std.specs.Prelude.{◌≤◌};
+ghost use Rattle.geo_base.specs.declared.TheConstants.{MAX_DIMS};
+
+use crate::tests::events::{many_splits, record};
+use crate::tests::lines::{CHAIN, FALSE, FREE, Rules, TWO_APART, conditions, line};
+use crate::tests::literals::{A, B, C};
 use derivation::{Event, Log};
 use derivation_check::{Checked, all_fit as events_fit, check};
-use geo_conditions::all_fit;
+use geo_conditions::{Cond, State, all_fit};
 use std::alloc::{AllocError, Global};
 use std::test::Fail;
 
-/// What the check says of the events, on objects in those ranges: 0 where they are valid, else the number of the first node that
-/// fails; none where they cannot be given.
+/// What the check says of the events: 0 where they are valid, else the number of the first node that fails; none where they cannot
+/// be given.
+pub fn verdict<const K: usize>(
+    alloc: Global,
+    s: &State<K>,
+    list: &[Cond],
+    log: &Log,
+) -> Result<Option<u64>, AllocError>
+    requires { K ≤ MAX_DIMS }
+{
+    let few = log.events().len() < 1_000_000_000;
+    if !few || !all_fit(list, s) || !events_fit::<K>(log.events(), s.objects()) {
+        return Ok(None);
+    }
+    match check(alloc, list, s, log)? {
+        Checked::Yes => Ok(Some(0)),
+        Checked::No(n) => Ok(Some(n)),
+    }
+}
+
+/// What the check says of the events, on objects in those ranges.
 fn checked(
     alloc: Global,
     ranges: &[(i64, i64)],
     rules: Rules,
     log: &Log,
 ) -> Result<Option<u64>, AllocError> {
-    let s = line(alloc, ranges)?;
-    let list = conditions(alloc, rules)?;
-    let few = log.events().len() < 1_000_000_000;
-    if !few || !all_fit(&list, &s) || !events_fit::<1>(log.events(), s.objects()) {
-        return Ok(None);
-    }
-    match check(alloc, &list, &s, log)? {
-        Checked::Yes => Ok(Some(0)),
-        Checked::No(n) => Ok(Some(n)),
-    }
+    verdict(
+        alloc,
+        &line(alloc, ranges)?,
+        &conditions(alloc, rules)?,
+        log,
+    )
 }
 
 /// Each row: the ranges of the objects, what has to hold of them, the events, and the answer.

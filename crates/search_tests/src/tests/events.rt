@@ -1,6 +1,6 @@
 //! Lists of events.
 
-use super::literals::A;
+use crate::tests::literals::A;
 use derivation::{Event, Log, Recorder};
 use std::alloc::{AllocError, Global};
 

@@ -3,7 +3,7 @@
 ghost use Rattle.std.specs.Prelude.{◌<◌, ◌≤◌};
 ghost use Rattle.geo_base.specs.declared.TheConstants.{MAX_DIMS};
 
-use super::literals::{A, B, of_one, of_two};
+use crate::tests::literals::{A, B, of_one, of_two};
 use geo_conditions::{Cond, Conds};
 use indexical::AnyIndexical;
 use std::alloc::{AllocError, Global};
@@ -50,6 +50,7 @@ fn two_boxes_are_found_in_their_condition(rt: HostRuntime) -> Result<(), Fail> {
     for leaves in [(false, false), (true, false), (false, true), (true, true)] {
         assert!(rt; is_by_boxes::<1>(alloc, leaves)? && is_by_boxes::<2>(alloc, leaves)?);
         assert!(rt; is_by_boxes::<3>(alloc, leaves)? && is_by_boxes::<4>(alloc, leaves)?);
+        assert!(rt; is_by_boxes::<5>(alloc, leaves)? && is_by_boxes::<6>(alloc, leaves)?);
     }
     assert!(rt; !AnyIndexical::<2>::from_cond(far_or_high(alloc)?).has_boxes());
     Ok(())

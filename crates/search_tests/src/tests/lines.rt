@@ -1,6 +1,6 @@
 //! Objects on a line, and conditions on them.
 
-use super::literals::{A, B, C};
+use crate::tests::literals::{A, B, C};
 use geo_base::{KBox, Point};
 use geo_conditions::{Cond, Conds, Form, ObjId, State};
 use std::alloc::{AllocError, Global};

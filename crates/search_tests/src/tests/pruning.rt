@@ -6,8 +6,8 @@ ghost use Rattle.geo_conditions.specs.Conditions.{AllFit};
 ghost use Rattle.geo_conditions.specs.Reach.{Reach};
 ghost use Rattle.object_pruning.specs.Kept.{AllSupport};
 
-use super::events::are_same;
-use super::literals::{A, of_one, of_two, state};
+use crate::tests::events::are_same;
+use crate::tests::literals::{A, of_one, of_two, state};
 use derivation::{Event, Log};
 use geo_conditions::{Cond, Conds, State, fits};
 use geo_state::{Trailed, is_small};

@@ -1,46 +1,14 @@
 //! What the queue records while it settles.
 
-ghost use Rattle.std.specs.Prelude.{◌≡◌, ◌≤◌, IfOk, length, map};
-ghost use Rattle.geo_conditions.specs.Conditions.{AllFit};
-ghost use Rattle.geo_state.specs.Trail.{HasSmallIntervals};
-
-use super::events::parts;
-use super::lines::{FALSE, Rules, THREE_APART, conditions, line};
-use super::literals::{B, C};
+use crate::tests::events::parts;
+use crate::tests::indexicals::{indexicals, settled};
+use crate::tests::lines::{FALSE, Rules, THREE_APART, conditions, line};
+use crate::tests::literals::{B, C};
 use derivation::{Event, Log};
-use fixpoint::Fixpoint;
-use geo_conditions::{Cond, State, all_fit};
-use geo_state::{Propagate, Settled, Trailed, is_small};
-use indexical::AnyIndexical;
+use geo_conditions::all_fit;
+use geo_state::is_small;
 use std::alloc::{AllocError, Global};
 use std::test::Fail;
-
-/// The indexicals of the conditions.
-fn indexicals(alloc: Global, conditions: Vec<Cond>) -> Result<Vec<AnyIndexical<1>>, AllocError>
-    ensures { IfOk result (λ v. map (λ x. x.cond) v.items ≡ conditions.items) }
-{
-    let mut list = Vec::new(alloc);
-    for c in conditions {
-        list.push(AnyIndexical::from_cond(c))?;
-    }
-    Ok(list)
-}
-
-/// Whether the queue leaves something of the state, with its events.
-fn settles(
-    alloc: Global,
-    s: State<1>,
-    list: Vec<AnyIndexical<1>>,
-    rec: &mut Log,
-) -> Result<bool, AllocError>
-    requires few { length list.items ≤ 1000000000 }
-    requires fits { AllFit (map (λ x. x.cond) list.items) s }
-    requires small { HasSmallIntervals s }
-{
-    let mut queue = Fixpoint::<1>::start(alloc, list, s.objects())?;
-    let mut t = Trailed::start(alloc, s, 0)?;
-    Ok(matches!(queue.settle(&mut t, rec)?, Settled::Kept))
-}
 
 /// Whether the queue leaves something of objects in those ranges, with its events; none where they cannot be settled.
 fn recorded(
@@ -55,7 +23,7 @@ fn recorded(
         return Ok(None);
     }
     let list = indexicals(alloc, list)?;
-    Ok(Some(settles(alloc, s, list, rec)?))
+    Ok(Some(settled(alloc, s, list, rec)?.is_some()))
 }
 
 /// Whether a record has so many events, and these at their places.

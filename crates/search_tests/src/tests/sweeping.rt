@@ -3,8 +3,8 @@
 ghost use Rattle.std.specs.Prelude.{◌≡◌, ◌<◌, length};
 ghost use Rattle.geo_base.specs.Ways.{IsSmallPoint};
 
-use super::events::are_same;
-use super::literals::{A, state};
+use crate::tests::events::are_same;
+use crate::tests::literals::{A, state};
 use derivation::{Event, Log, Recorder};
 use geo_base::{KBox, Point, Steps, Way};
 use geo_conditions::State;

@@ -3,9 +3,9 @@
 ghost use Rattle.std.specs.Prelude.{◌<◌};
 ghost use Rattle.geo_conditions.specs.Conditions.{AllFit};
 
-use super::events::{are_same, many_splits, record};
-use super::lines::line;
-use super::literals::{A, B, C};
+use crate::tests::events::{are_same, many_splits, record};
+use crate::tests::lines::line;
+use crate::tests::literals::{A, B, C};
 use derivation::{Event, Log};
 use derivation_trim::{is_derivation, shortened};
 use geo_conditions::{Cond, Conds, Form, ObjId, State, all_fit};

@@ -1,10 +1,10 @@
 //! What is said of a text, in a text that rows can give.
 
-use super::formulas::{FORMULA_LEVELS, FORMULAS};
-use super::mistakes::{KINDS, NAMES, RIGHT};
-use super::problems::{CANONICAL_FORMULAS, PROBLEMS};
-use super::statements::{STATEMENT_LEVELS, STATEMENTS};
-use super::tokens::{ENDS, TOKENS};
+use crate::tests::formulas::{FORMULA_LEVELS, FORMULAS};
+use crate::tests::mistakes::{KINDS, NAMES, RIGHT};
+use crate::tests::problems::{CANONICAL_FORMULAS, PIECES, PROBLEMS};
+use crate::tests::statements::{STATEMENT_LEVELS, STATEMENTS};
+use crate::tests::tokens::{ENDS, TOKENS};
 use geo_chan::CleanSink;
 use geo_tokens::fault::TextFault;
 use geo_tokens::first_end::first_text_end;
@@ -31,6 +31,8 @@ enum Part {
     Statements,
     /// The canonical text of the problem.
     Problem,
+    /// The version of the problem, and behind it of each object the pieces of each of its ranges.
+    Pieces,
     /// What is wrong with the names of these statements, in a problem of a shape `s` and an object `a`.
     Mistake,
 }
@@ -79,6 +81,22 @@ fn problem(alloc: Global, text: &[u8]) -> Result<String, TextFault> {
     Ok(text_of(alloc, sink.bytes())?)
 }
 
+/// An object begins with a semicolon, and a range with a bar.
+fn pieces(alloc: Global, text: &[u8]) -> Result<String, TextFault> {
+    let problem = read_problem(alloc, text)?;
+    let mut shown = format!(in alloc; "{}", problem.version())?;
+    for object in problem.objects() {
+        shown.push_str(" ;")?;
+        for range in object.pieces() {
+            shown.push_str(" |")?;
+            for piece in range.ranges() {
+                shown.push_str(format!(in alloc; " {}..{}", piece.low, piece.high)?.as_str())?;
+            }
+        }
+    }
+    Ok(shown)
+}
+
 /// The statements stand at place 62.
 fn mistake(alloc: Global, statements: &[u8]) -> Result<String, TextFault> {
     let front = b"geost 1 dims 1 shape s box 0 size 1 ; object a as s at 0..9 ; ";
@@ -96,6 +114,7 @@ fn answer(alloc: Global, part: Part, text: &[u8]) -> Result<String, TextFault> {
         Part::Formula => formula(alloc, text),
         Part::Statements => statements(alloc, text),
         Part::Problem => problem(alloc, text),
+        Part::Pieces => pieces(alloc, text),
         Part::Mistake => mistake(alloc, text),
     }
 }
@@ -138,6 +157,7 @@ fn texts_say_what_is_wanted(rt: HostRuntime) -> Result<(), Fail> {
         (Part::Statements, STATEMENT_LEVELS),
         (Part::Problem, PROBLEMS),
         (Part::Problem, CANONICAL_FORMULAS),
+        (Part::Pieces, PIECES),
         (Part::Mistake, NAMES),
         (Part::Mistake, KINDS),
         (Part::Mistake, RIGHT),

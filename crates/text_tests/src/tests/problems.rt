@@ -12,8 +12,66 @@ pub const PROBLEMS: &[(&[u8], &str)] = &[
         "At(38, Byte)",
     ),
     (b"geost 2 dims 1 shape s box 0 size ; end", "At(34, Syntax)"),
-    (b"geost 2 dims 5 end", "At(6, Limit)"),
+    (
+        b"geost 02 dims 5 sides low low low low high;end",
+        "geost 2 dims 5\nsides low low low low high ;\nend\n",
+    ),
     (b"geost 1 dims 5 end", "At(13, Limit)"),
+    (b"geost 2 dims 7 end", "At(13, Limit)"),
+    (b"geost 3 dims 1 end", "At(6, Limit)"),
+    (b"geost 0 dims 9 end", "At(6, Limit)"),
+    (
+        b"geost 2 dims 6 object a as u at 0..1 0..1 0..1 0..1,3..3 0..1 -1..-1,1..1; shape u box 0 0 0 0 0 0 size 1 1 1 1 1 1; end",
+        "geost 2 dims 6\nshape u box 0 0 0 0 0 0 size 1 1 1 1 1 1 ;\nobject a as u at 0..1 0..1 0..1 0..1, 3..3 0..1 -1..-1, 1..1 ;\nend\n",
+    ),
+    (
+        b"geost 2 dims 1 shape s box 0 size 1 ; object a as s at 0..1, 3..4, 6..7, 9..10, 12..13, 15..16, 18..19, 21..22 ; end",
+        "geost 2 dims 1\nshape s box 0 size 1 ;\nobject a as s at 0..1, 3..4, 6..7, 9..10, 12..13, 15..16, 18..19, 21..22 ;\nend\n",
+    ),
+    (
+        b"geost 2 dims 1 shape s box 0 size 1 ; object a as s at 0..1, 3..4, 6..7, 9..10, 12..13, 15..16, 18..19, 21..22, 90..91 ; end",
+        "At(112, Limit)",
+    ),
+    (
+        b"geost 2 dims 1 shape s box 0 size 1 ; object a as s at 0..1, 3..4, 6..7, 9..10, 12..13, 15..16, 18..19, 21..22, 9..1 ; end",
+        "At(112, Limit)",
+    ),
+    (
+        b"geost 2 dims 1 shape s box 0 size 2 ; object a as s at 0..1,2..6 ; object b as s at 0..1 ; rule r : apart ; end",
+        "At(60, Range)",
+    ),
+    (
+        b"geost 2 dims 1 shape s box 0 size 1 ; object a as s at 0..1, 4..3 ; end",
+        "At(61, Range)",
+    ),
+    (
+        b"geost 2 dims 1 shape s box 0 size 1 ; object a as s at 9..0, 2..3 ; end",
+        "At(55, Range)",
+    ),
+    (
+        b"geost 2 dims 1 shape s box 0 size 1 ; object a as s at 5..6, 0..1 ; end",
+        "At(61, Range)",
+    ),
+    (
+        b"geost 2 dims 2 shape s box 0 0 size 1 1 ; object a as s at 0..1, 3..4 ; end",
+        "At(59, Limit)",
+    ),
+    (
+        b"geost 2 dims 1 shape s box 0 size 1 ; object a as s at 0..1, 3..4 with x9 = 1 ; end",
+        "At(71, Twice)",
+    ),
+    (
+        b"geost 1 dims 1 shape s box 0 size 2 ; object a as s at 0..1,5..6 ; object b as s at 0..1 ; rule r : apart ; end",
+        "At(59, Syntax)",
+    ),
+    (
+        b"geost 3 dims 1 shape s box 0 size 1 ; object a as s at 0..1, 3..4 ; end",
+        "At(59, Syntax)",
+    ),
+    (
+        b"geost 2 dims 1 rule r : within 0..1, 3..4 ; end",
+        "At(35, Syntax)",
+    ),
     (b"geost 1 dims 1 shape s box 0 size 0 ; end", "At(34, Size)"),
     (
         b"geost 1 dims 2 shape u box 0 0 size 0 ; end",
@@ -54,6 +112,19 @@ pub const PROBLEMS: &[(&[u8], &str)] = &[
     (
         b"geost 1 dims 1 shape f box 0 size 2 ; object b as t, f at 0..1 ; shape t box 0 size 1 ; object a as t at 0..1 ; end",
         "geost 1 dims 1\nshape f box 0 size 2 ;\nshape t box 0 size 1 ;\nobject b as t, f at 0..1 ;\nobject a as t at 0..1 ;\nend\n",
+    ),
+];
+
+/// Texts of problems with their versions and, for each object, the pieces of each of its ranges.
+pub const PIECES: &[(&[u8], &str)] = &[
+    (b"geost 02 dims 1 end", "2"),
+    (
+        b"geost 1 dims 2 object a as s at 0..3 -2..-1 ; shape s box 0 0 size 2 1 ; end",
+        "1 ; | 0..3 | -2..-1",
+    ),
+    (
+        b"geost 2 dims 2 object a as s at 0..1, 5..6 -3..-3; shape s box 0 0 size 2 1; object b as s at 0..9 1..1,3..3,5..7; end",
+        "2 ; | 0..1 5..6 | -3..-3 ; | 0..9 | 1..1 3..3 5..7",
     ),
 ];
 

@@ -1,7 +1,7 @@
 use Rattle.std.proofs.Common.{◌≡◌, ◌<◌, ◌-◌, ℕ, List, [], length, get_or, sym, ap, ◌∙◌, subst, arith}
 use Rattle.std.proofs.lemmas.List.{get_or_default}
 use Rattle.problem_data.specs.Cells.{HasForm}
-use Rattle.problem_data.specs.Problem.{BoxData, ShapeData, ObjectData, ProblemData}
+use Rattle.problem_data.specs.Problem.{BoxData, ShapeData, ObjectData, no_object, ProblemData}
 use Rattle.problem_data.specs.Tuple.{Tuple, object_of, spot}
 use Rattle.problem_data.specs.WellFormed.{IsObject}
 use Rattle.layout_drawing.proofs.Said.{said_boxes}
@@ -15,8 +15,8 @@ returns-clause-some c =
     let there : o < length p.objects = c.requires.object in
     let form : HasForm p (object_of p o) (spot t o) = c.requires.layout.each o there in
     let object : c.index-objects-o.result ≡ object_of p o =
-    c.index-objects-o.is ∙ ap (λ (os : List ObjectData). get_or os o c.index-objects-o.result) c.objects.ensures ∙ get_or_default p.objects o c.index-objects-o.result (record { name = []; shapes = []; ranges = []; attributes = [] }) there in
-    let is : IsObject p (object_of p o) = c.is_said.ensures.formed.objects o (record { name = []; shapes = []; ranges = []; attributes = [] }) there in
+    c.index-objects-o.is ∙ ap (λ (os : List ObjectData). get_or os o c.index-objects-o.result) c.objects.ensures ∙ get_or_default p.objects o c.index-objects-o.result no_object there in
+    let is : IsObject p (object_of p o) = c.is_said.ensures.formed.objects o no_object there in
     let list : c.shapes.result.now ≡ (object_of p o).shapes = c.shapes.ensures ∙ ap (λ (x : ObjectData). x.shapes) object in
     let place = c.place.ensures in
     let n : ℕ = c.place.result - 1 in

@@ -7,4 +7,4 @@ pub returns-clause-layout : goal.returns-clause-layout
 returns-clause-layout g c =
     let p = c.args.problem.now in
     let cs = c.args.conditions.items in
-    IfOk-weaker c.first_solution.result (λ s. FindsSolution p cs s.outcome) (λ s. Finds p s.outcome) (λ s h. solutions-are-layouts p cs c.requires.conditions s.outcome h) c.first_solution.ensures.solution
+    IfOk-weaker c.first_solution.result (λ s. FindsSolution p cs s.outcome) (λ s. Finds p s.outcome) (λ s h. solutions-are-layouts p cs c.is_said.ensures.formed c.requires.conditions s.outcome h) c.first_solution.ensures.solution

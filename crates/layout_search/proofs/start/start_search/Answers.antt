@@ -6,6 +6,7 @@ use Rattle.std.specs.Option.{option_copied}
 use Rattle.geo_conditions.specs.Walk.{NamesEach}
 use Rattle.geo_conditions.specs.Conditions.{AllFit}
 use Rattle.geo_conditions.specs.Reach.{State}
+use Rattle.problem_data.proofs.Hulls.{tuple_is_wide}
 use Rattle.rule_ground.specs.Start.{whole_reach, first_state}
 use Rattle.layout_search.proofs.start.start_search.Goals as goal
 
@@ -24,7 +25,7 @@ start-requires g c =
             (
               subst (λ (S : State). NamesEach g.row.K S c.in_ok-order.order) (sym s) (subst (λ (k : ℕ). NamesEach k (first_state p) c.in_ok-order.order) c.requires.dims c.in_ok-order.ensures.names),
               (
-                IfSome_then (option_copied c.args.after) c.requires.after (λ t is. (c.in_ok-first.ensures.tuples t).1 is),
+                IfSome_then (option_copied c.args.after) c.requires.after (λ t is. (c.in_ok-first.ensures.tuples t).1 (tuple_is_wide p t c.is_said.ensures.formed is)),
                 (
                   ap length s ∙ length-map p.objects whole_reach ∙ sym (ap length c.objects.ensures) ∙ sym c.in_ok-propagator.ensures.objects,
                   subst (λ (l : _). AllFit l c.in_ok-first.first) (sym cs) (subst (AllFit c.args.conditions.items) (sym s) c.requires.fits),

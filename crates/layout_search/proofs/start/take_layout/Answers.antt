@@ -1,7 +1,7 @@
 use Rattle.std.proofs.Common.{◌<◌, ap, length, subst, sym, arith, ◌∙◌}
 use Rattle.layout_search.proofs.Spots.{none-taken, one-taken, all-taken}
 use Rattle.trail_search.specs.Next.{HasFound}
-use Rattle.problem_data.specs.Cells.{IsTuple}
+use Rattle.problem_data.specs.Cells.{IsWideTuple}
 use Rattle.layout_search.proofs.start.take_layout.Goals as goal
 
 pub loop-i-init : goal.loop-i-init
@@ -23,4 +23,4 @@ pub returns-clause-tuple : goal.returns-clause-tuple
 returns-clause-tuple g c =
     let n = ap length c.objects-i-end.ensures in
     let (t, is, found) = c.requires.found in
-    subst (IsTuple c.args.problem.now) (sym (all-taken c.args.problem.now t is c.loop-i.layout c.loop-i.i (omega (arith, c.loop-i-test.false, n)) (c.loop-i.invariant t found is))) is
+    subst (IsWideTuple c.args.problem.now) (sym (all-taken c.args.problem.now t is c.loop-i.layout c.loop-i.i (omega (arith, c.loop-i-test.false, n)) (c.loop-i.invariant t found is))) is

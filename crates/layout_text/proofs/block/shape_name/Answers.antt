@@ -5,7 +5,7 @@ use Rattle.std.proofs.lemmas.List.{get_or_read}
 use Rattle.std.proofs.lemmas.List.Elements.{All-get_or}
 use Rattle.std.proofs.lemmas.Grind.{common_steps}
 use Rattle.problem_data.specs.Cells.{HasForm}
-use Rattle.problem_data.specs.Problem.{ObjectData, ShapeData, ProblemData}
+use Rattle.problem_data.specs.Problem.{ObjectData, no_object, ShapeData, ProblemData}
 use Rattle.problem_data.specs.Tuple.{Tuple, spot, object_of, shape_of}
 use Rattle.problem_data.specs.WellFormed.{IsObject, IsWellFormed}
 use Rattle.layout_text.specs.Block.{shape_name}
@@ -23,7 +23,6 @@ element (x ∷ xs) (suc i) d h = element xs i d (omega arith)
 named : (p : ProblemData) (t : Tuple) (o : ℕ) (object : ObjectData) (shape : ShapeData) → IsWellFormed p → HasForm p (object_of p o) (spot t o) → o < length p.objects
     → object ≡ get_or p.objects o object → shape ≡ get_or p.shapes (get_or object.shapes ((spot t o).place - 1) 0) shape → shape.name ≡ shape_name p t o
 named p t o object shape well form h e f =
-    let no_object : ObjectData = record { name = []; shapes = []; ranges = []; attributes = [] } in
     let no_shape : ShapeData = record { name = []; boxes = [] } in
     let shapes : List ℕ = (object_of p o).shapes in
     let at : ℕ = (spot t o).place - 1 in

@@ -2,13 +2,12 @@ use Rattle.std.proofs.Common.{◌≡◌, ◌<◌, ℕ, List, length, map, get_or
 use Rattle.std.proofs.lemmas.List.{get_or_default, length-map}
 use Rattle.geo_base.specs.Tuple.{spot}
 use Rattle.problem_data.specs.Cells.{IsSpotOf}
-use Rattle.problem_data.specs.Problem.{ObjectData, ProblemData}
+use Rattle.problem_data.specs.Problem.{ObjectData, no_object, ProblemData}
 use Rattle.problem_data.specs.Tuple.{object_of}
 use Rattle.layout_text.specs.declared.tree.GroupText.{GroupText}
 use Rattle.layout_text.specs.Token.{tuple_in}
 use Rattle.layout_text.specs.View.{group_view}
 use Rattle.layout_text.proofs.GivenSpots.{as_spot, from_spot}
-use Rattle.layout_text.proofs.Tuples.{no_object}
 use Rattle.layout_text.proofs.spots.give_tuple.Goals as goal
 
 -- the object of a group

@@ -7,7 +7,7 @@ use Rattle.layout_text.specs.declared.tree.GroupText.{GroupText}
 use Rattle.layout_text.specs.Faults.{spot_in}
 use Rattle.layout_text.specs.View.{group_view}
 use Rattle.layout_text.proofs.GivenSpots.{group_spot}
-use Rattle.layout_text.proofs.Tuples.{no_object}
+use Rattle.problem_data.specs.Problem.{no_object}
 use Rattle.layout_text.proofs.spots.tuple_in.Goals as goal
 
 pub overflow_cast-group : goal.overflow_cast-group

@@ -1,4 +1,4 @@
-use Rattle.std.proofs.Common.{◌≡◌, sym, subst}
+use Rattle.std.proofs.Common.{sym, subst}
 use Rattle.problem_data.specs.View.{problem_view}
 use Rattle.problem_data.specs.Parts.{Parts}
 use Rattle.problem_text.specs.FirstFault.{AnswersParts}

@@ -1,7 +1,7 @@
-use Rattle.std.proofs.Common.{◌≡◌, List, Result, Ok, Err, sym, ◌∙◌, subst}
+use Rattle.std.proofs.Common.{List, sym, ◌∙◌, subst}
 use Rattle.geo_tokens.specs.declared.token.Token.{Token}
 use Rattle.geo_tokens.specs.Cut.{IsTokens}
-use Rattle.problem_text.proofs.Answered.{Answer, not_cut, passed}
+use Rattle.problem_text.proofs.Answered.{not_cut, passed}
 use Rattle.problem_text.proofs.read.read_short.Goals as goal
 
 pub returns-in_err-list-clause-only : goal.returns-in_err-list-clause-only

@@ -9,7 +9,7 @@ pub loop-o-preserved : goal.loop-o-preserved
 loop-o-preserved c =
     let p = c.args.problem.now in
     let dims : c.dims.result ≡ p.dims = c.dims.ensures in
-    let few : c.dims.result ≤ 4 = (let d = c.is_said.ensures.formed.dimensions in omega (arith, d, dims)) in
+    let few : c.dims.result ≤ 6 = (let d = c.is_said.ensures.formed.dimensions in omega (arith, d, dims)) in
     let product : c.box_count.result * (c.dims.result * 2) ≤ 65536 = product-small c.box_count.result (c.dims.result * 2) c.box_count.ensures.few (omega (arith, few)) in
     record {
       is = total-more (λ (o : ℕ). box_count p o * (p.dims * 2)) (range_with_len 0 c.loop-o.o) (range_with_len 0 (c.loop-o.o + 1)) c.loop-o.o c.loop-o.sum (c.loop-o.sum + c.box_count.result * (c.dims.result * 2))

@@ -1,4 +1,4 @@
-use Rattle.std.proofs.Common.{◌≡◌, ◌++◌, ◌∷◌, [], FitsSigned, List, ℤ, get_or, map, pos, rules, take, ap, subst, sym, ◌∙◌, of_z, to_z, to_z-of_z}
+use Rattle.std.proofs.Common.{◌≡◌, ◌++◌, ◌∷◌, [], FitsSigned, List, ℤ, get_or, map, pos, rules, ap, subst, sym, ◌∙◌, of_z, to_z, to_z-of_z}
 use Rattle.std.specs.Prelude.{IfOk}
 use Rattle.std.specs.Int.{w64}
 use Rattle.std.proofs.lemmas.List.{map-append, take_all, take_more}

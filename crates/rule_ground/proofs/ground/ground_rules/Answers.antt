@@ -34,7 +34,7 @@ returns-clause-fit c =
 pub returns-clause-few : goal.returns-clause-few
 returns-clause-few c =
     of-conditions c.args.problem.now _ _ (of-problem c.args.problem.now (map plain_rule_data c.args.rules.now) _ c.requires.rules c.ground_each.ensures)
-    (λ v h. grounded-few c.args.problem.now v.items (said-rules c.args.problem.now c.is_said.ensures.said) h)
+    (λ v h. grounded-few c.args.problem.now v.items c.is_said.ensures.formed (said-rules c.args.problem.now c.is_said.ensures.said) h)
 
 pub returns-clause-calm : goal.returns-clause-calm
 returns-clause-calm c =

@@ -1,23 +1,26 @@
 use Rattle.std.proofs.Common.{◌⊎◌, List, subst, ◌∙◌}
 use Rattle.std.proofs.lemmas.List.{map-id}
 use Rattle.rule_syntax.specs.declared.tree.PlacedName.{PlacedName}
+use Rattle.std.specs.Prelude.{map}
 use Rattle.problem_data.specs.declared.tree.RangeText.{RangeText}
+use Rattle.problem_data.specs.declared.tree.PiecesText.{PiecesText}
+use Rattle.problem_data.specs.View.{pieces_view}
 use Rattle.problem_data.specs.declared.tree.AttributeText.{AttributeText}
 use Rattle.problem_data.specs.Limits.{most_object_shapes}
 use Rattle.problem_data.specs.Least.{IsLeast}
-use Rattle.problem_data.specs.Faults.{NamesFault, NotMade, RangesFault, AttributesFault}
+use Rattle.problem_data.specs.Faults.{NamesFault, NotMade, OriginFault, AttributesFault}
 use Rattle.problem_data.proofs.Firsts.{joined}
 use Rattle.statement_faults.proofs.objects.object_fault.Goals as goal
 
 pub returns : goal.returns
 returns c =
     let shapes : List PlacedName = c.args.object.now.shapes.items in
-    let ranges : List RangeText = c.args.object.now.ranges.items in
+    let pieces : List (List RangeText) = map pieces_view c.args.object.now.pieces.items in
     let attributes : List AttributeText = c.args.object.now.attributes.items in
-    joined (NamesFault most_object_shapes shapes) (λ f. NotMade c.args.made.now shapes f ⊎ RangesFault c.args.k ranges f ⊎ AttributesFault attributes f) _ _ _ c.earlier.ensures
+    joined (NamesFault most_object_shapes shapes) (λ f. NotMade c.args.made.now shapes f ⊎ OriginFault c.args.k pieces f ⊎ AttributesFault attributes f) _ _ _ c.earlier.ensures
     (subst (λ (ns : List PlacedName). IsLeast (NamesFault most_object_shapes ns) c.in_ok-names.names) (map-id c.as_slice-shapes.result.now ∙ c.as_slice-shapes.ensures.value) c.in_ok-names.ensures)
-    (joined (NotMade c.args.made.now shapes) (λ f. RangesFault c.args.k ranges f ⊎ AttributesFault attributes f) _ _ _ c.earlier-others.ensures
+    (joined (NotMade c.args.made.now shapes) (λ f. OriginFault c.args.k pieces f ⊎ AttributesFault attributes f) _ _ _ c.earlier-others.ensures
     (subst (λ (ns : List PlacedName). IsLeast (NotMade c.args.made.now ns) c.not_made-unknown.result) c.as_slice-shapes.ensures.value c.not_made-unknown.ensures)
-    (joined (RangesFault c.args.k ranges) (AttributesFault attributes) _ _ _ c.earlier-lists.ensures
-    (subst (λ (rs : List RangeText). IsLeast (RangesFault c.args.k rs) c.ranges_fault-ranges.result) c.as_slice.ensures.value c.ranges_fault-ranges.ensures)
+    (joined (OriginFault c.args.k pieces) (AttributesFault attributes) _ _ _ c.earlier-lists.ensures
+    (subst (λ (ps : List PiecesText). IsLeast (OriginFault c.args.k (map pieces_view ps)) c.origin_fault-origin.result) c.as_slice.ensures.value c.origin_fault-origin.ensures)
     (subst (λ (xs : List AttributeText). IsLeast (AttributesFault xs) c.in_ok-attributes.attributes) c.as_slice-2.ensures.value c.in_ok-attributes.ensures)))

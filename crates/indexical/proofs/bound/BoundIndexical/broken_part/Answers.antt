@@ -1,37 +1,40 @@
-use Rattle.std.proofs.Common.{arith}
+use Rattle.std.proofs.Common.{◌≡◌, ℤ, pos, negsuc, ◌-ℤ◌, ◌≤ℤ◌, ◌-◌, ◌^◌, sym, ap, ◌∙◌, subst, arith, Some}
 use Rattle.std.proofs.lemmas.Int.{ints}
-use Rattle.indexical.proofs.Bounds.{IsPart, below_part, above_part}
+use mir.Val.{to_z, of_z}
+use mir.Syntax.{w64}
+use Rattle.indexical.specs.Bound.{IsSidePart}
+use Rattle.indexical.proofs.Numbers.{kept64}
+use Rattle.indexical.proofs.Bounds.{IsPart, side_alone, until_part}
 use Rattle.indexical.proofs.bound.BoundIndexical.broken_part.Goals as goal
-use Rattle.indexical.proofs.bound.BoundIndexical.broken_part.Goals.{After-at_most, After-at_least}
+use Rattle.indexical.proofs.bound.BoundIndexical.broken_part.Goals.{After-at_most, In-None}
 
-below : (g : _) (c : After-at_most g) → IsPart c.args.self.now c.args.place c.args.region.now (c.has_asked.ensures.0 c.if-not-has_asked.false) c.if-is_empty.ensures.ends c.at_most.result
-below g c = below_part c.args.self.now c.args.place c.args.region.now (c.has_asked.ensures.0 c.if-not-has_asked.false) c.if-is_empty.ensures.ends c.at_most.result _ c.if-self.true (omega (arith, ints, c.args.self.now.small.0, c.args.self.now.small.1))
+until : (g : _) (c : After-at_most g) → IsPart c.args.self.now c.args.place c.args.region.now (c.has_asked.ensures.0 c.if-not-has_asked.false) c.at_most.result
+until g c = until_part c.args.self.now c.args.place c.args.region.now (c.has_asked.ensures.0 c.if-not-has_asked.false) c.in_ok-part.part
+    (subst (λ x. IsSidePart c.args.self.now c.args.region.now x) c.in_ok-part.was c.side_part.ensures) c.in-Some.first c.in-Some.is c.at_most.result (to_z w64 (of_z w64 c.just_before.result))
+    (kept64 c.just_before.result c.just_before.type_inv ∙ c.just_before.ensures ∙ ap (λ (z : ℤ). z -ℤ pos 1) (let n = c.args.self.now.near c.in-Some.first c.in-Some.is in kept64 c.in-Some.first (omega (arith, ints, n.0, n.1))))
     c.at_most.ensures.none c.at_most.ensures.some c.at_most.ensures.lo c.at_most.ensures.hi c.at_most.ensures.others
 
-above : (g : _) (c : After-at_least g) → IsPart c.args.self.now c.args.place c.args.region.now (c.has_asked.ensures.0 c.if-not-has_asked.false) c.if-is_empty.ensures.ends c.at_least.result
-above g c = above_part c.args.self.now c.args.place c.args.region.now (c.has_asked.ensures.0 c.if-not-has_asked.false) c.if-is_empty.ensures.ends c.at_least.result _ c.if-self.false (omega (arith, ints, c.args.self.now.small.0, c.args.self.now.small.1))
-    c.at_least.ensures.none c.at_least.ensures.some c.at_least.ensures.hi c.at_least.ensures.lo c.at_least.ensures.others
+alone : (g : _) (c : In-None g) → IsPart c.args.self.now c.args.place c.args.region.now (c.has_asked.ensures.0 c.if-not-has_asked.false) (Some c.in_ok-part.part)
+alone g c = side_alone c.args.self.now c.args.place c.args.region.now (c.has_asked.ensures.0 c.if-not-has_asked.false) c.in_ok-part.part c.in-None.is
+    (subst (λ x. IsSidePart c.args.self.now c.args.region.now x) c.in_ok-part.was c.side_part.ensures)
 
-pub returns-then-self-clause-none : goal.returns-then-self-clause-none
-returns-then-self-clause-none g c = (below g c).none
+pub just_before-requires : goal.just_before-requires
+just_before-requires g c =
+    let n = c.args.self.now.near c.in-Some.first c.in-Some.is in
+    let e : to_z w64 (of_z w64 c.in-Some.first) ≡ c.in-Some.first = kept64 c.in-Some.first (omega (arith, ints, n.0, n.1)) in
+    subst (λ (z : ℤ). (negsuc (10 ^ 14 - 1) ≤ℤ z) × (z ≤ℤ pos (10 ^ 14))) (sym e) n
 
-pub returns-then-self-clause-within : goal.returns-then-self-clause-within
-returns-then-self-clause-within g c = (below g c).within
+pub returns-in-Some-clause-none : goal.returns-in-Some-clause-none
+returns-in-Some-clause-none g c = (until g c).none
 
-pub returns-then-self-clause-passes : goal.returns-then-self-clause-passes
-returns-then-self-clause-passes g c = (below g c).passes
+pub returns-in-Some-clause-within : goal.returns-in-Some-clause-within
+returns-in-Some-clause-within g c = (until g c).within
 
-pub returns-then-self-clause-whole : goal.returns-then-self-clause-whole
-returns-then-self-clause-whole g c = (below g c).whole
+pub returns-in-Some-clause-passes : goal.returns-in-Some-clause-passes
+returns-in-Some-clause-passes g c = (until g c).passes
 
-pub returns-else-self-clause-none : goal.returns-else-self-clause-none
-returns-else-self-clause-none g c = (above g c).none
+pub returns-in-Some-clause-whole : goal.returns-in-Some-clause-whole
+returns-in-Some-clause-whole g c = (until g c).whole
 
-pub returns-else-self-clause-within : goal.returns-else-self-clause-within
-returns-else-self-clause-within g c = (above g c).within
-
-pub returns-else-self-clause-passes : goal.returns-else-self-clause-passes
-returns-else-self-clause-passes g c = (above g c).passes
-
-pub returns-else-self-clause-whole : goal.returns-else-self-clause-whole
-returns-else-self-clause-whole g c = (above g c).whole
+pub returns-in-None-clause-whole : goal.returns-in-None-clause-whole
+returns-in-None-clause-whole g c = (alone g c).whole

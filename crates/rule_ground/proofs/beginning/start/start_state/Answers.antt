@@ -2,14 +2,14 @@ use Rattle.std.proofs.Common.{◌↔◌, ℕ, List, [], ◌∷◌, ◌++◌, len
 use Rattle.geo_base.specs.Tuple.{Tuple}
 use Rattle.geo_conditions.specs.Reach.{State, Region, TupleIn, first_places}
 use Rattle.geo_conditions.specs.Regions.{region_of}
-use Rattle.problem_data.specs.Cells.{IsTuple}
+use Rattle.problem_data.specs.Cells.{IsWideTuple}
 use Rattle.rule_ground.specs.Start.{HasSmallEnds}
 use Rattle.rule_ground.proofs.Starts.{tuples-are, ends-small, state-end, state-more}
 use Rattle.rule_ground.proofs.beginning.start.start_state.Goals as goal
 
 pub returns-clause-tuples : goal.returns-clause-tuples
 returns-clause-tuples g c =
-    let P : State → Type 0 = λ s. (t : Tuple) → TupleIn t s ↔ IsTuple c.args.problem.now t in
+    let P : State → Type 0 = λ s. (t : Tuple) → TupleIn t s ↔ IsWideTuple c.args.problem.now t in
     subst P (sym (state-end c.args.problem.now _ _ c.loop-object.state (c.objects-object-items.ensures) c.loop-object.invariant (c.loop-object-test.false))) (λ t. tuples-are c.args.problem.now t c.is_said.ensures.formed)
 
 pub returns-clause-ends : goal.returns-clause-ends
