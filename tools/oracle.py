@@ -10,7 +10,7 @@ import operator
 from dataclasses import dataclass, field
 from typing import Callable, Iterator
 
-from geost_text import (
+from geost.text import (
     Apart,
     Bare,
     Box,
@@ -90,7 +90,8 @@ def plan_of(problem: Problem, layout: list[Placed]) -> Plan:
     assert [placed.name for placed in layout] == [thing.name for thing in problem.objects]
     for placed, thing in zip(layout, problem.objects):
         assert placed.shape in thing.shapes
-        assert all(low <= value <= high for value, (low, high) in zip(placed.origin, thing.ranges))
+        for value, pieces in zip(placed.origin, thing.pieces, strict=True):
+            assert any(low <= value <= high for low, high in pieces)
     return Plan(problem, {placed.name: placed for placed in layout})
 
 
@@ -239,8 +240,8 @@ def places(problem: Problem, name: str) -> Iterator[Placed]:
     """All places of an object, in the order of the search."""
     thing = problem.object(name)
     lines = [
-        range(low, high + 1) if side == "low" else range(high, low - 1, -1)
-        for (low, high), side in zip(thing.ranges, problem.search_sides())
+        thing.values(dimension)[:: 1 if side == "low" else -1]
+        for dimension, side in enumerate(problem.search_sides())
     ]
     for shape in thing.shapes:
         for origin in itertools.product(*lines):

@@ -4,7 +4,7 @@
 _geost_next() { # the words behind `geost`, without the one that is completed
   local steps="100 1000 10000 100000 1000000"
   case $# in
-  0) echo "first all judge check show draw make help prove --version --program --proved" ;;
+  0) echo "first all judge check show draw make spread help prove --version --program --proved" ;;
   1)
     case $1 in
     first) echo "$steps" ;;

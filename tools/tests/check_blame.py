@@ -6,7 +6,7 @@ from collections.abc import Iterator
 from dataclasses import dataclass, replace
 from pathlib import Path
 
-from geost_program import Program
+from geost.program import Program
 from harness import TOP, Case, Cases, Failed, Setting, run_tool, want
 
 EXAMPLES = TOP / "examples"

@@ -10,9 +10,10 @@ from collections import Counter
 from pathlib import Path
 
 import oracle
-from geost_items import TableFault, name_for, names_for, object_names, problem_lines, read_table
-from geost_rows import rows_of
-from geost_text import read_layout, read_problem
+from geost.items import TableFault, object_names, problem_lines, read_table
+from geost.names import name_for, names_for
+from geost.rows import rows_of
+from geost.text import read_layout, read_problem
 from harness import TOOLS, Case, Cases, Failed, Setting, want, want_in
 
 ITEMS = """name,size,count,turnable,weight,kind

@@ -15,9 +15,10 @@ from dataclasses import dataclass, replace
 from pathlib import Path
 
 import oracle
-from geost_candidates import narrower
-from geost_orders import stated_orders
-from geost_text import TextFault, print_layout, print_problem, read_layout, read_problem
+from geost.candidates import narrower
+from geost.orders import stated_orders
+from geost.text import print_layout, print_problem, read_layout, read_problem
+from geost.tokens import TextFault
 from harness import TOP, Case, Cases, Failed, Setting, Skipped, first_of
 from harness import run_plain, run_tool, want, want_in
 

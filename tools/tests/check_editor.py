@@ -8,7 +8,7 @@ import shutil
 import subprocess
 from pathlib import Path
 
-from geost_text import RESERVED
+from geost.tokens import RESERVED
 from harness import TOOLS, TOP, Case, Cases, Setting, Skipped, want
 
 VIM = TOOLS / "editor" / "geost.vim"
@@ -83,7 +83,7 @@ def check_completion(setting: Setting) -> None:
     told = subprocess.run([TOP / "geost", "help"], stdout=subprocess.PIPE).stdout.decode()
     named = set(re.findall(r"geost (-*[a-z]+)(?! boxes)\b", told)) - {"places"}
     want(set(offered(bash)), named, "the words that are offered first")
-    own = {"help", "prove", "--version", "--program", "--proved"}
+    own = {"help", "prove", "spread", "--version", "--program", "--proved"}
     for word in sorted(named - own):
         first = offered(bash, word)
         second = offered(bash, word, first[0]) if first else []

@@ -6,7 +6,7 @@ from __future__ import annotations
 from pathlib import Path
 
 import oracle
-from geost_text import Problem, print_layout, read_layout, read_problem
+from geost.text import Problem, print_layout, read_layout, read_problem
 from harness import TOP, Case, Cases, Failed, Setting, Skipped, want
 
 EXAMPLES = TOP / "examples"

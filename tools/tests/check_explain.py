@@ -25,6 +25,7 @@ class Refusal:
 
 HEAD = "geost 1 dims 2 # Größe: zwei\r\n"
 ONE = "shape s box 0 0 size 2 1 ;\n\tobject a as s at 0..9 0..9 with weight = 3 ; # Müll\r\n"
+SECOND = "geost 2 dims 2\r\nshape s box 0 0 size 1 1 ;\n"
 RULE = HEAD + ONE + "# über allem\nrule\tr : "
 MACRO = HEAD + ONE + "macro on(p : object, n : int) means p.x1 > n ;\nmacro twice(n : int) is n + n ;\n"
 
@@ -48,7 +49,13 @@ PROBLEMS = [
     Refusal("syntax: a bare range", HEAD + "object a as s at 0▮-9 0..9 ;", "syntax", "goes on in no problem", "with `..`"),
     Refusal("syntax: no end", HEAD + ONE + "▮", "syntax", "the end of the text", "`end`"),
     Refusal("deep", RULE + "[" * 64 + "▮[" + "true" + "]" * 65 + " ;\nend", "deep", "a 65th level"),
-    Refusal("version", "# Zweite Fassung\r\ngeost ▮2 dims 2 end", "limit", "a version that is not 1", "geost 1 dims K"),
+    Refusal("version", "# Dritte Fassung\r\ngeost ▮3 dims 2 end", "limit", "a version that is", "geost 1 dims K"),
+    Refusal("dims of the second version", "geost 2\r\n\tdims ▮7 end", "limit", "a version that is", "where K is 1 to 6"),
+    Refusal("pieces in the first version", HEAD + "shape s box 0 0 size 1 1 ;\nobject a as s at 0..1▮, 3..4 0..9 ;\nend", "syntax", "goes on in no problem"),
+    Refusal("a ninth piece", SECOND + "object a as s at " + ", ".join(f"{3 * i}..{3 * i}" for i in range(8)) + ", ▮24..24 0..9 ;\nend", "limit", "9th piece", "at most 8 pieces"),
+    Refusal("pieces that touch", SECOND + "object a as s at 0..9 0..1, ▮2..3 ;\nend", "range", "at most one above", "write one that begins at 3"),
+    Refusal("a piece upside down", SECOND + "object a as s at 0..1, ▮9..5 0..9 ;\nend", "range", "low end is above", "`5..9` may be meant"),
+    Refusal("a range too few, in pieces", SECOND + "object a as s at ▮0..1, 5..9 ;\nend", "limit", "are not exactly K", "1 stand there, and 2 are wanted"),
     Refusal("dims", "geost 1\r\n\tdims ▮5 end", "limit", "dims that is not 1 to 4"),
     Refusal("a size too few", HEAD + "\tshape s box 0 0 size ▮2 ;\nend", "limit", "are not exactly K", "1 stand there, and 2 are wanted"),
     Refusal("a range too many", HEAD + "shape s box 0 0 size 1 1 ;\nobject a as s at ▮0..9 -1..9 0..9 ;\nend", "limit", "are not exactly K", "3 stand there"),
@@ -87,7 +94,7 @@ PLANS = [
     Refusal("plan: one too many", SOLVED, "order", "is one too many", "2 objects", "layout\na as s at 0 0\nb as s at 2 0\n▮c as s at 4 0"),
     Refusal("plan: unknown", SOLVED, "unknown", "a shape that the object may not take", "shapes of `b`: `s`", "layout a as s at 0 0 # ö\r\n\tb as ▮ss at 2 0"),
     Refusal("plan: limit", SOLVED, "limit", "coordinates that are not exactly K", "2 coordinates are wanted", "layout\na as s at ▮0 0 0\nb as s at 2 0"),
-    Refusal("plan: range", SOLVED, "range", "outside the object's range", "x2 of `b` lies in 0..9", "layout\na as s at 0 0\n\tb as s at 0 ▮-4"),
+    Refusal("plan: range", SOLVED, "range", "in no piece of the object's range", "x2 of `b` lies in 0..9", "layout\na as s at 0 0\n\tb as s at 0 ▮-4"),
     Refusal("plan: token", SOLVED, "token", "says another layout", "", "layout\na as s at 0 0\nb as s at 2 0\n▮token 1,0,0/1,2,1"),
 ]
 

@@ -14,7 +14,7 @@ from pathlib import Path
 
 from harness import TOP, Case, Cases, Failed, Setting, hear_interrupts, want, want_in
 
-MOST_README_LINES = 80
+MOST_README_LINES = 105
 LONGEST_WAIT = 30
 # what the script says of words that the program does not know
 HINTS = {
@@ -253,11 +253,12 @@ def check_gate(folder: Path) -> None:
 
 
 def check_help(setting: Setting) -> None:
-    """The script answers `help`, which names each command of the program, and the version."""
+    """The script answers `help`, which names each command, and the version."""
     printed = [run_script(word) for word in ("help", "--help", "-h")]
     want(printed, [printed[0]] * 3, "what help prints")
     named = set(re.findall(r"geost ([a-z]+)", printed[0])) - {"help", "places", "prove"}
-    want(named, {"first", "all", "judge", "check", "draw", "show", "make"}, "commands of the help")
+    commands = {"first", "all", "judge", "check", "draw", "show", "make", "spread"}
+    want(named, commands, "commands of the help")
     version = (TOP / "VERSION").read_text().strip()
     want(run_script("--version").splitlines()[0], f"geost {version}", "the version")
     for word in ("help", "--help", "--version"):

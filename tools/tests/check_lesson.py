@@ -12,8 +12,8 @@ import time
 from collections.abc import Callable
 from pathlib import Path
 
-from geost_parts import with_objects
-from geost_text import print_problem, read_problem
+from geost.parts import with_objects
+from geost.text import print_problem, read_problem
 from harness import TOOLS, TOP, Case, Cases, Failed, Setting, hear_interrupts, run_tool, want
 from harness import want_in
 

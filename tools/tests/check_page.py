@@ -28,7 +28,7 @@ from browser import (
     needed,
     opened,
 )
-from geost_program import Program
+from geost.program import Program
 from harness import TOOLS, TOP, Case, Cases, Failed, Setting, want, want_in
 
 EXAMPLES = TOP / "examples"

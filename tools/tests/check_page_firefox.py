@@ -14,7 +14,7 @@ from pathlib import Path
 from typing import Any
 
 from browser import made_page, needed
-from geost_program import Program
+from geost.program import Program
 from harness import TOP, Case, Cases, Failed, Setting, want
 
 EXAMPLES = TOP / "examples"

@@ -7,13 +7,14 @@ import hashlib
 import json
 import os
 import random
+import runpy
 import shutil
 import subprocess
 import sys
 from pathlib import Path
 
 from browser import needed
-from harness import TOOLS, Case, Cases, Failed, Setting, want
+from harness import TOOLS, Case, Cases, Failed, Setting, want, want_in
 
 PAGE = TOOLS / "page"
 sys.path.insert(0, str(PAGE))
@@ -148,9 +149,34 @@ def check_numbers(folder: Path) -> None:
         want(int(high) * 2**64 + int(low), wanted_of(name, one, other), f"{name} {one} {other}")
 
 
+def make_module(top: Path, output: Path) -> str:
+    """What the script says that makes the module of a checkout."""
+    words = [str(PAGE / "wasm"), "--repository", str(top), str(output)]
+    done = subprocess.run([sys.executable, *words], capture_output=True, text=True)
+    return done.stdout if done.returncode == 0 else done.stderr
+
+
+def check_kept(folder: Path) -> None:
+    """A module that is kept is taken for its own object file, and for no other."""
+    out = folder / "checkout" / "crates" / "geost_cli" / "out"
+    out.mkdir(parents=True)
+    (folder / "checkout" / "crates.txt").write_text("geost_cli:\n")
+    output = folder / "geost.wasm"
+    want_in("not proved", make_module(folder / "checkout", output))
+    (out / "geost_cli.o").write_bytes(b"an object file")
+    script = runpy.run_path(str(PAGE / "wasm"))
+    checkout = script["Checkout"](folder / "checkout")
+    script["keep"](checkout.kept_module(), b"a module")
+    want(make_module(folder / "checkout", output), f"{output}: 8 bytes\n", "the module")
+    want(output.read_bytes(), b"a module", "the module that was kept")
+    (out / "geost_cli.o").write_bytes(b"another one")
+    want(checkout.kept_module().exists(), False, "a module of another object file")
+
+
 def cases(setting: Setting, folder: Path) -> Cases:
     own = folder / "page_wasm"
     own.mkdir()
+    yield Case("page module: kept for its object file", lambda: check_kept(own))
     yield Case("page module: lines that are rewritten", check_lines)
     yield Case("page module: lines that are not known", check_unknown)
     yield Case("page module: its origin", check_origin)

@@ -13,10 +13,11 @@ from dataclasses import dataclass
 from pathlib import Path
 from typing import Any
 
-from geost_page import SOURCE, constant, language_data
-from geost_picture import broken_rules
-from geost_refusals import Source, explain_refusal
-from geost_text import Placed, print_layout, read_layout, read_problem, read_tokens
+from geost.page import SOURCE, constant, language_data
+from geost.picture import broken_rules
+from geost.refusals import Source, explain_refusal
+from geost.text import Placed, print_layout, read_layout, read_problem
+from geost.tokens import read_tokens
 from harness import TOP, Case, Cases, Failed, Setting, Skipped, want
 
 EXAMPLES = TOP / "examples"
@@ -117,8 +118,8 @@ def moved_plans(setting: Setting) -> list[Broken]:
         layout = read_layout((EXAMPLES / f"{name}.answer").read_bytes())
         for _ in range(2):
             at = chance.randrange(len(layout))
-            ranges = problem.object(layout[at].name).ranges
-            origin = tuple(chance.randint(low, high) for low, high in ranges)
+            ranges = problem.object(layout[at].name).pieces
+            origin = tuple(chance.randint(*chance.choice(pieces)) for pieces in ranges)
             layout[at] = Placed(layout[at].name, layout[at].shape, origin)
         found.append(Broken(shown, print_layout(layout)))
     return found

@@ -15,11 +15,11 @@ from collections.abc import Iterator
 from dataclasses import dataclass
 from pathlib import Path
 
-from geost_drawing import Drawing, Look, Plane, draw_layers, draw_plane, draw_sides, draw_time
-from geost_page import PICTURE_SCRIPTS, SOURCE, broken_data
-from geost_picture import OBJECT, Cuboid, Plan, broken_rules, frame_of, palette_of, placed_things
-from geost_solid import TILT, TURN, camera_for, draw_solid
-from geost_text import print_problem, read_layout, read_problem
+from geost.drawing import Drawing, Look, Plane, draw_layers, draw_plane, draw_sides, draw_time
+from geost.page import PICTURE_SCRIPTS, SOURCE, broken_data
+from geost.picture import OBJECT, Cuboid, Plan, broken_rules, frame_of, palette_of, placed_things
+from geost.solid import TILT, TURN, camera_for, draw_solid
+from geost.text import print_problem, read_layout, read_problem
 from harness import TOP, Case, Cases, Failed, Setting, Skipped, run_tool, want, want_in
 
 EXAMPLES = TOP / "examples"

@@ -7,13 +7,13 @@ import random
 from pathlib import Path
 
 import oracle
-from geost_candidates import Candidate, candidates, shape_sequences
-from geost_edit import with_statements
-from geost_narrowing import all_zones, by_earlier
-from geost_orders import depths, in_turns, precedences, stated_orders, with_partners
-from geost_runs import Outcome, Verdict, token_of
-from geost_strategies import Effort, Repair, learning
-from geost_text import Placed, print_layout, print_problem, print_rule, read_layout, read_problem
+from geost.candidates import Candidate, candidates, shape_sequences
+from geost.edit import with_statements
+from geost.narrowing import all_zones, by_earlier
+from geost.orders import depths, in_turns, precedences, stated_orders, with_partners
+from geost.runs import Outcome, Verdict, token_of
+from geost.strategies import Effort, Repair, learning
+from geost.text import Placed, print_layout, print_problem, print_rule, read_layout, read_problem
 from harness import (
     TOP,
     Case,

@@ -12,8 +12,8 @@ from pathlib import Path
 
 import oracle
 from check_examples import cells_in_all
-from geost_smt import Writer, layout_of_model
-from geost_text import Placed, Problem, read_layout, read_problem
+from geost.smt import Writer, layout_of_model
+from geost.text import Placed, Problem, at_origin, read_layout, read_problem
 from harness import TOP, Case, Cases, Setting, Skipped, run_tool, want, want_in
 
 EXAMPLES = sorted((TOP / "examples").glob("*.geost"))
@@ -65,7 +65,7 @@ def random_layout(problem: Problem, chance: random.Random) -> list[Placed]:
         Placed(
             thing.name,
             chance.choice(thing.shapes),
-            tuple(chance.randint(low, high) for low, high in thing.ranges),
+            tuple(chance.randint(*chance.choice(pieces)) for pieces in thing.pieces),
         )
         for thing in problem.objects
     ]
@@ -73,7 +73,7 @@ def random_layout(problem: Problem, chance: random.Random) -> list[Placed]:
 
 def at_places(problem: Problem, layout: list[Placed]) -> Problem:
     things = tuple(
-        replace(thing, shapes=(placed.shape,), ranges=tuple((at, at) for at in placed.origin))
+        replace(thing, shapes=(placed.shape,), pieces=at_origin(placed.origin))
         for thing, placed in zip(problem.objects, layout)
     )
     return replace(problem, objects=things)

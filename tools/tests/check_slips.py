@@ -6,10 +6,10 @@ import re
 from dataclasses import dataclass
 from pathlib import Path
 
-from geost_refusals import Kind, Source, explain_refusal
-from geost_slips import compiled, known_slips, marked_statement
-from geost_text import end_of_first_text
-from geost_words import meant
+from geost.refusals import Kind, Source, explain_refusal
+from geost.slips import compiled, known_slips, marked_statement
+from geost.text import end_of_first_text
+from geost.words import meant
 from harness import Case, Cases, Failed, Setting, run_tool, want, want_in
 
 FRONT = """geost 1 dims 2

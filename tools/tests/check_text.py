@@ -4,7 +4,8 @@ from __future__ import annotations
 
 from pathlib import Path
 
-from geost_text import RESERVED, print_problem, read_problem
+from geost.text import print_problem, read_problem
+from geost.tokens import RESERVED
 from harness import TOP, Case, Cases, Setting, want
 
 

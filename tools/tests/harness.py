@@ -11,9 +11,9 @@ from pathlib import Path
 
 TOOLS = Path(__file__).resolve().parent.parent
 TOP = TOOLS.parent
-sys.path.insert(0, str(TOOLS))
+sys.path[:0] = [str(TOP / "python" / "src"), str(TOOLS)]
 
-from geost_program import Program  # noqa: E402
+from geost.program import Program  # noqa: E402
 
 
 class Skipped(Exception):

@@ -1,7 +1,7 @@
 // Which objects break a rule: found by asking the program's `judge` again, for one rule and for
-// single objects at a time, as tools/geost_blame.py does. A question is a problem in which every
-// object may only stand where the plan has it, with one rule: a part of the rule that is looked
-// into, under quantifiers over single objects.
+// single objects at a time, as python/src/geost/blame.py does. A question is a problem in which
+// every object may only stand where the plan has it, with one rule: a part of the rule that is
+// looked into, under quantifiers over single objects.
 
 const Blame = (() => {
   "use strict";

@@ -31,13 +31,13 @@ const Cells = (() => {
 
   function readObject(line, number) {
     const [, name, shapes, rest] = /^object (\S+) as (.*?) at (.*) ;$/.exec(line);
-    const [at, given] = rest.split(" with ");
+    const given = rest.split(" with ")[1];
     const attributes = {};
     for (const part of given ? given.split(",") : []) {
       const [key, value] = part.split("=");
       [attributes[key.trim()]] = integersIn(value);
     }
-    return { name, number, shapes: listed(shapes), ranges: rangesIn(at), attributes };
+    return { name, number, shapes: listed(shapes), attributes };
   }
 
   function readRule(line) {

@@ -14,10 +14,11 @@ const Completion = (() => {
 
   // The tokens of the statement that a place is in, and the rule by which they are read.
   function statementAt(before) {
-    if (before.length < Tokens.HEAD) return { rule: "problem", tokens: before };
+    const rule = Grammar.problemRule(before);
+    if (before.length < Tokens.HEAD) return { rule, tokens: before };
     let begin = before.length;
     while (begin > Tokens.HEAD && before[begin - 1].text !== ";") begin -= 1;
-    return { rule: "statements", tokens: before.slice(begin) };
+    return { rule: rule.replace("problem", "statements"), tokens: before.slice(begin) };
   }
 
   // The names that a terminal of the grammar stands for, with what they are.

@@ -1,6 +1,6 @@
-// The grammar of tools/data/grammar.txt, read as it is written there: where tokens stop to be of
-// it, what may stand at that place, and the tree of those that are of it. tools/geost_grammar.py
-// reads the same file in the same way.
+// The grammar of python/src/geost/data/grammar.txt, read as it is written there: where tokens stop
+// to be of it, what may stand at that place, and the tree of those that are of it. grammar.py of the
+// package reads the same file in the same way.
 
 const Grammar = (() => {
   "use strict";
@@ -191,5 +191,12 @@ const Grammar = (() => {
     };
   }
 
-  return { parse, firstFault, spoken };
+  // The rule of a problem's text, which the value of its second token chooses.
+  function problemRule(tokens) {
+    const version = tokens[1];
+    const isSecond = version && version.kind === "number" && Number(version.text) === 2;
+    return isSecond ? "problem_2" : "problem";
+  }
+
+  return { parse, firstFault, problemRule, spoken };
 })();

@@ -60,9 +60,9 @@ const Products = (() => {
 
   function hints(refusal) {
     const tokens = refusal.problemTokens();
-    const { tree, index } = Grammar.parse("problem", tokens);
+    const { tree, index } = Grammar.parse(Grammar.problemRule(tokens), tokens);
     if (!tree || index < tokens.length) return [];
-    const statements = nodesOf(tree).filter((node) => node.rule === "statement");
+    const statements = nodesOf(tree).filter((node) => /^statement(_2)?$/.test(node.rule));
     const rule = statements.map((one) => {
       return bodyOf(one, (word, name) => word === "rule" && name === refusal.token);
     });

@@ -1,5 +1,5 @@
 // What a refusal means: where it is, the sentences of docs/FORMAT.md, what to write instead, and
-// what may be meant. tools/geost_refusals.py says the same of the same texts.
+// what may be meant. python/src/geost/refusals.py says the same of the same texts.
 
 const Refusals = (() => {
   "use strict";
@@ -7,6 +7,9 @@ const Refusals = (() => {
   const STATEMENTS = ["shape", "object", "order", "sides", "macro", "rule"];
   const LARGEST_NUMBER = 1000000000;
   const LONGEST_NAME = 40;
+  const MOST_PIECES = 8;
+  const PIECE = /^(?:- )?\d+ \.\. (?:- )?\d+/;
+  const PIECES = /(?:(?:- )?\d+ \.\. (?:- )?\d+ , )+$/;
   const [LEAST_LIKENESS, MOST_NEAR, MOST_LISTED] = [0.6, 3, 12];
   const [PROBLEM, LAYOUT, DERIVATION] = ["problem", "layout", "derivation"];
   // What is wanted where such a word may stand, the first one that may.
@@ -78,6 +81,10 @@ const Refusals = (() => {
       const token = this.problemTokens()[3];
       return token && token.kind === "number" ? Number(token.text) : 0;
     }
+    // Whether the problem is a text of the second version.
+    isSecond() {
+      return Grammar.problemRule(this.problemTokens()) === "problem_2";
+    }
     // The statement of the problem that makes such an object, as its tokens.
     objectStatement(name) {
       const isOf = ([word, made]) => word.text === "object" && made && made.text === name;
@@ -97,6 +104,9 @@ const Refusals = (() => {
   // Words of the row that is meant, where a word has several.
   function needleOf(refusal) {
     if (refusal.word === "limit") return limitNeedle(refusal);
+    if (refusal.word === "range") {
+      return endTooNear(refusal) === null ? "low end is above" : "at most one above";
+    }
     if (refusal.word === "twice") {
       return isInCollection(refusal) ? "that `objects ( )` has" : "a name that its list has";
     }
@@ -106,7 +116,8 @@ const Refusals = (() => {
   }
   function limitNeedle(refusal) {
     const { index, token, tokens } = refusal;
-    if (index < Tokens.HEAD) return "a version that is not 1";
+    if (index < Tokens.HEAD) return "a version that is";
+    if (piecesBefore(refusal).length >= MOST_PIECES) return "a 9th piece";
     if (["div", "mod"].includes(refusal.before())) return "the number behind `div`";
     if (token === "box" || (tokens[index] && tokens[index].kind === "name")) {
       return "a name past its limit";
@@ -117,17 +128,37 @@ const Refusals = (() => {
       : "an end of a range or an offset";
   }
 
-  // How many numbers, ranges or sides stand from the place on.
+  // How many numbers, ranges or sides stand from the place on. What stands behind a `,` is a piece
+  // more of the range before it.
   function members(refusal) {
-    let [count, last] = [0, ".."];
+    let [count, last] = [0, " "];
     for (const token of refusal.tokens.slice(refusal.index)) {
       const isNumber = token.kind === "number";
-      if (["low", "high"].includes(token.text) || (isNumber && last !== "..")) count += 1;
-      else if (isNumber && count === 0) count = 1;
-      else if (!isNumber && !["-", ".."].includes(token.text)) break;
+      const isNext = isNumber && !["..", ","].includes(last);
+      if (["low", "high"].includes(token.text) || isNext) count += 1;
+      else if (!isNumber && !["-", "..", ","].includes(token.text)) break;
       if (token.text !== "-") last = token.text;
     }
     return count;
+  }
+
+  // The pieces of the same range that stand before a piece, as they are spelled.
+  function piecesBefore(refusal) {
+    const tokens = refusal.tokens.slice(refusal.first, refusal.index);
+    const found = PIECES.exec(tokens.map((token) => `${token.text} `).join(""));
+    return found ? found[0].split(" , ").slice(0, -1) : [];
+  }
+
+  // The ends of a piece that is spelled with a space between its tokens.
+  const endsOf = (piece) => piece.replace(/- /g, "-").split(" .. ").map(Number);
+
+  // The end of the piece before the one at the place, where that one is not upside down; or null.
+  function endTooNear(refusal) {
+    const tokens = refusal.tokens.slice(refusal.index, refusal.index + 5);
+    const found = PIECE.exec(tokens.map((token) => token.text).join(" "));
+    const before = piecesBefore(refusal);
+    if (!found || !before.length || endsOf(found[0])[0] > endsOf(found[0])[1]) return null;
+    return endsOf(before[before.length - 1])[1];
   }
 
   function isInCollection(refusal) {
@@ -228,9 +259,9 @@ const Refusals = (() => {
 
   // The first token that fits no longer, where that is the place of the refusal.
   function faultHere(refusal) {
-    const fault = Grammar.firstFault(
-      refusal.kind === LAYOUT ? "layout" : "problem", refusal.tokens,
-    );
+    const isLayout = refusal.kind === LAYOUT;
+    const rule = isLayout ? "layout" : Grammar.problemRule(refusal.tokens);
+    const fault = Grammar.firstFault(rule, refusal.tokens);
     return fault && fault.index === refusal.index ? fault : null;
   }
   function isUnended(refusal) {
@@ -376,19 +407,27 @@ const Refusals = (() => {
           "write one for each dimension",
       ];
     }
-    return needle.startsWith("a version")
-      ? ["write `geost 1 dims K` at the front, where K is 1 to 4"]
-      : [];
+    if (needle === "a 9th piece") {
+      const advice = "write fewer, or a rule for the rest";
+      return [`a range has at most ${MOST_PIECES} pieces: ${advice}`];
+    }
+    if (!needle.startsWith("a version")) return [];
+    const version = refusal.isSecond() ? 2 : 1;
+    const most = refusal.isSecond() ? 6 : 4;
+    return [`write \`geost ${version} dims K\` at the front, where K is 1 to ${most}`];
   }
 
   function rangeHints(refusal) {
-    const text = refusal.tokens.slice(
-      refusal.index, refusal.index + 5,
-    ).map((token) => token.text).join(" ");
-    const found = /^((?:- )?\d+) \.\. ((?:- )?\d+)/.exec(text);
-    return found
-      ? [`\`${found[2]}..${found[1]}\` may be meant: write that`.replace(/- /g, "-")]
-      : [];
+    const end = endTooNear(refusal);
+    if (end !== null) {
+      const first = `the piece before it ends at ${end}: write one that begins at ${end + 2}`;
+      return [`${first} or later, or one piece in place of both`];
+    }
+    const tokens = refusal.tokens.slice(refusal.index, refusal.index + 5);
+    const found = PIECE.exec(tokens.map((token) => token.text).join(" "));
+    if (!found) return [];
+    const [low, high] = endsOf(found[0]);
+    return [`\`${high}..${low}\` may be meant: write that`];
   }
 
   function orderHints(refusal) {
@@ -434,8 +473,8 @@ const Refusals = (() => {
     const spelled = refusal.objectStatement(name).map((token) => token.text).join(" ");
     const ranges = (
       / at (.*?)(?: with | ;)/.exec(spelled) || ["", ""]
-    )[1].match(/(?:- )?\d+ \.\. (?:- )?\d+/g) || [];
-    const range = (ranges[dimension] || "").replace(/ /g, "");
+    )[1].match(/(?:- )?\d+ \.\. (?:- )?\d+(?: , (?:- )?\d+ \.\. (?:- )?\d+)*/g) || [];
+    const range = (ranges[dimension] || "").replace(/ /g, "").replace(/,/g, ", ");
     const where = `x${dimension + 1} of \`${name}\` lies in ${range}`;
     return [`${where}: write a number from there, or another range into the problem`];
   }

@@ -1,6 +1,6 @@
 // What newcomers write who are used to other languages, and what to write instead. The slips stand
-// in tools/data/slips.txt, whose head says how they are written; tools/geost_slips.py reads the
-// same file in the same way.
+// in python/src/geost/data/slips.txt, whose head says how they are written; slips.py of the package
+// reads the same file in the same way.
 
 const Slips = (() => {
   "use strict";
