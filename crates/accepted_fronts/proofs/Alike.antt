@@ -7,7 +7,7 @@ use Rattle.geo_tokens.specs.declared.token.Kind.TheVariants as kinds
 use Rattle.geo_tokens.specs.declared.token.Keyword.TheVariants as keywords
 use Rattle.geo_tokens.specs.Bytes.{bytes_of}
 use Rattle.geo_tokens.specs.Class.{class_of}
-use Rattle.geo_tokens.specs.Words.{Kinds, has, Of, names, Lang, Pure, OneOf, Tok, Bind, cut, both, Either, left, right, Opt, there, not_there, UpTo, Many, Placed, Chain}
+use Rattle.geo_tokens.specs.Words.{Kinds, has, Of, names, Lang, Pure, OneOf, Tok, Bind, cut, both, Either, left, right, Opt, there, not_there, UpTo, Many, UpToEnded, Ended, Placed, Chain}
 use Rattle.rule_syntax.specs.declared.tree.PlacedName.{PlacedName}
 use Rattle.rule_syntax.specs.Grammar.{Named}
 
@@ -105,6 +105,19 @@ module _ {text other : List ℕ} where
     many_alike h = record {
       carry = λ o w l s. (l.0, (up_to_alike h l.0).carry o w l.1 s);
       plain = λ o w l. (up_to_alike h l.0).plain o w l.1;
+    }
+
+  module _ {A B : Type 0} (marks : Kinds) (L M : Lang A) (E F : Lang B) (n : has marks (class_of (kinds.Word keywords.End)) ≡ false) (h : Alike text other L M) (e : Alike text other E F) where
+    up_to_ended_alike : (k : ℕ) → Alike text other (UpToEnded marks L E k) (UpToEnded marks M F k)
+    up_to_ended_alike zero = pure_alike ([], None)
+    up_to_ended_alike (suc k) = opt_alike _ _ ([], None) (bind_alike (Tok marks) (Tok marks) _ _ (one_alike marks (λ t. Some t) n) (λ m. either_alike _ _ _ _
+        (bind_alike L M _ _ h (λ a. bind_alike (UpToEnded marks L E k) (UpToEnded marks M F k) (λ r. Pure (a ∷ r.0, r.1)) (λ r. Pure (a ∷ r.0, r.1)) (up_to_ended_alike k) (λ r. pure_alike (a ∷ r.0, r.1))))
+        (bind_alike E F (λ x. Pure ([], Some x)) (λ x. Pure ([], Some x)) e (λ x. pure_alike ([], Some x)))))
+
+    pub ended_alike : Alike text other (Ended marks L E) (Ended marks M F)
+    ended_alike = record {
+      carry = λ o w l s. (l.0, (up_to_ended_alike l.0).carry o w l.1 s);
+      plain = λ o w l. (up_to_ended_alike l.0).plain o w l.1;
     }
 
   module _ {A B : Type 0} (L M : Lang A) (made : ℕ → A → B) where

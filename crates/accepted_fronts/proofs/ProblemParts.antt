@@ -2,11 +2,11 @@
 use Rattle.std.proofs.Common.{ℕ, List, [], Bool, true, false, refl}
 use Rattle.geo_tokens.specs.declared.token.Keyword.TheVariants as keywords
 use Rattle.geo_tokens.specs.declared.token.Sym.TheVariants as symbols
-use Rattle.geo_tokens.specs.Words.{Lang}
+use Rattle.geo_tokens.specs.Words.{symbol, Lang}
 use Rattle.rule_syntax.specs.Grammar.{ExprWords, FormulaWords}
 use Rattle.problem_data.specs.Marks.{side_words, param_words}
-use Rattle.problem_data.specs.Grammar.{OneOrMore, Listed, IntWords, RangeWords, BoxWords, ShapeWords, AttributeWords, Attributes, PiecesWords, ObjectWords, OrderWords, SidesWords, ParamWords, Params, BodyWords, MacroWords, DemandWords, RuleWords, StatementWords}
-use Rattle.accepted_fronts.proofs.Alike.{Alike, pure_alike, bind_alike, either_alike, opt_alike, many_alike, named_alike}
+use Rattle.problem_data.specs.Grammar.{OneOrMore, Listed, IntWords, RangeWords, BoxWords, ShapeWords, AttributeWords, Attributes, ShapesWords, PiecesWords, ObjectWords, OrderWords, SidesWords, ParamWords, Params, BodyWords, MacroWords, DemandWords, RuleWords, StatementWords}
+use Rattle.accepted_fronts.proofs.Alike.{Alike, pure_alike, bind_alike, either_alike, opt_alike, many_alike, ended_alike, named_alike}
 use Rattle.accepted_fronts.proofs.RuleParts.{kinds_alike, word_alike, symbol_alike, numbers_alike, expr_alike, formula_alike}
 
 module _ {text other : List ℕ} where
@@ -58,11 +58,17 @@ module _ {text other : List ℕ} where
   unfolding Attributes
   attributes_alike = opt_alike _ _ [] (bind_alike _ _ _ _ (word_alike keywords.With refl) (λ t. listed_alike _ _ attribute_alike))
 
+  shapes_alike : (second : Bool) → Alike text other (ShapesWords text second) (ShapesWords other second)
+  unfolding ShapesWords
+  shapes_alike false = bind_alike _ _ _ _ (listed_alike _ _ named_alike) (λ ss. pure_alike _)
+  shapes_alike true = bind_alike _ _ _ _ named_alike (λ a. bind_alike _ _ _ _
+      (ended_alike (symbol symbols.Comma) _ _ _ _ refl named_alike (bind_alike _ _ _ _ (word_alike keywords.Absent refl) (λ t. pure_alike _))) (λ r. pure_alike _))
+
   object_alike : (second : Bool) → Alike text other (ObjectWords text second) (ObjectWords other second)
   unfolding ObjectWords
   object_alike second =
       bind_alike _ _ _ _ (word_alike keywords.Object refl) (λ t. bind_alike _ _ _ _ named_alike (λ a.
-      bind_alike _ _ _ _ (word_alike keywords.As refl) (λ u. bind_alike _ _ _ _ (listed_alike _ _ named_alike) (λ ss.
+      bind_alike _ _ _ _ (word_alike keywords.As refl) (λ u. bind_alike _ _ _ _ (shapes_alike second) (λ ss.
       bind_alike _ _ _ _ (word_alike keywords.At refl) (λ v. bind_alike _ _ _ _ (one_or_more_alike _ _ (pieces_alike second)) (λ ps.
       bind_alike _ _ _ _ attributes_alike (λ vs. bind_alike _ _ _ _ (symbol_alike symbols.Semicolon refl) (λ e. pure_alike _))))))))
 

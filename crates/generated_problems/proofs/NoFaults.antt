@@ -1,5 +1,5 @@
 -- The statements of the problem that is made have no fault.
-use Rattle.std.proofs.Common.{◌≡◌, ℕ, zero, suc, ◌-◌, ◌*◌, ◌<◌, ◌≤◌, ◌<ℤ◌, List, [], ◌∷◌, length, take, map, Some, inl, inr, refl, sym, ap, ◌∙◌, subst, arith, lit≤, lit<}
+use Rattle.std.proofs.Common.{◌≡◌, ℕ, zero, suc, ◌-◌, ◌*◌, ◌<◌, ◌≤◌, ◌<ℤ◌, List, [], ◌∷◌, length, take, map, None, Some, inl, inr, refl, sym, ap, ◌∙◌, subst, arith, lit≤, lit<}
 use Rattle.std.specs.Prelude.{pos, slice_get, slice_index, slice_index_or, codes}
 use Rattle.std.specs.List.{Contains}
 use Rattle.std.proofs.lemmas.Option.{slice_get_within, get_or_from_slice_get}
@@ -170,7 +170,8 @@ module _ (n : ℕ) (small : n < 1000) (i : ℕ) (low : 1 ≤ i) (high : 2 * i �
       let q : 2 * i - 1 < n = omega arith in
       each_right (λ m g. (Contains (shape_list n) m.name → ⊥) × (g ≡ _)) (object_tree_of (shape_list n) (object i)).shapes ((λ g v. v.0 (name_of_one (2 * i - 2) p)), ((λ g v. v.0 (name_of_one (2 * i - 1) q)), tt)) f w
   object_right f (inr (inr (inl w))) = origin_right f w
-  object_right f (inr (inr (inr w))) = no_attributes_right f w
+  object_right f (inr (inr (inr (inl w)))) = no_attributes_right f w
+  object_right f (inr (inr (inr (inr w)))) = let none : None ≡ Some w.0 = w.1 in absurd cc
 
 -- ---- rules
 

@@ -51,6 +51,7 @@ spells_whole text list tree w =
 has_parts : (names : List (List ℕ)) (i : ℕ) → HasParts false (object_tree_of names (object i))
 has_parts names i = record {
   shapes = omega arith;
+  present = λ _. refl;
   pieces = all_of (HasPieces false) (object_tree_of names (object i)).pieces ((omega arith, λ _. refl), ((omega arith, λ _. refl), ((omega arith, λ _. refl), tt)));
 }
 

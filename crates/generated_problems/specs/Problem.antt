@@ -1,5 +1,5 @@
 -- The problem that is made from a seed.
-use Rattle.std.specs.Prelude.{ℕ, pos, ◌-◌, ◌*◌, List, [], ◌∷◌, ◌++◌, codes, decimal, map, flat_map}
+use Rattle.std.specs.Prelude.{ℕ, false, pos, ◌-◌, ◌*◌, List, [], ◌∷◌, ◌++◌, codes, decimal, map, flat_map}
 use Rattle.std.specs.List.{range_with_len}
 use Rattle.problem_data.specs.declared.tree.Side.TheVariants.{Low}
 use Rattle.problem_data.specs.Problem.{BoxData, ShapeData, RangeData, ObjectData, DemandData, RuleData, ProblemData, apart, within}
@@ -41,6 +41,7 @@ abbrev pub object : ℕ → ObjectData
 object i = record {
   name = codes "o" ++ decimal i;
   shapes = (2 * i - 2) ∷ (2 * i - 1) ∷ [];
+  may_be_absent = false;
   pieces = map (λ range. range ∷ []) rack;
   attributes = [];
 }

@@ -11,14 +11,19 @@ use Rattle.geo_tokens.proofs.Facts.{Facts, MayBeEmpty, wider_by}
 use Rattle.geo_tokens.proofs.Bind.{bind_is, bind_facts}
 use Rattle.geo_tokens.proofs.Parts.{pure_facts, pure_is, opt_facts, opt_is}
 
-disjoint_nil : (ks : Kinds) → disjoint ks [] ≡ true
+pub disjoint_nil : (ks : Kinds) → disjoint ks [] ≡ true
 disjoint_nil [] = refl
 disjoint_nil (k ∷ ks) = disjoint_nil ks
 
 -- a sum that computes
-plus : ℕ → ℕ → ℕ
+unfoldable pub plus : ℕ → ℕ → ℕ
 plus zero n = n
 plus (suc k) n = suc (plus k n)
+
+pub le_plus : (k n : ℕ) → n ≤ plus k n
+unfolding plus
+le_plus zero n = omega arith
+le_plus (suc k) n = omega (arith, le_plus k n)
 
 -- where the values before were read, more may stand behind
 items_more : {A : Type 0} (M N : Lang (List A)) (a : A) → ((o : Option (List A)) (w : List Token) → M o w → N o w) → (o : Option (List A)) (w : List Token)
@@ -152,11 +157,6 @@ module _ {A : Type 0} (L : Lang A) (f e : Kinds) (l : Facts L false f e) (apart 
     steady (suc k) (suc j) (t ∷ w) p q =
         ap (λ (u : Read (List A)). if next_is f (t ∷ w) then u else Got (Some []) (t ∷ w))
         (steady_step k j (t ∷ w) (r (t ∷ w)) (is (t ∷ w)) (λ v h. steady k j v (omega arith) (omega arith)))
-
-    le_plus : (k n : ℕ) → n ≤ plus k n
-    unfolding plus
-    le_plus zero n = omega arith
-    le_plus (suc k) n = omega (arith, le_plus k n)
 
     at_each : (w : List Token) (k : ℕ) → Is (UpTo L (plus k (length w))) w (many_at f r w)
     at_each w k = subst (λ (u : Read (List A)). Is (UpTo L (plus k (length w))) w u) (steady (plus k (length w)) (length w) w (le_plus k (length w)) (omega arith)) (up_to_is (plus k (length w)) w)

@@ -4,7 +4,7 @@ use Rattle.std.specs.List.{All, Contains}
 use Rattle.std.proofs.lemmas.List.{length-append, map-append, get_or_append_left, get_or_at, get_or_default}
 use Rattle.std.proofs.lemmas.List.Elements.{All-push}
 use Rattle.std.proofs.lemmas.Bool.{cases_lt}
-use Rattle.geo_tokens.specs.Names.{NameTable, IsNameText, AllDifferent, object_names, IsShapeList, IsNameTable}
+use Rattle.geo_tokens.specs.Names.{NameTable, IsNameText, IsPlaceText, AllDifferent, object_names, IsShapeList, IsNameTable}
 
 -- the last place, or one before it
 last_or_before : (k n : ℕ) → k < n + 1 → (k < n) ⊎ (k ≡ n)
@@ -31,11 +31,11 @@ module _ {X : Type 0} (xs : List X) (x : X) where
 longer : (m n : ℕ) (xs : List ℕ) → m ≤ n → IsShapeList m xs → IsShapeList n xs
 longer m n xs h s = record { some = s.some; few = s.few; inside = λ k d l. (let b : get_or xs k d < m = s.inside k d l in omega arith); different = s.different }
 
-pub with_shape : (t : NameTable) (name : List ℕ) → IsNameTable t → IsNameText name → (Contains t.shapes name → ⊥) → IsNameTable (record t { shapes = t.shapes ++ name ∷ [] })
+pub with_shape : (t : NameTable) (name : List ℕ) → IsNameTable t → IsPlaceText name → (Contains t.shapes name → ⊥) → IsNameTable (record t { shapes = t.shapes ++ name ∷ [] })
 with_shape t name h text new = record {
   dims = h.dims;
   few = h.few;
-  shape_texts = All-push IsNameText t.shapes name h.shape_texts text;
+  shape_texts = All-push IsPlaceText t.shapes name h.shape_texts text;
   shapes_differ = different_pushed t.shapes name h.shapes_differ new;
   object_texts = h.object_texts;
   objects_differ = h.objects_differ;

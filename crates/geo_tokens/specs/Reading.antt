@@ -45,6 +45,18 @@ up_to_at ks r (suc k) w = if next_is ks w then (r w >>= λ a rest. up_to_at ks r
 abbrev pub many_at : {A : Type 0} → Kinds → (List Token → Read A) → List Token → Read (List A)
 many_at ks r w = up_to_at ks r (length w) w
 
+-- what begins with these kinds is a list of L, what begins otherwise is one of E
+abbrev pub up_to_ended_at : {A B : Type 0} → Kinds → Kinds → (List Token → Read A) → (List Token → Read B) → ℕ → List Token → Read (List A × Option B)
+up_to_ended_at marks ks r s zero w = Got (Some ([], None)) w
+up_to_ended_at marks ks r s (suc k) w =
+    opt_at marks (λ v. token_at marks v >>= λ m v1. either_at ks
+    (λ v2. r v2 >>= λ a v3. up_to_ended_at marks ks r s k v3 >>= λ q v4. Got (Some (a ∷ q.0, q.1)) v4)
+    (λ v2. s v2 >>= λ e v3. Got (Some ([], Some e)) v3) v1) ([], None) w
+
+-- lists behind marks, the last of which may be another one
+abbrev pub many_ended_at : {A B : Type 0} → Kinds → Kinds → (List Token → Read A) → (List Token → Read B) → List Token → Read (List A × Option B)
+many_ended_at marks ks r s w = up_to_ended_at marks ks r s (length w) w
+
 abbrev pub placed_at : {A B : Type 0} → (List Token → Read A) → (ℕ → A → B) → List Token → Read B
 placed_at r made w = r w >>= λ a rest. Got (Some (made (start_of w) a)) rest
 

@@ -81,6 +81,17 @@ UpTo L (suc k) = Opt (Bind L (λ a. Bind (UpTo L k) (λ others. Pure (a ∷ othe
 abbrev pub Many : {A : Type 0} → Lang A → Lang (List A)
 Many L o w = (k : ℕ) × UpTo L k o w
 
+-- at most k lists of L, each behind a mark; or fewer, and then a mark and a list of E, which ends them
+abbrev pub UpToEnded : {A B : Type 0} → Kinds → Lang A → Lang B → ℕ → Lang (List A × Option B)
+UpToEnded marks L E zero = Pure ([], None)
+UpToEnded marks L E (suc k) = Opt (Bind (Tok marks) (λ m. Either
+    (Bind L (λ a. Bind (UpToEnded marks L E k) (λ r. Pure (a ∷ r.0, r.1))))
+    (Bind E (λ e. Pure ([], Some e))))) ([], None)
+
+-- lists of L, each behind a mark, and in the end perhaps a mark and a list of E
+abbrev pub Ended : {A B : Type 0} → Kinds → Lang A → Lang B → Lang (List A × Option B)
+Ended marks L E o w = (k : ℕ) × UpToEnded marks L E k o w
+
 -- the place of the first token
 abbrev pub start_of : List Token → ℕ
 start_of [] = 0

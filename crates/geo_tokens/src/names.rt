@@ -2,7 +2,7 @@
 
 ghost use Rattle.std.specs.Prelude.{◌≡◌, ◌≤◌, ◌<◌, ◌∷◌, [], ◌++◌, length, IfOk, OnOk, OnErr};
 ghost use Rattle.std.specs.List.{Contains};
-ghost use Rattle.geo_tokens.specs.Names.{NameTable, IsNameText, IsShapeList, IsNameTable, object_names};
+ghost use Rattle.geo_tokens.specs.Names.{NameTable, IsNameText, IsPlaceText, IsShapeList, IsNameTable, object_names};
 
 use crate::name::Name;
 use std::alloc::{AllocError, Global};
@@ -120,9 +120,9 @@ impl Names {
         self.objects.as_slice()
     }
 
-    /// Appends a shape.
+    /// Appends a shape, or the word `absent`.
     pub fn add_shape(&mut self, name: &[u8]) -> Result<(), AllocError>
-        requires text { IsNameText name.now }
+        requires text { IsPlaceText name.now }
         requires new_name { Contains self.old.shapes name.now → ⊥ }
         ensures ok { OnOk result
             (self.new ≡ record self.old { shapes = self.old.shapes ++ name.now ∷ [] }) }

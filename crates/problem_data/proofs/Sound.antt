@@ -1,6 +1,6 @@
 -- What statements without a fault spell is well formed.
-use Rattle.std.proofs.Common.{◌≡◌, ◌≢◌, ◌<◌, ◌≤◌, ℕ, ℤ, pos, negsuc, ◌≤ℤ◌, ◌<ℤ◌, Bool, true, false, not, ◌==◌, if◌then◌else◌, List, [], ◌∷◌, length, take, map, get_or, subst, sym, ◌∙◌, ap, arith, refl, inl, inr, nat_eq, zero-add}
-use Rattle.std.specs.Prelude.{◌⊎◌, All, AllPairs, Contains}
+use Rattle.std.proofs.Common.{◌≡◌, ◌≢◌, ◌<◌, ◌≤◌, ℕ, ℤ, pos, negsuc, ◌≤ℤ◌, ◌<ℤ◌, Bool, true, false, not, ◌==◌, ◌+◌, if◌then◌else◌, List, [], ◌∷◌, length, take, map, get_or, subst, sym, ◌∙◌, ap, arith, refl, inl, inr, nat_eq, zero-add}
+use Rattle.std.specs.Prelude.{◌⊎◌, All, AllPairs, Contains, Option, Some, None, is_some}
 use Rattle.std.specs.List.{range_with_len}
 use Rattle.std.specs.Str.{bytes_eq}
 use Rattle.std.proofs.Math.Logic.{⊎_elim}
@@ -142,6 +142,11 @@ positions_differ names ns once made i j d l m e =
 no_pieces : List RangeText
 no_pieces = []
 
+-- where the word `absent` stands there is room for one place more
+places_few : (absent : Option ℕ) (n : ℕ) → ((place : ℕ) → absent ≡ Some place → 16 ≤ n → ⊥) → n ≤ 16 → n + (if is_some absent then 1 else 0) ≤ 16
+places_few None n h few = omega (arith, few)
+places_few (Some place) n h few = ⊎_elim (λ l. omega (arith, l)) (λ l. absurd (h place refl l)) (cases_lt n 16)
+
 object_fits : (p : ProblemData) (second : Bool) (k : ℕ) (made : List (List ℕ)) (o : ObjectTree) → k ≡ p.dims → length made ≡ length p.shapes → HasParts second o → NoFault (ObjectFault k made o) → IsObject p (object_of made o)
 object_fits p second k made o e m has h =
     let some = has.shapes in
@@ -149,7 +154,7 @@ object_fits p second k made o e m has h =
     let few : length o.shapes ≤ 16 = within_limit 16 o.shapes (λ f w. h f (inl (inl w))) in
     record {
       some = omega (arith, n);
-      few = omega (arith, n, few);
+      few = places_few o.absent (length (map (position_of made) o.shapes)) (λ place e most. h (fault place words.Limit) (inr (inr (inr (inr (place, e, omega (arith, n, most), refl)))))) (omega (arith, n, few));
       shapes = subst (λ (c : ℕ). All (λ i. i < c) (map (position_of made) o.shapes)) m (made_there made o.shapes (λ f w. h f (inr (inl w))));
       once = positions_differ made o.shapes (λ f w. h f (inl (inr w))) (λ f w. h f (inr (inl w)));
       dimensions = length-map o.pieces pieces_of ∙ counted pieces_place k o.pieces (λ f w. h f (inr (inr (inl (inl w))))) ∙ e;
@@ -157,11 +162,14 @@ object_fits p second k made o e m has h =
     }
 
 no_object : ObjectTree
-no_object = record { name = no_name; shapes = []; pieces = []; attributes = [] }
+no_object = record { name = no_name; shapes = []; absent = None; pieces = []; attributes = [] }
 
--- in version 1 each range is one piece
+-- in version 1 each range is one piece, and no object may be absent
 simple_object : (made : List (List ℕ)) (o : ObjectTree) → HasParts false o → IsSimple (object_of made o)
-simple_object made o has = all_mapped pieces_of (λ pieces. length pieces ≡ 1) o.pieces no_pieces (λ i l. length-map (get_or o.pieces i no_pieces) range_of ∙ (has.pieces i no_pieces l).1 refl)
+simple_object made o has = record {
+  pieces = all_mapped pieces_of (λ pieces. length pieces ≡ 1) o.pieces no_pieces (λ i l. length-map (get_or o.pieces i no_pieces) range_of ∙ (has.pieces i no_pieces l).1 refl);
+  present = ap is_some (has.present refl);
+}
 
 objects_fit : (p : ProblemData) (second : Bool) (k : ℕ) (made : List (List ℕ)) (os : List ObjectTree) → k ≡ p.dims → length made ≡ length p.shapes → All (HasParts second) os → NoFault (ObjectsFault k made os)
     → (length (map (object_of made) os) ≤ 200) × All (IsObject p) (map (object_of made) os)

@@ -1,7 +1,7 @@
 -- What holds of each value that tokens spell: each object has a shape, and each of its ranges a
--- piece, of which version 1 has one alone.
+-- piece, of which version 1 has one alone; and there no object may be absent.
 use Rattle.std.proofs.Common.{◌≡◌, ◌<◌, ℕ, zero, suc, List, [], ◌∷◌, length, Bool, true, false, ◌==◌, refl, subst, arith}
-use Rattle.std.specs.Prelude.{Some, All}
+use Rattle.std.specs.Prelude.{None, Some, All}
 use Rattle.std.specs.List.{filter_map}
 use Rattle.std.proofs.lemmas.List.Elements.{All-cons, All-head, All-tail}
 use Rattle.geo_tokens.specs.declared.token.Token.{Token}
@@ -12,7 +12,7 @@ use Rattle.problem_data.specs.Tree.{ObjectTree, StatementTree, a_shape, an_objec
 use Rattle.rule_syntax.specs.Grammar.{Named}
 use Rattle.problem_data.specs.Parts.{as_object}
 use Rattle.problem_data.specs.Faults.{count_of}
-use Rattle.problem_data.specs.Grammar.{OneOrMore, Listed, RangeWords, PiecesWords, is_second, ShapeWords, ObjectWords, OrderWords, SidesWords, MacroWords, RuleWords, StatementWords, ProblemWords}
+use Rattle.problem_data.specs.Grammar.{OneOrMore, Listed, RangeWords, ShapeList, ShapesWords, PiecesWords, is_second, ShapeWords, ObjectWords, OrderWords, SidesWords, MacroWords, RuleWords, StatementWords, ProblemWords}
 
 -- P holds of each value that a list of the language spells
 abbrev pub Yields : {A : Type 0} → Lang A → (A → Type 0) → Type 0
@@ -54,6 +54,7 @@ HasPieces second rs = (0 < length rs) × (second ≡ false → length rs ≡ 1)
 -- an object has at least one shape, and each of its ranges a piece
 pub record HasParts (second : Bool) (o : ObjectTree) : Type 0 where
   pub shapes : 0 < length o.shapes
+  pub present : second ≡ false → o.absent ≡ None
   pub pieces : All (HasPieces second) o.pieces
 
 abbrev pub IsFilled : Bool → StatementTree → Type 0
@@ -74,6 +75,15 @@ pieces_yields : (second : Bool) → Yields (PiecesWords second) (HasPieces secon
 unfolding PiecesWords
 pieces_yields false = then_yields _ _ (HasPieces false) (λ r. pure_yields (r ∷ []) (HasPieces false) (omega arith, λ e. refl))
 pieces_yields true = λ rs w x. (some_listed RangeWords rs w x, λ e. absurd cc)
+
+-- there is a shape, and in version 1 no word behind it
+abbrev HasShapes : Bool → ShapeList → Type 0
+HasShapes second ss = (0 < length ss.0) × (second ≡ false → ss.1 ≡ None)
+
+shapes_yields : (text : List ℕ) (second : Bool) → Yields (ShapesWords text second) (HasShapes second)
+unfolding ShapesWords
+shapes_yields text false = bind_yields _ _ (λ (ss : List PlacedName). 0 < length ss) (HasShapes false) (some_listed (Named text)) (λ ss some. pure_yields (ss, None) (HasShapes false) (some, λ e. refl))
+shapes_yields text true = then_yields _ _ (HasShapes true) (λ a. then_yields _ _ (HasShapes true) (λ r. pure_yields (a ∷ r.0, r.1) (HasShapes true) (omega arith, λ e. absurd cc)))
 
 shape_yields : (text : List ℕ) (second : Bool) → Yields (ShapeWords text) (IsFilled second)
 unfolding ShapeWords
@@ -99,9 +109,9 @@ object_yields : (text : List ℕ) (second : Bool) → Yields (ObjectWords text s
 unfolding ObjectWords
 object_yields text second =
     then_yields _ _ (IsFilled second) (λ t. then_yields _ _ (IsFilled second) (λ a. then_yields _ _ (IsFilled second) (λ u.
-    bind_yields _ _ (λ (ss : List PlacedName). 0 < length ss) (IsFilled second) (some_listed (Named text)) (λ ss some.
+    bind_yields _ _ (HasShapes second) (IsFilled second) (shapes_yields text second) (λ ss has.
     then_yields _ _ (IsFilled second) (λ v. bind_yields _ _ (All (HasPieces second)) (IsFilled second) (one_or_more_yields (PiecesWords second) (HasPieces second) (pieces_yields second)) (λ ps each.
-    then_yields _ _ (IsFilled second) (λ vs. then_yields _ _ (IsFilled second) (λ e. pure_yields _ (IsFilled second) (record { shapes = some; pieces = each })))))))))
+    then_yields _ _ (IsFilled second) (λ vs. then_yields _ _ (IsFilled second) (λ e. pure_yields _ (IsFilled second) (record { shapes = has.0; present = has.1; pieces = each })))))))))
 
 statement_yields : (text : List ℕ) (n : ℕ) (second : Bool) → Yields (StatementWords text n second) (IsFilled second)
 unfolding StatementWords

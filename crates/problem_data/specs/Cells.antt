@@ -1,9 +1,10 @@
 -- The cells of placed objects, and what `apart` and `within` say of them.
-use Rattle.std.specs.Prelude.{◌≡◌, ◌≢◌, ◌<◌, ◌≤◌, ◌+ℤ◌, ◌≤ℤ◌, ◌<ℤ◌, ℕ, ℤ, List, [], length, slice_index_or}
+use Rattle.std.specs.Prelude.{true, ◌≡◌, ◌≢◌, ◌<◌, ◌≤◌, ◌+ℤ◌, ◌≤ℤ◌, ◌<ℤ◌, ℕ, ℤ, List, [], length, slice_index_or}
 use Rattle.geo_base.specs.Boxes.{coordinate}
 use Rattle.problem_data.specs.Problem.{BoxData, RangeData, ObjectData, ProblemData}
 pub use Rattle.problem_data.specs.Pieces.{range_at}
 use Rattle.problem_data.specs.Pieces.{IsInPieces, pieces_at, hulls}
+use Rattle.problem_data.specs.Places.{place_count, is_absent_at, AreFirst}
 use Rattle.problem_data.specs.Tuple.{Spot, Tuple, spot, object_of, boxes_in}
 
 -- the box at a place of a list; none, past its end
@@ -46,7 +47,7 @@ IsWithin p ranges t = (o : ℕ) → o < length p.objects → LiesWithin p ranges
 -- the spot has a place of the object's list, and an origin of as many coordinates as there are dimensions
 pub record HasForm (p : ProblemData) (o : ObjectData) (s : Spot) : Type 0 where
   pub first : 1 ≤ s.place
-  pub last : s.place ≤ length o.shapes
+  pub last : s.place ≤ place_count o
   pub dimensions : length s.origin ≡ p.dims
 
 -- the tuple gives each object a place of its list and an origin, in its ranges or outside
@@ -55,10 +56,11 @@ pub record IsShaped (p : ProblemData) (t : Tuple) : Type 0 where
   pub each : (o : ℕ) → o < length p.objects → HasForm p (object_of p o) (spot t o)
 
 -- the spot has a place of the object's list, and each number of its origin lies in a piece of the
--- object's range
+-- object's range; at the place `absent` it is the first value of its dimension
 pub record IsSpotOf (p : ProblemData) (o : ObjectData) (s : Spot) : Type 0 where
   pub form : HasForm p o s
   pub pieces : (d : ℕ) → d < p.dims → IsInPieces (pieces_at o d) (coordinate s.origin d)
+  pub first : is_absent_at o s.place ≡ true → AreFirst p o s.origin
 
 -- the tuple gives each object a place of its list and an origin in its ranges
 pub record IsTuple (p : ProblemData) (t : Tuple) : Type 0 where

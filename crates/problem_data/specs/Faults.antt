@@ -150,9 +150,13 @@ FieldFault a f = IsFieldName a.name.name × (f ≡ fault a.name.place words.Twic
 abbrev pub AttributesFault : List AttributeText → Fault → Type 0
 AttributesFault xs f = NamesFault most_attributes (map attribute_name xs) f ⊎ Among (λ before. FieldFault) xs f
 
+-- `limit` at the word `absent` behind as many shapes as there may be
+abbrev pub AbsentFault : ObjectTree → Fault → Type 0
+AbsentFault o f = (place : ℕ) × (o.absent ≡ Some place) × (most_object_shapes ≤ length o.shapes) × (f ≡ fault place words.Limit)
+
 -- `made` are the names of the shapes that statements make
 abbrev pub ObjectFault : ℕ → List (List ℕ) → ObjectTree → Fault → Type 0
-ObjectFault k made o f = NamesFault most_object_shapes o.shapes f ⊎ NotMade made o.shapes f ⊎ OriginFault k o.pieces f ⊎ AttributesFault o.attributes f
+ObjectFault k made o f = NamesFault most_object_shapes o.shapes f ⊎ NotMade made o.shapes f ⊎ OriginFault k o.pieces f ⊎ AttributesFault o.attributes f ⊎ AbsentFault o f
 
 abbrev pub ObjectsFault : ℕ → List (List ℕ) → List ObjectTree → Fault → Type 0
 ObjectsFault k made os f = NamesFault most_objects (map object_name os) f ⊎ Among (λ before. ObjectFault k made) os f

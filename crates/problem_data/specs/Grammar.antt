@@ -4,8 +4,7 @@
 --
 --   problem   = 'geost' NUM 'dims' NUM { statement } 'end'
 --   statement = 'shape' NAME box { box } ';'
---             | 'object' NAME 'as' NAME { ',' NAME } 'at' pieces { pieces }
---               [ 'with' attr { ',' attr } ] ';'
+--             | 'object' NAME 'as' shapes 'at' pieces { pieces } [ 'with' attr { ',' attr } ] ';'
 --             | 'order' NAME { ',' NAME } ';'
 --             | 'sides' side { side } ';'
 --             | 'macro' NAME '(' [ param { ',' param } ] ')' ( 'means' formula | 'is' expr ) ';'
@@ -14,18 +13,20 @@
 --   attr      = NAME '=' int
 --   side      = 'low' | 'high'
 --   param     = NAME ':' ( 'int' | 'object' | 'box' )
+--   shapes    = NAME { ',' NAME }                    in version 1
+--             | NAME { ',' NAME } [ ',' 'absent' ]   in version 2
 --   pieces    = range               in version 1
 --             | range { ',' range }   in version 2
 --   range     = int '..' int
 --   int       = [ '-' ] NUM
-use Rattle.std.specs.Prelude.{ℕ, pos, neg_ℤ, List, [], ◌∷◌, Bool, true, false, ◌==◌}
+use Rattle.std.specs.Prelude.{ℕ, pos, neg_ℤ, List, [], ◌∷◌, Option, None, Bool, true, false, ◌==◌}
 use Rattle.geo_tokens.specs.declared.token.Keyword.TheVariants as keywords
 use Rattle.geo_tokens.specs.declared.token.Sym.TheVariants as symbols
 use Rattle.geo_tokens.specs.declared.token.Kind.{Kind}
 use Rattle.geo_tokens.specs.declared.token.Kind.TheVariants as kinds
 use Rattle.geo_tokens.specs.declared.token.Token.{Token}
 use Rattle.geo_tokens.specs.Class.{number_in}
-use Rattle.geo_tokens.specs.Words.{numbers, word, symbol, Lang, Pure, Tok, Bind, Either, Opt, Many}
+use Rattle.geo_tokens.specs.Words.{numbers, word, symbol, Lang, Pure, Tok, Bind, Either, Opt, Many, Ended}
 use Rattle.rule_syntax.specs.declared.tree.PlacedName.{PlacedName}
 use Rattle.rule_syntax.specs.Grammar.{Named, ExprWords, FormulaWords}
 use Rattle.problem_data.specs.declared.tree.Int.{Int}
@@ -79,8 +80,12 @@ param_text a t = record { name = a; kind = param_in t.kind }
 abbrev pub shape_tree : PlacedName → List BoxTree → StatementTree
 shape_tree a bs = a_shape (record { name = a; boxes = bs })
 
-abbrev pub object_tree : PlacedName → List PlacedName → List (List RangeText) → List AttributeText → StatementTree
-object_tree a ss ps vs = an_object (record { name = a; shapes = ss; pieces = ps; attributes = vs })
+-- the shapes of an object, and the place of the word `absent` where it stands behind them
+abbrev pub ShapeList : Type 0
+ShapeList = List PlacedName × Option ℕ
+
+abbrev pub object_tree : PlacedName → ShapeList → List (List RangeText) → List AttributeText → StatementTree
+object_tree a ss ps vs = an_object (record { name = a; shapes = ss.0; absent = ss.1; pieces = ps; attributes = vs })
 
 abbrev pub order_tree : Token → List PlacedName → StatementTree
 order_tree t ns = an_order (record { place = t.start; names = ns })
@@ -137,6 +142,15 @@ AttributeWords text = Bind (Named text) (λ a. Bind (Tok (symbol symbols.Equal))
 unfoldable pub Attributes : List ℕ → Lang (List AttributeText)
 Attributes text = Opt (Bind (Tok (word keywords.With)) (λ t. Listed (AttributeWords text))) []
 
+-- the word `absent`, by its place
+abbrev pub AbsentWord : Lang ℕ
+AbsentWord = Bind (Tok (word keywords.Absent)) (λ t. Pure t.start)
+
+-- the shapes of an object, in a text of version 2 or of version 1
+unfoldable pub ShapesWords : List ℕ → Bool → Lang ShapeList
+ShapesWords text false = Bind (Listed (Named text)) (λ ss. Pure (ss, None))
+ShapesWords text true = Bind (Named text) (λ a. Bind (Ended (symbol symbols.Comma) (Named text) AbsentWord) (λ r. Pure (a ∷ r.0, r.1)))
+
 -- the range of a coordinate, in a text of version 2 or of version 1
 unfoldable pub PiecesWords : Bool → Lang (List RangeText)
 PiecesWords false = Bind RangeWords (λ r. Pure (r ∷ []))
@@ -145,7 +159,7 @@ PiecesWords true = Listed RangeWords
 unfoldable pub ObjectWords : List ℕ → Bool → Lang StatementTree
 ObjectWords text second =
     Bind (Tok (word keywords.Object)) (λ t. Bind (Named text) (λ a.
-    Bind (Tok (word keywords.As)) (λ u. Bind (Listed (Named text)) (λ ss.
+    Bind (Tok (word keywords.As)) (λ u. Bind (ShapesWords text second) (λ ss.
     Bind (Tok (word keywords.At)) (λ v. Bind (OneOrMore (PiecesWords second)) (λ ps.
     Bind (Attributes text) (λ vs. Bind (Tok (symbol symbols.Semicolon)) (λ e. Pure (object_tree a ss ps vs)))))))))
 

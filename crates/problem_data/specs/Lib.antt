@@ -5,6 +5,7 @@ pub mod Grammar
 pub mod Whole
 pub mod Problem
 pub mod Pieces
+pub mod Places
 pub mod TreeCode
 pub mod ProblemCode
 pub mod ProblemView

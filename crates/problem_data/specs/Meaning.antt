@@ -1,5 +1,5 @@
 -- The problem that statements without a fault spell.
-use Rattle.std.specs.Prelude.{ℕ, ℤ, List, [], ◌∷◌, map, length, replicate}
+use Rattle.std.specs.Prelude.{ℕ, ℤ, List, [], ◌∷◌, map, length, replicate, is_some}
 use Rattle.std.specs.List.{position_or_len, range_with_len}
 use Rattle.std.specs.Str.{bytes_eq}
 use Rattle.rule_syntax.specs.declared.tree.PlacedName.{PlacedName}
@@ -39,7 +39,13 @@ abbrev pub position_of : List (List ℕ) → PlacedName → ℕ
 position_of names n = position_or_len (bytes_eq n.name) names
 
 abbrev pub object_of : List (List ℕ) → ObjectTree → ObjectData
-object_of shapes o = record { name = o.name.name; shapes = map (position_of shapes) o.shapes; pieces = map pieces_of o.pieces; attributes = map attribute_of o.attributes }
+object_of shapes o = record {
+  name = o.name.name;
+  shapes = map (position_of shapes) o.shapes;
+  may_be_absent = is_some o.absent;
+  pieces = map pieces_of o.pieces;
+  attributes = map attribute_of o.attributes;
+}
 
 abbrev pub param_of : ParamText → ParamData
 param_of p = record { name = p.name.name; kind = p.kind }

@@ -24,17 +24,18 @@ pub record AttributeData : Type 0 where
   pub name : List ℕ
   pub value : ℤ
 
--- an object: its shapes by their positions, and for each coordinate of its origin the pieces of its
--- range, in ascending order
+-- an object: its shapes by their positions, whether it may be absent, and for each coordinate of its
+-- origin the pieces of its range, in ascending order
 pub record ObjectData : Type 0 where
   pub name : List ℕ
   pub shapes : List ℕ
+  pub may_be_absent : Bool
   pub pieces : List (List RangeData)
   pub attributes : List AttributeData
 
 -- what stands past the end of a list of objects
 abbrev pub no_object : ObjectData
-no_object = record { name = []; shapes = []; pieces = []; attributes = [] }
+no_object = record { name = []; shapes = []; may_be_absent = false; pieces = []; attributes = [] }
 
 pub record ParamData : Type 0 where
   pub name : List ℕ

@@ -1,7 +1,7 @@
 -- Codes of the data of a problem, which its models need.
-use Rattle.std.specs.Prelude.{◌≡◌, ℕ, ℤ, List, ◌⊎◌, ◌==◌, if◌then◌else◌, refl}
+use Rattle.std.specs.Prelude.{◌≡◌, ℕ, ℤ, Bool, List, ◌⊎◌, ◌==◌, if◌then◌else◌, refl}
 use Rattle.std.proofs.Common.{inl, inr}
-use Rattle.std.specs.Coded.{Coded, code_by, coded×, coded⊎, coded_ℕ, coded_ℤ, coded_list}
+use Rattle.std.specs.Coded.{Coded, code_by, coded×, coded⊎, coded_ℕ, coded_ℤ, coded_bool, coded_list}
 use Rattle.rule_syntax.specs.Tree.{ExprTree, FormulaTree}
 use Rattle.problem_data.specs.declared.tree.ParamKind.{ParamKind}
 use Rattle.problem_data.specs.declared.tree.ParamKind.TheVariants as param_kinds
@@ -28,9 +28,10 @@ attribute_code = code_by (List ℕ × ℤ) (coded× (coded_list coded_ℕ) coded
 
 abbrev pub object_code : Coded ObjectData
 object_code =
-    code_by (List ℕ × (List ℕ × (List (List RangeData) × List AttributeData)))
-    (coded× (coded_list coded_ℕ) (coded× (coded_list coded_ℕ) (coded× (coded_list ranges_code) (coded_list attribute_code))))
-    (λ o. (o.name, (o.shapes, (o.pieces, o.attributes)))) (λ p. record { name = p.0; shapes = p.1.0; pieces = p.1.1.0; attributes = p.1.1.1 }) (λ _. refl)
+    code_by (List ℕ × (List ℕ × (Bool × (List (List RangeData) × List AttributeData))))
+    (coded× (coded_list coded_ℕ) (coded× (coded_list coded_ℕ) (coded× coded_bool (coded× (coded_list ranges_code) (coded_list attribute_code)))))
+    (λ o. (o.name, (o.shapes, (o.may_be_absent, (o.pieces, o.attributes)))))
+    (λ p. record { name = p.0; shapes = p.1.0; may_be_absent = p.1.1.0; pieces = p.1.1.1.0; attributes = p.1.1.1.1 }) (λ _. refl)
 
 abbrev kind_number : ParamKind → ℕ
 kind_number param_kinds.Int = 0

@@ -1,5 +1,5 @@
 -- What the statements of a text say, with the places of their tokens.
-use Rattle.std.specs.Prelude.{ℕ, List}
+use Rattle.std.specs.Prelude.{ℕ, List, Option}
 use Rattle.rule_syntax.specs.declared.tree.PlacedName.{PlacedName}
 use Rattle.rule_syntax.specs.Tree.{ExprTree, FormulaTree}
 use Rattle.problem_data.specs.declared.tree.Int.{Int}
@@ -18,10 +18,12 @@ pub record ShapeTree : Type 0 where
   pub name : PlacedName
   pub boxes : List BoxTree
 
--- an object, with the pieces of the range of each coordinate
+-- an object, with the place of the word `absent` where it stands, and with the pieces of the range
+-- of each coordinate
 pub record ObjectTree : Type 0 where
   pub name : PlacedName
   pub shapes : List PlacedName
+  pub absent : Option ℕ
   pub pieces : List (List RangeText)
   pub attributes : List AttributeText
 

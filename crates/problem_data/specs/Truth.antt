@@ -1,7 +1,7 @@
 -- The truth of a formula on a tuple.
 use Rattle.std.specs.Prelude.{ℕ, zero, suc, ◌==◌, nat_le, ◌&&◌, ◌||◌, not, Bool, true, false, if◌then◌else◌, List, [], ◌∷◌, map, length, ℤ, pos, int_lt, slice_index_or}
 use Rattle.std.specs.Option.{option_map_or}
-use Rattle.std.specs.List.{list_all, list_any, count_by, filter_map, range_with_len}
+use Rattle.std.specs.List.{list_all, list_any, count_by, filter, filter_map, range_with_len}
 use Rattle.rule_syntax.specs.declared.tree.PlacedName.{PlacedName}
 use Rattle.rule_syntax.specs.declared.tree.Rel.{Rel}
 use Rattle.rule_syntax.specs.declared.tree.Rel.TheVariants.{Lt, Le, Eq, Ne, Ge, Gt}
@@ -10,7 +10,8 @@ use Rattle.rule_syntax.specs.declared.tree.QuantKind.TheVariants.{ForAll, Exists
 use Rattle.rule_syntax.specs.Tree.{CollTree, all_objects, listed, boxes_of, FormulaTree, truth, falsehood, negation, all_of, any_of, implication, equivalence, comparison, quantified, formula_call, FormulaTrees, no_formulas, a_formula}
 use Rattle.problem_data.specs.Problem.{ParamData, MacroData, ProblemData}
 use Rattle.problem_data.specs.Tree.{BodyTree, means, equals}
-use Rattle.problem_data.specs.Tuple.{Tuple, boxes_in}
+use Rattle.problem_data.specs.Tuple.{Tuple, spot_of, object_of, boxes_in}
+use Rattle.problem_data.specs.Places.{is_absent_at}
 use Rattle.problem_data.specs.Value.{Thing, Number, Object, Part, Env, bind, look, object_position, macro_position, Calls, things, value}
 
 abbrev pub compare : Rel → ℤ → ℤ → Bool
@@ -40,11 +41,22 @@ boxes_of_thing p t (Part b) = []
 abbrev pub listed_objects : ProblemData → List PlacedName → List ℕ
 listed_objects p ns = filter_map (λ n. object_position p n.name) ns
 
+-- what a quantifier's variable could stand for: all objects, the listed ones, or the boxes of an
+-- object
+abbrev pub candidates : ProblemData → Tuple → CollTree → Env → List Thing
+candidates p t all_objects env = map Object (range_with_len 0 (length p.objects))
+candidates p t (listed ns) env = map Object (listed_objects p ns)
+candidates p t (boxes_of a) env = boxes_of_thing p t (look p a.name env)
+
+-- it is no object that the tuple leaves out
+abbrev pub is_there : ProblemData → Tuple → Thing → Bool
+is_there p t (Number z) = true
+is_there p t (Object o) = not (is_absent_at (object_of p o) (spot_of t o).place)
+is_there p t (Part b) = true
+
 -- the elements that a quantifier's variable ranges over
 abbrev pub elements : ProblemData → Tuple → CollTree → Env → List Thing
-elements p t all_objects env = map Object (range_with_len 0 (length p.objects))
-elements p t (listed ns) env = map Object (listed_objects p ns)
-elements p t (boxes_of a) env = boxes_of_thing p t (look p a.name env)
+elements p t coll env = filter (is_there p t) (candidates p t coll env)
 
 abbrev mutual
   pub holds : Calls → ProblemData → Tuple → FormulaTree → Env → Bool

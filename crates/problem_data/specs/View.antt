@@ -36,7 +36,7 @@ abbrev pub pieces_views : Vec PiecesText Global → List (List RangeText)
 pieces_views ps = map pieces_view ps.items
 
 abbrev pub object_view : ObjectText → ObjectTree
-object_view o = record { name = o.name; shapes = o.shapes.items; pieces = pieces_views o.pieces; attributes = o.attributes.items }
+object_view o = record { name = o.name; shapes = o.shapes.items; absent = o.absent; pieces = pieces_views o.pieces; attributes = o.attributes.items }
 
 abbrev pub order_view : OrderText → OrderTree
 order_view o = record { place = o.place; names = o.names.items }

@@ -1,8 +1,9 @@
 -- What holds of the data of every problem that a text says.
-use Rattle.std.specs.Prelude.{◌≡◌, ◌≢◌, ◌<◌, ◌≤◌, ◌≤ℤ◌, ◌<ℤ◌, ℕ, List, length, pos, negsuc, ◌⊎◌, All, AllPairs, Contains}
+use Rattle.std.specs.Prelude.{false, ◌≡◌, ◌≢◌, ◌<◌, ◌≤◌, ◌≤ℤ◌, ◌<ℤ◌, ℕ, List, length, pos, negsuc, ◌⊎◌, All, AllPairs, Contains}
 use Rattle.problem_data.specs.Limits.{most_dims, most_first_dims, most_pieces}
 use Rattle.problem_data.specs.Problem.{BoxData, RangeData, ObjectData, DemandData, apart, within, plain, ProblemData}
 use Rattle.problem_data.specs.Pieces.{AreApart}
+use Rattle.problem_data.specs.Places.{place_count}
 
 -- an offset and a size from 1 on for each dimension
 pub record IsBox (k : ℕ) (b : BoxData) : Type 0 where
@@ -23,10 +24,11 @@ pub record ArePieces (pieces : List RangeData) : Type 0 where
   pub ranges : All IsRange pieces
   pub apart : AreApart pieces
 
--- 1 to 16 different shapes that are there, and the pieces of a range for each dimension
+-- a shape or more, 1 to 16 places, different shapes that are there, and the pieces of a range for
+-- each dimension
 pub record IsObject (p : ProblemData) (o : ObjectData) : Type 0 where
   pub some : 0 < length o.shapes
-  pub few : length o.shapes ≤ 16
+  pub few : place_count o ≤ 16
   pub shapes : All (λ n. n < length p.shapes) o.shapes
   pub once : AllPairs (λ m n. m ≢ n) o.shapes
   pub dimensions : length o.pieces ≡ p.dims
@@ -37,9 +39,14 @@ IsDemand k apart = Unit {0}
 IsDemand k (within ranges) = (length ranges ≡ k) × All IsRange ranges
 IsDemand k (plain f) = Unit {0}
 
--- each range of the object is one piece
-abbrev pub IsSimple : ObjectData → Type 0
-IsSimple o = All (λ pieces. length pieces ≡ 1) o.pieces
+-- the object cannot be left out
+abbrev pub IsPresent : ObjectData → Type 0
+IsPresent o = o.may_be_absent ≡ false
+
+-- each range of the object is one piece, and the object cannot be left out
+pub record IsSimple (o : ObjectData) : Type 0 where
+  pub pieces : All (λ pieces. length pieces ≡ 1) o.pieces
+  pub present : IsPresent o
 
 pub record IsWellFormed (p : ProblemData) : Type 0 where
   pub version : (p.version ≡ 1) ⊎ (p.version ≡ 2)

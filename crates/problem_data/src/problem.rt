@@ -1,10 +1,11 @@
 //! A problem: what a text with no fault says.
 
-ghost use Rattle.std.specs.Prelude.{◌≡◌, ◌<◌, length, map};
+ghost use Rattle.std.specs.Prelude.{◌≡◌, ◌<◌, ◌≤◌, length, map};
 ghost use Rattle.problem_data.specs.View.{body_view};
 ghost use Rattle.problem_data.specs.ProblemView.{range_data, attribute_data, param_data, demand_data};
 ghost use Rattle.problem_data.specs.Accepted.{IsSaid};
 ghost use Rattle.problem_data.specs.Pieces.{hull, pieces_at};
+ghost use Rattle.problem_data.specs.Places.{place_count, is_absent_at};
 ghost use Rattle.problem_data.specs.WellFormed.{IsWellFormed};
 
 use crate::tree::{MacroBody, ParamKind, Side};
@@ -187,11 +188,12 @@ impl Drop for AttributeDef {
     }
 }
 
-/// An object: its shapes by their positions in the list of shapes, from 0, the range of each
-/// coordinate of its origin by its pieces, and its attributes.
+/// An object: its shapes by their positions in the list of shapes, from 0, whether it may be absent,
+/// the range of each coordinate of its origin by its pieces, and its attributes.
 pub struct ObjectDef {
     name: Name,
     shapes: Vec<u16>,
+    may_be_absent: bool,
     pieces: Vec<PiecesDef>,
     attributes: Vec<AttributeDef>,
 }
@@ -201,6 +203,7 @@ impl Drop for ObjectDef {
         let ObjectDef {
             name: _name,
             shapes: _shapes,
+            may_be_absent: _,
             pieces: _pieces,
             attributes: _attributes,
         } = self;
@@ -220,6 +223,7 @@ impl Model for ObjectDef {
     ghost view = { λ o. record {
       name = o.name;
       shapes = o.shapes.items;
+      may_be_absent = o.may_be_absent;
       pieces = o.pieces.items;
       attributes = map attribute_data o.attributes.items;
     } };
@@ -230,12 +234,14 @@ impl ObjectDef {
     pub fn new(
         name: Name,
         shapes: Vec<u16>,
+        may_be_absent: bool,
         pieces: Vec<PiecesDef>,
         attributes: Vec<AttributeDef>,
     ) -> ObjectDef
         ensures { result ≡ record {
           name = name;
           shapes = shapes.items;
+          may_be_absent = may_be_absent;
           pieces = pieces.items;
           attributes = map attribute_data attributes.items;
         } }
@@ -243,6 +249,7 @@ impl ObjectDef {
         ObjectDef {
             name,
             shapes,
+            may_be_absent,
             pieces,
             attributes,
         }
@@ -260,6 +267,33 @@ impl ObjectDef {
         ensures { result.now ≡ self.now.shapes }
     {
         self.shapes.as_slice()
+    }
+
+    /// Whether it may be absent.
+    pub fn may_be_absent(&self) -> bool
+        ensures { result ≡ self.now.may_be_absent }
+    {
+        self.may_be_absent
+    }
+
+    /// How many places it has: those of its shapes, and one behind them where it may be absent.
+    pub fn places(&self) -> usize
+        requires few { length self.now.shapes ≤ 16 }
+        ensures { result ≡ place_count self.now }
+    {
+        if self.may_be_absent {
+            self.shapes.len() + 1
+        } else {
+            self.shapes.len()
+        }
+    }
+
+    /// Whether it is absent at this place.
+    pub fn is_absent_at(&self, place: usize) -> bool
+        requires few { length self.now.shapes ≤ 16 }
+        ensures { result ≡ is_absent_at self.now place }
+    {
+        self.may_be_absent && place == self.shapes.len() + 1
     }
 
     /// The range of each coordinate of its origin, by its pieces.

@@ -63,11 +63,12 @@ impl Drop for PiecesText {
     }
 }
 
-/// The statement of an object.
+/// The statement of an object, with the place of the word `absent` where it stands.
 #[derive(Drop)]
 pub struct ObjectText {
     pub name: PlacedName,
     pub shapes: Vec<PlacedName>,
+    pub absent: Option<u64>,
     pub pieces: Vec<PiecesText>,
     pub attributes: Vec<AttributeText>,
 }

@@ -13,10 +13,10 @@ use Rattle.geo_tokens.specs.Deep.{IsReading}
 use Rattle.geo_tokens.proofs.Levels.{is_reading}
 use Rattle.geo_tokens.proofs.OneToken.{of_kind, has_self}
 use Rattle.rule_syntax.specs.Grammar.{Named, ExprWords, FormulaWords}
-use Rattle.rule_reading.proofs.Steps.{Step, tok_step, pure_step, bind_step, either_step, opt_step, many_step, steps_split}
+use Rattle.rule_reading.proofs.Steps.{Step, tok_step, pure_step, bind_step, either_step, opt_step, many_step, ended_step, steps_split}
 use Rattle.rule_reading.proofs.Limits.{expr_step, formula_step}
 use Rattle.problem_data.specs.Marks.{side_words, param_words}
-use Rattle.problem_data.specs.Grammar.{OneOrMore, Listed, IntWords, RangeWords, BoxWords, ShapeWords, AttributeWords, Attributes, PiecesWords, is_second, ObjectWords, OrderWords, SidesWords, ParamWords, Params, BodyWords, MacroWords, DemandWords, RuleWords, StatementWords, ProblemWords}
+use Rattle.problem_data.specs.Grammar.{OneOrMore, Listed, IntWords, RangeWords, BoxWords, ShapeWords, AttributeWords, Attributes, ShapesWords, PiecesWords, is_second, ObjectWords, OrderWords, SidesWords, ParamWords, Params, BodyWords, MacroWords, DemandWords, RuleWords, StatementWords, ProblemWords}
 use Rattle.problem_syntax.specs.Reading.{problem_at}
 use Rattle.problem_syntax.proofs.Right.{problem_good}
 
@@ -86,11 +86,17 @@ module _ (text : List ℕ) where
   unfolding Attributes
   attributes_step = opt_step _ _ [] (bind_step _ _ _ _ (word_step keywords.With) (λ t. listed_step _ _ attribute_step))
 
+  shapes_step : (second : Bool) → Step (ShapesWords text second) (ShapesWords text second)
+  unfolding ShapesWords
+  shapes_step false = bind_step _ _ _ _ (listed_step _ _ (named_step text)) (λ ss. pure_step _)
+  shapes_step true = bind_step _ _ _ _ (named_step text) (λ a. bind_step _ _ _ _
+      (ended_step (symbol symbols.Comma) _ _ _ _ (of_kind (kinds.Symbol symbols.Comma)) (has_self (kinds.Symbol symbols.Comma)) (named_step text) (bind_step _ _ _ _ (word_step keywords.Absent) (λ t. pure_step _))) (λ r. pure_step _))
+
   object_step : (second : Bool) → Step (ObjectWords text second) (ObjectWords text second)
   unfolding ObjectWords
   object_step second =
       bind_step _ _ _ _ (word_step keywords.Object) (λ t. bind_step _ _ _ _ (named_step text) (λ a.
-      bind_step _ _ _ _ (word_step keywords.As) (λ u. bind_step _ _ _ _ (listed_step _ _ (named_step text)) (λ ss.
+      bind_step _ _ _ _ (word_step keywords.As) (λ u. bind_step _ _ _ _ (shapes_step second) (λ ss.
       bind_step _ _ _ _ (word_step keywords.At) (λ v. bind_step _ _ _ _ (one_or_more_step _ _ (pieces_step second)) (λ ps.
       bind_step _ _ _ _ attributes_step (λ vs. bind_step _ _ _ _ (symbol_step symbols.Semicolon) (λ e. pure_step _))))))))
 

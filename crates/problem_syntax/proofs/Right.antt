@@ -8,15 +8,16 @@ use Rattle.geo_tokens.specs.Words.{Kinds, names, numbers, word, symbol, Lang, Bi
 use Rattle.geo_tokens.specs.Reading.{Read}
 use Rattle.geo_tokens.proofs.Lists.{disjoint}
 use Rattle.geo_tokens.proofs.Good.{Good, pure_good, one_good, bind_good, either_good, opt_good, many_good, wider_good}
-use Rattle.geo_tokens.proofs.OneToken.{of_kind, number_good, word_good, symbol_good}
+use Rattle.geo_tokens.proofs.Ended.{ended_good}
+use Rattle.geo_tokens.proofs.OneToken.{of_kind, has_self, number_good, word_good, symbol_good}
 use Rattle.rule_syntax.proofs.Expressions.{named_good, expr_good}
 use Rattle.rule_reading.proofs.Formulas.{formula_good}
 use Rattle.rule_syntax.specs.Marks.{unary_firsts, expr_behinds, formula_behinds}
 use Rattle.rule_syntax.specs.Grammar.{Named}
 use Rattle.rule_syntax.specs.Reading.{named_at}
 use Rattle.problem_data.specs.Marks.{int_firsts, side_words, param_words, statement_firsts}
-use Rattle.problem_data.specs.Grammar.{OneOrMore, Listed, PlainInt, NegativeInt, IntWords, RangeWords, BoxWords, ShapeWords, AttributeWords, Attributes, PiecesWords, is_second, ObjectWords, OrderWords, SideWords, SidesWords, ParamWords, Params, BodyWords, MacroWords, DemandWords, RuleWords, StatementWords, ProblemWords}
-use Rattle.problem_syntax.specs.Reading.{one_or_more_at, next_at, listed_at, plain_int_at, negative_int_at, int_at, ints_at, range_at, ranges_at, box_at, boxes_at, names_at, shape_at, attribute_at, attribute_list_at, attributes_at, pieces_at, each_pieces_at, object_at, order_at, side_at, side_list_at, sides_at, param_at, param_list_at, params_at, body_at, macro_at, demand_at, rule_at, statement_at, problem_at}
+use Rattle.problem_data.specs.Grammar.{OneOrMore, Listed, PlainInt, NegativeInt, IntWords, RangeWords, BoxWords, ShapeWords, AttributeWords, Attributes, AbsentWord, ShapesWords, PiecesWords, is_second, ObjectWords, OrderWords, SideWords, SidesWords, ParamWords, Params, BodyWords, MacroWords, DemandWords, RuleWords, StatementWords, ProblemWords}
+use Rattle.problem_syntax.specs.Reading.{one_or_more_at, next_at, listed_at, plain_int_at, negative_int_at, int_at, ints_at, range_at, ranges_at, box_at, boxes_at, names_at, shape_at, attribute_at, attribute_list_at, attributes_at, absent_at, shapes_at, pieces_at, each_pieces_at, object_at, order_at, side_at, side_list_at, sides_at, param_at, param_list_at, params_at, body_at, macro_at, demand_at, rule_at, statement_at, problem_at}
 
 -- ---- lists
 
@@ -77,6 +78,9 @@ boxes_good = one_or_more_good refl refl refl box_good
 
 -- ---- statements
 
+pub absent_good : Good AbsentWord absent_at false (word keywords.Absent) []
+absent_good = bind_good refl (word_good keywords.Absent) (λ t. pure_good _)
+
 module _ (text : List ℕ) where
   pub next_name_good : Good (Bind (Tok (symbol symbols.Comma)) (λ mark. Named text)) (next_at (named_at text)) false (symbol symbols.Comma) []
   next_name_good = next_good (named_good text)
@@ -104,11 +108,17 @@ module _ (text : List ℕ) where
   unfolding Attributes attributes_at
   attributes_good = opt_good [] (bind_good refl (word_good keywords.With) (λ t. attribute_list_good))
 
+  shapes_good : (second : Bool) → Good (ShapesWords text second) (shapes_at text second) false names (symbol symbols.Comma)
+  unfolding ShapesWords shapes_at
+  shapes_good false = wider_good names (symbol symbols.Comma) refl refl refl (bind_good refl names_good (λ ss. pure_good _))
+  shapes_good true = wider_good names (symbol symbols.Comma) refl refl refl (bind_good refl (named_good text) (λ a. bind_good refl
+      (ended_good (symbol symbols.Comma) (of_kind (kinds.Symbol symbols.Comma)) (has_self (kinds.Symbol symbols.Comma)) refl refl (named_good text) absent_good) (λ r. pure_good _)))
+
   object_good : (second : Bool) → Good (ObjectWords text second) (object_at text second) false (word keywords.Object) []
   unfolding ObjectWords object_at
   object_good second =
       bind_good refl (word_good keywords.Object) (λ t. bind_good refl (named_good text) (λ a.
-      bind_good refl (word_good keywords.As) (λ u. bind_good refl names_good (λ ss.
+      bind_good refl (word_good keywords.As) (λ u. bind_good refl (shapes_good second) (λ ss.
       bind_good refl (word_good keywords.At) (λ v. bind_good refl (each_pieces_good second) (λ ps.
       bind_good refl attributes_good (λ vs. bind_good refl (symbol_good symbols.Semicolon) (λ e. pure_good _))))))))
 

@@ -1,9 +1,10 @@
 -- Reading the grammar from the left: one definition for each language, of the same form.
-use Rattle.std.specs.Prelude.{ℕ, List, [], ◌∷◌, Some, Bool, true, false}
+use Rattle.std.specs.Prelude.{ℕ, List, [], ◌∷◌, Option, Some, None, Bool, true, false, ◌&&◌, drop}
+use Rattle.geo_tokens.specs.declared.token.Token.{Token}
 use Rattle.geo_tokens.specs.declared.token.Keyword.TheVariants as keywords
 use Rattle.geo_tokens.specs.declared.token.Sym.TheVariants as symbols
 use Rattle.geo_tokens.specs.Words.{Kinds, names, numbers, word, symbol}
-use Rattle.geo_tokens.specs.Reading.{Got, ◌>>=◌, token_at, either_at, opt_at, many_at}
+use Rattle.geo_tokens.specs.Reading.{Got, ◌>>=◌, next_is, token_at, either_at, opt_at, many_at, many_ended_at}
 use Rattle.rule_syntax.specs.declared.tree.PlacedName.{PlacedName}
 use Rattle.rule_syntax.specs.Reading.{Reader, named_at, expr_at, formula_at}
 use Rattle.problem_data.specs.declared.tree.Int.{Int}
@@ -13,7 +14,7 @@ use Rattle.problem_data.specs.declared.tree.SideText.{SideText}
 use Rattle.problem_data.specs.declared.tree.ParamText.{ParamText}
 use Rattle.problem_data.specs.Marks.{int_firsts, side_words, param_words, statement_firsts}
 use Rattle.problem_data.specs.Tree.{BoxTree, BodyTree, means, equals, DemandTree, apart, within, plain, StatementTree, ProblemTree}
-use Rattle.problem_data.specs.Grammar.{is_second, plain_int, negative_int, range_text, box_tree, attribute_text, side_text, param_text, shape_tree, object_tree, order_tree, sides_tree, macro_tree, rule_tree}
+use Rattle.problem_data.specs.Grammar.{ShapeList, is_second, plain_int, negative_int, range_text, box_tree, attribute_text, side_text, param_text, shape_tree, object_tree, order_tree, sides_tree, macro_tree, rule_tree}
 
 -- ---- lists
 
@@ -77,6 +78,33 @@ some_attributes_at text w = token_at (word keywords.With) w >>= λ t rest. attri
 unfoldable pub attributes_at : List ℕ → Reader (List AttributeText)
 attributes_at text = opt_at (word keywords.With) (some_attributes_at text) []
 
+-- the word `absent`, by its place
+abbrev pub absent_at : Reader ℕ
+absent_at w = token_at (word keywords.Absent) w >>= λ t rest. Got (Some t.start) rest
+
+-- a comma and the word, where a comma stands
+abbrev pub some_absent_at : Reader (Option ℕ)
+some_absent_at = opt_at (symbol symbols.Comma) (λ w. token_at (symbol symbols.Comma) w >>= λ mark w1. absent_at w1 >>= λ place rest. Got (Some (Some place)) rest) None
+
+-- a comma stands here, and a name behind it
+abbrev pub next_is_name : List Token → Bool
+next_is_name w = next_is (symbol symbols.Comma) w && next_is names (drop 1 w)
+
+-- shapes behind commas, the last of which may be the word
+abbrev pub more_shapes_at : List ℕ → Reader ShapeList
+more_shapes_at text = many_ended_at (symbol symbols.Comma) names (named_at text) absent_at
+
+-- the shapes of an object, in a text of version 2 or of version 1
+abbrev pub names_alone_at : List ℕ → Reader ShapeList
+names_alone_at text w = names_at text w >>= λ ss rest. Got (Some (ss, None)) rest
+
+abbrev pub names_or_absent_at : List ℕ → Reader ShapeList
+names_or_absent_at text w = named_at text w >>= λ a v. more_shapes_at text v >>= λ r rest. Got (Some (a ∷ r.0, r.1)) rest
+
+unfoldable pub shapes_at : List ℕ → Bool → Reader ShapeList
+shapes_at text false = names_alone_at text
+shapes_at text true = names_or_absent_at text
+
 -- the range of a coordinate, in a text of version 2 or of version 1
 abbrev pub one_piece_at : Reader (List RangeText)
 one_piece_at w = range_at w >>= λ r rest. Got (Some (r ∷ [])) rest
@@ -89,14 +117,14 @@ unfoldable pub each_pieces_at : Bool → Reader (List (List RangeText))
 each_pieces_at second = one_or_more_at int_firsts (pieces_at second)
 
 -- the ranges and the attributes of an object with this name and these shapes
-abbrev pub object_rest_at : List ℕ → Bool → PlacedName → List PlacedName → Reader StatementTree
+abbrev pub object_rest_at : List ℕ → Bool → PlacedName → ShapeList → Reader StatementTree
 object_rest_at text second a ss w =
     token_at (word keywords.At) w >>= λ v w1. each_pieces_at second w1 >>= λ ps w2. attributes_at text w2 >>= λ vs w3. ended_at (object_tree a ss ps vs) w3
 
 unfoldable pub object_at : List ℕ → Bool → Reader StatementTree
 object_at text second w =
     token_at (word keywords.Object) w >>= λ t w1. named_at text w1 >>= λ a w2.
-    token_at (word keywords.As) w2 >>= λ u w3. names_at text w3 >>= λ ss w4. object_rest_at text second a ss w4
+    token_at (word keywords.As) w2 >>= λ u w3. shapes_at text second w3 >>= λ ss w4. object_rest_at text second a ss w4
 
 unfoldable pub order_at : List ℕ → Reader StatementTree
 order_at text w = token_at (word keywords.Order) w >>= λ t w1. names_at text w1 >>= λ ns w2. ended_at (order_tree t ns) w2

@@ -7,5 +7,6 @@ pub mod objects;
 pub mod order;
 mod pieces;
 pub mod rules;
+mod shapes;
 pub mod statements;
 pub mod syntax;

@@ -5,10 +5,12 @@ ghost use Rattle.geo_tokens.specs.Gives.{Gives};
 ghost use Rattle.rule_syntax.specs.Reading.{named_at};
 ghost use Rattle.problem_syntax.specs.Reading.{next_at, box_at, boxes_at, shape_at, names_at, attribute_at, attribute_list_at, attributes_at, object_rest_at, object_at};
 ghost use Rattle.problem_data.specs.View.{box_view, box_views, statement_view};
+ghost use Rattle.problem_syntax.specs.ShapeNames.{shape_list};
 
 use crate::end::ended;
 use crate::numbers::{int, ints};
 use crate::pieces::each_pieces;
+use crate::shapes::{ShapeNames, shapes};
 use geo_tokens::stop::{Stop, add, behind, followed_by, next_is, token};
 use geo_tokens::token::{Keyword, Kind, Sym, Token};
 use problem_data::tree::{AttributeText, BoxText, ObjectText, ShapeText, Statement};
@@ -65,7 +67,7 @@ pub fn shape<'a>(
 }
 
 /// A comma and a name.
-fn next_name<'a>(
+pub fn next_name<'a>(
     alloc: Global,
     text: &[u8],
     tokens: &'a [Token],
@@ -162,20 +164,22 @@ fn object_rest<'a>(
     text: &[u8],
     second: bool,
     name: PlacedName,
-    shapes: Vec<PlacedName>,
+    shapes: ShapeNames,
     tokens: &'a [Token],
 ) -> Result<(Statement, &'a [Token]), Stop<'a>>
     ensures { Gives statement_view result
-        (object_rest_at text.now second name shapes.items tokens.now) }
+        (object_rest_at text.now second name (shape_list shapes) tokens.now) }
 {
     let Some(rest) = behind(tokens, Kind::Word(Keyword::At)) else {
         return Err(Stop::Wrong(tokens));
     };
     let (pieces, rest) = each_pieces(alloc, second, rest)?;
     let (attributes, rest) = attributes(alloc, text, rest)?;
+    let ShapeNames { names, absent } = shapes;
     let object = ObjectText {
         name,
-        shapes,
+        shapes: names,
+        absent,
         pieces,
         attributes,
     };
@@ -197,6 +201,6 @@ pub fn object<'a>(
     };
     let name = placed_name(alloc, text, rest);
     let (name, rest) = followed_by(name, Kind::Word(Keyword::As))?;
-    let (shapes, rest) = names(alloc, text, rest)?;
+    let (shapes, rest) = shapes(alloc, text, second, rest)?;
     object_rest(alloc, text, second, name, shapes, rest)
 }

@@ -1,5 +1,6 @@
 -- Statements without places: taking places away changes neither which statements there are nor what they mean.
 use Rattle.std.proofs.Common.{◌≡◌, ℕ, List, [], ◌∷◌, map, Option, Some, None, option_map, refl, ap, ◌∙◌}
+use Rattle.std.specs.Prelude.{is_some}
 use Rattle.std.specs.List.{filter_map, cons_option}
 use Rattle.rule_print.specs.Spelled.{bare_name}
 use Rattle.problem_data.specs.Tree.{BoxTree, ShapeTree, ObjectTree, OrderTree, SidesTree, MacroTree, DemandTree, apart, within, plain, RuleTree, BodyTree, means, equals, StatementTree, a_shape, an_object, an_order, some_sides, a_macro, a_rule, ProblemTree}
@@ -9,7 +10,7 @@ use Rattle.problem_data.specs.Meaning as meaning
 use Rattle.problem_text.specs.ReadBack.{bare_macro, bare_rule, bare_problem}
 use Rattle.problem_text.specs.ReadBack.{bare_demand as bare_demand_data, bare_body as bare_body_data}
 use Rattle.problem_data.specs.Problem.{within as inside}
-use Rattle.problem_text.proofs.PrintingParts.{bare_int, bare_range, bare_pieces, bare_box, bare_attribute, bare_param, bare_side, bare_body, bare_demand}
+use Rattle.problem_text.proofs.PrintingParts.{bare_absent, bare_int, bare_range, bare_pieces, bare_box, bare_attribute, bare_param, bare_side, bare_body, bare_demand}
 use Rattle.problem_text.proofs.PrintingStatements.{bare_statement}
 use Rattle.problem_text.proofs.PrintingProblem.{bare_problem_tree}
 
@@ -17,7 +18,7 @@ abbrev pub bare_shape : ShapeTree → ShapeTree
 bare_shape s = record { name = bare_name s.name; boxes = map bare_box s.boxes }
 
 abbrev pub bare_object : ObjectTree → ObjectTree
-bare_object o = record { name = bare_name o.name; shapes = map bare_name o.shapes; pieces = map bare_pieces o.pieces; attributes = map bare_attribute o.attributes }
+bare_object o = record { name = bare_name o.name; shapes = map bare_name o.shapes; absent = bare_absent o.absent; pieces = map bare_pieces o.pieces; attributes = map bare_attribute o.attributes }
 
 abbrev pub bare_order : OrderTree → OrderTree
 bare_order o = record { place = 0; names = map bare_name o.names }
@@ -142,10 +143,15 @@ box_bare b = λ i. record { offsets = map_after meaning.number_of bare_int meani
 shape_bare : (s : ShapeTree) → meaning.shape_of (bare_shape s) ≡ meaning.shape_of s
 shape_bare s = λ i. record { name = s.name.name; boxes = map_after meaning.box_of bare_box meaning.box_of box_bare s.boxes i }
 
+absent_bare : (a : Option ℕ) → is_some (bare_absent a) ≡ is_some a
+absent_bare None = refl
+absent_bare (Some place) = refl
+
 object_bare : (names : List (List ℕ)) (o : ObjectTree) → meaning.object_of names (bare_object o) ≡ meaning.object_of names o
 object_bare names o = λ i. record {
   name = o.name.name;
   shapes = map_after (meaning.position_of names) bare_name (meaning.position_of names) (λ n. refl) o.shapes i;
+  may_be_absent = absent_bare o.absent i;
   pieces = map_after meaning.pieces_of bare_pieces meaning.pieces_of (λ rs. map_after meaning.range_of bare_range meaning.range_of (λ r. refl) rs) o.pieces i;
   attributes = map_after meaning.attribute_of bare_attribute meaning.attribute_of (λ a. refl) o.attributes i;
 }

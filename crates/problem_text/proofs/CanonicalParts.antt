@@ -1,6 +1,6 @@
 -- The statements of a canonical text by their kinds, and that they mean the problem, places aside.
 use Rattle.std.proofs.Common.{◌≡◌, ℕ, List, [], ◌∷◌, ◌++◌, map, length, Option, Some, None, Bool, true, false, refl, ap, ◌∙◌}
-use Rattle.std.specs.Prelude.{pos, not, replicate, if◌then◌else◌}
+use Rattle.std.specs.Prelude.{pos, not, is_some, replicate, if◌then◌else◌}
 use Rattle.std.specs.List.{filter_map, cons_option, list_any, range_with_len, position_or_len}
 use Rattle.std.specs.Str.{bytes_eq}
 use Rattle.std.proofs.lemmas.List.{append-nil}
@@ -15,7 +15,7 @@ use Rattle.problem_data.specs.Problem.{BoxData, ShapeData, RangeData, ObjectData
 use Rattle.problem_text.specs.Canonical.{name_at, counts_from, shape_spelling, object_spelling, macro_spelling, rule_spelling, order_spelling, sides_spelling}
 use Rattle.problem_text.specs.Canonical as canonical
 use Rattle.problem_text.specs.ReadBack.{bare_macro, bare_demand, bare_rule, bare_problem}
-use Rattle.problem_text.proofs.PrintingParts.{int_of, name_of, range_of, pieces_of, box_of, attribute_of, param_of, side_of, demand_of, bare_body}
+use Rattle.problem_text.proofs.PrintingParts.{absent_of, int_of, name_of, range_of, pieces_of, box_of, attribute_of, param_of, side_of, demand_of, bare_body}
 use Rattle.problem_text.proofs.PrintingStatements.{shape_of, object_of, order_of, sides_of, macro_of, rule_of}
 use Rattle.problem_text.proofs.PrintingProblem.{Line, line_where, ways, all_statements, tree_of}
 use Rattle.problem_text.proofs.BareParts.{map_back, map_after, body_bare}
@@ -26,7 +26,7 @@ abbrev pub shape_tree_of : ShapeData → ShapeTree
 shape_tree_of s = record { name = name_of s.name; boxes = map box_of s.boxes }
 
 abbrev pub object_tree_of : List (List ℕ) → ObjectData → ObjectTree
-object_tree_of names o = record { name = name_of o.name; shapes = map (λ i. name_of (name_at names i)) o.shapes; pieces = map pieces_of o.pieces; attributes = map attribute_of o.attributes }
+object_tree_of names o = record { name = name_of o.name; shapes = map (λ i. name_of (name_at names i)) o.shapes; absent = absent_of o.may_be_absent; pieces = map pieces_of o.pieces; attributes = map attribute_of o.attributes }
 
 abbrev pub order_tree_of : List (List ℕ) → List ℕ → OrderTree
 order_tree_of names order = record { place = 0; names = map (λ i. name_of (name_at names i)) order }
@@ -223,10 +223,15 @@ positions_back names (j ∷ js) h = λ i. h.0 i ∷ positions_back names js h.1 
 pieces_back : (rs : List RangeData) → meaning.pieces_of (pieces_of rs) ≡ rs
 pieces_back rs = map_back meaning.range_of range_of (λ r. refl) rs
 
+absent_back : (b : Bool) → is_some (absent_of b) ≡ b
+absent_back true = refl
+absent_back false = refl
+
 object_back : (names : List (List ℕ)) (o : ObjectData) → ArePositions names o.shapes → meaning.object_of names (object_tree_of names o) ≡ o
 object_back names o h = λ i. record {
   name = o.name;
   shapes = positions_back names o.shapes h i;
+  may_be_absent = absent_back o.may_be_absent i;
   pieces = map_back meaning.pieces_of pieces_of pieces_back o.pieces i;
   attributes = map_back meaning.attribute_of attribute_of (λ a. refl) o.attributes i;
 }

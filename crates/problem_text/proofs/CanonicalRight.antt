@@ -1,6 +1,6 @@
 -- The canonical text of a problem that a text says has no fault, and so it says the same problem, places aside.
-use Rattle.std.proofs.Common.{◌≡◌, ℕ, zero, suc, ◌≤◌, ℤ, pos, negsuc, ◌≤ℤ◌, List, [], ◌∷◌, length, take, map, Some, Bool, true, false, inl, inr, refl, sym, ap, ◌∙◌, subst, arith}
-use Rattle.std.specs.Prelude.{◌⊎◌, slice_get, not}
+use Rattle.std.proofs.Common.{◌≡◌, ℕ, zero, suc, ◌≤◌, ℤ, pos, negsuc, ◌≤ℤ◌, List, [], ◌∷◌, length, take, map, Option, None, Some, Bool, true, false, inl, inr, refl, sym, ap, ◌∙◌, subst, arith}
+use Rattle.std.specs.Prelude.{◌⊎◌, slice_get, not, is_some}
 use Rattle.std.specs.List.{list_any}
 use Rattle.std.proofs.lemmas.Int.{ints}
 use Rattle.std.proofs.lemmas.List.{length-map}
@@ -29,7 +29,7 @@ use Rattle.problem_syntax.proofs.Right.{problem_good}
 use Rattle.problem_syntax.proofs.Levels.{problem_reading}
 use Rattle.problem_syntax.proofs.WholeText.{is_whole}
 use Rattle.problem_data.proofs.Accepted.{accepted_well_formed}
-use Rattle.problem_text.proofs.PrintingParts.{bare_int, bare_range, bare_pieces, bare_box, bare_attribute, bare_param, bare_demand, int_of, name_of, range_of, pieces_of, box_of, attribute_of, param_of, demand_of, bare_side, side_of}
+use Rattle.problem_text.proofs.PrintingParts.{bare_absent, absent_of, bare_int, bare_range, bare_pieces, bare_box, bare_attribute, bare_param, bare_demand, int_of, name_of, range_of, pieces_of, box_of, attribute_of, param_of, demand_of, bare_side, side_of}
 use Rattle.problem_text.proofs.BareParts.{bare_shape, bare_object, bare_order, bare_sides, bare_macro_tree, bare_rule_tree, bare_parts, parts_bare, meaning_bare, map_after}
 use Rattle.problem_text.proofs.CanonicalParts.{shape_tree_of, object_tree_of, order_tree_of, sides_tree_of, macro_tree_of, rule_tree_of, one_if, canonical_parts, parts_canonical, canonical_meaning}
 use Rattle.problem_text.proofs.PrintingProblem.{problem_again}
@@ -51,10 +51,15 @@ names_again : (names : List (List ℕ)) (ns : List PlacedName) → AllOf (Made n
 names_again names [] h = refl
 names_again names (n ∷ ns) h = λ i. name_of (h.0.is i) ∷ names_again names ns h.1 i
 
+absent_again : (a : Option ℕ) → absent_of (is_some a) ≡ bare_absent a
+absent_again None = refl
+absent_again (Some place) = refl
+
 object_again : (names : List (List ℕ)) (o : ObjectTree) → AllOf (Made names) o.shapes → object_tree_of names (meaning.object_of names o) ≡ bare_object o
 object_again names o h = λ i. record {
   name = bare_name o.name;
   shapes = names_again names o.shapes h i;
+  absent = absent_again o.absent i;
   pieces = map_after pieces_of meaning.pieces_of bare_pieces (λ rs. map_after range_of meaning.range_of bare_range (λ r. refl) rs) o.pieces i;
   attributes = map_after attribute_of meaning.attribute_of bare_attribute (λ a. refl) o.attributes i;
 }

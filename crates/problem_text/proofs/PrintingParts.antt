@@ -1,5 +1,5 @@
 -- The canonical spelling of the parts of statements spells them in the grammar of problems.
-use Rattle.std.proofs.Common.{◌≡◌, ℕ, suc, ◌≤◌, List, [], ◌∷◌, ◌++◌, map, Bool, true, false, refl, sym, ap, ◌∙◌}
+use Rattle.std.proofs.Common.{◌≡◌, ℕ, suc, ◌≤◌, List, [], ◌∷◌, ◌++◌, map, Option, Some, None, Bool, true, false, refl, sym, ap, ◌∙◌}
 use Rattle.std.proofs.lemmas.List.{append-nil}
 use Rattle.std.specs.Prelude.{ℤ, pos, negsuc, neg_ℤ, flat_map}
 use Rattle.geo_tokens.specs.declared.token.Kind.{Kind}
@@ -17,7 +17,7 @@ use Rattle.rule_syntax.specs.Grammar.{Named, ExprWords, FormulaWords}
 use Rattle.rule_print.specs.Canonical.{Written, sign}
 use Rattle.rule_print.specs.Canonical.{number as digits, word as a_word, symbol as a_symbol}
 use Rattle.rule_print.specs.Spelled.{in_list, expr_spelling, formula_spelling, bare_name, bare_expr, bare_formula}
-use Rattle.rule_print.proofs.Respelled.{Respelled, tok_again, named_again, bind_again, last_again, left_again, right_again, there_again, absent_again, AllOf, Each, joined, many_again, many_good}
+use Rattle.rule_print.proofs.Respelled.{Respelled, tok_again, named_again, bind_again, last_again, left_again, right_again, there_again, missing_again, AllOf, Each, joined, many_again, many_good}
 use Rattle.rule_print.proofs.ShownTokens.{written_append}
 use Rattle.rule_print.proofs.ExpressionsAgain.{respelled_as, closing}
 use Rattle.rule_print.proofs.ExpressionsAgain.{closed as in_list_written}
@@ -69,6 +69,10 @@ bare_demand apart = apart
 bare_demand (within rs) = within (map bare_range rs)
 bare_demand (plain f) = plain (bare_formula f)
 
+abbrev pub bare_absent : Option ℕ → Option ℕ
+bare_absent None = None
+bare_absent (Some place) = Some 0
+
 -- ---- the trees of data
 
 abbrev pub int_of : ℤ → Int
@@ -100,6 +104,10 @@ demand_of no_overlap = apart
 demand_of (inside rs) = within (map range_of rs)
 demand_of (formula_demand f) = plain (bare_formula f)
 
+abbrev pub absent_of : Bool → Option ℕ
+absent_of true = Some 0
+absent_of false = None
+
 -- ---- lists
 
 pub each_map : {A B C : Type 0} (f : A → C) (g : B → C) (bs : List B) (xs : List A) → Each (λ b x. f x ≡ g b) bs xs → map f xs ≡ map g bs
@@ -116,7 +124,7 @@ joined_flat : {B : Type 0} (s : B → List Written) (bs : List B) → joined s b
 joined_flat s [] = refl
 joined_flat s (b ∷ bs) = ap (λ (u : List Written). s b ++ u) (joined_flat s bs)
 
-joined_listed : {B : Type 0} (s : B → List Written) (bs : List B) → joined (λ b. a_symbol syms.Comma ∷ s b) bs ≡ more_listed s bs
+pub joined_listed : {B : Type 0} (s : B → List Written) (bs : List B) → joined (λ b. a_symbol syms.Comma ∷ s b) bs ≡ more_listed s bs
 joined_listed s [] = refl
 joined_listed s (b ∷ bs) = ap (λ (u : List Written). a_symbol syms.Comma ∷ (s b ++ u)) (joined_listed s bs)
 
@@ -295,7 +303,7 @@ nothing_less b bs e = absurd cc
 
 pub attributes_again : (vs : List AttributeData) → AllOf CanWriteAttribute vs → Respelled Attributes (λ xs. map bare_attribute xs ≡ map attribute_of vs) (attributes_spelling vs)
 unfolding Attributes
-attributes_again [] h = record { good = tt; again = absent_again _ [] refl }
+attributes_again [] h = record { good = tt; again = missing_again _ [] refl }
 attributes_again (a ∷ vs) h =
     let r = listed_again AttributeWords (λ b x. bare_attribute x ≡ attribute_of b) attribute_spelling (a ∷ vs) (nothing_less a vs) (all_as {P = CanWriteAttribute} {Q = AttributeAgain} attribute_again (a ∷ vs) h) in
     record {
@@ -329,7 +337,7 @@ param_again p h = record {
 }
 
 param_list_again : (ps : List ParamData) → AllOf CanWriteParam ps → Respelled (λ text. Opt (Listed (ParamWords text)) []) (λ xs. map bare_param xs ≡ map param_of ps) (listed param_spelling ps)
-param_list_again [] h = record { good = tt; again = absent_again _ [] refl }
+param_list_again [] h = record { good = tt; again = missing_again _ [] refl }
 param_list_again (p ∷ ps) h =
     let r = listed_again ParamWords (λ b x. bare_param x ≡ param_of b) param_spelling (p ∷ ps) (nothing_less p ps) (all_as {P = CanWriteParam} {Q = ParamAgain} param_again (p ∷ ps) h) in
     record { good = r.good; again = there_again [] (record { reads = λ text v st. (let x = r.again.reads text v st in (x.0, x.1, each_map bare_param param_of (p ∷ ps) x.0 x.2)) }) }

@@ -1,5 +1,5 @@
 -- What the statements of a text say can be written again.
-use Rattle.std.proofs.Common.{◌≡◌, ℕ, zero, suc, ◌≤◌, List, [], ◌∷◌, map, Some, Bool, true, false, refl, subst, arith}
+use Rattle.std.proofs.Common.{◌≡◌, ℕ, zero, suc, ◌≤◌, List, [], ◌∷◌, map, None, Some, Bool, true, false, refl, subst, arith}
 use Rattle.std.specs.Prelude.{pos, neg_ℤ}
 use Rattle.geo_tokens.specs.declared.token.Token.{Token}
 use Rattle.geo_tokens.specs.declared.token.Sym.TheVariants as syms
@@ -8,7 +8,7 @@ use Rattle.geo_tokens.specs.Names.{IsNameText}
 use Rattle.geo_tokens.specs.Words.{numbers, symbol, Lang, Pure, Tok, Bind, left, right, Opt, there, not_there}
 use Rattle.rule_syntax.specs.declared.tree.PlacedName.{PlacedName}
 use Rattle.rule_syntax.specs.Grammar.{Named}
-use Rattle.rule_print.proofs.Respelled.{AllOf, AllTrue, pure_is, token_of_list, many_of, small_number, name_is_text}
+use Rattle.rule_print.proofs.Respelled.{AllOf, AllTrue, pure_is, token_of_list, many_of, items_of, small_number, name_is_text}
 use Rattle.rule_print.proofs.Respelled.{parts_of as split}
 use Rattle.rule_print.proofs.ReadBack.{expr_again, formula_again}
 use Rattle.problem_data.specs.declared.tree.Int.{Int}
@@ -16,7 +16,7 @@ use Rattle.problem_data.specs.declared.tree.RangeText.{RangeText}
 use Rattle.problem_data.specs.declared.tree.AttributeText.{AttributeText}
 use Rattle.problem_data.specs.declared.tree.ParamText.{ParamText}
 use Rattle.problem_data.specs.Tree.{BoxTree, ObjectTree, BodyTree, means, equals, DemandTree, apart, within, plain, StatementTree, a_shape, an_object, an_order, some_sides, a_macro, a_rule}
-use Rattle.problem_data.specs.Grammar.{plain_int, negative_int, range_text, box_tree, attribute_text, param_text, shape_tree, object_tree, order_tree, sides_tree, macro_tree, rule_tree, OneOrMore, Listed, PlainInt, NegativeInt, IntWords, RangeWords, PiecesWords, BoxWords, AttributeWords, Attributes, ParamWords, Params, BodyWords, DemandWords, ShapeWords, ObjectWords, OrderWords, SidesWords, MacroWords, RuleWords, StatementWords}
+use Rattle.problem_data.specs.Grammar.{plain_int, negative_int, range_text, box_tree, attribute_text, param_text, shape_tree, object_tree, order_tree, sides_tree, macro_tree, rule_tree, OneOrMore, Listed, ShapeList, AbsentWord, ShapesWords, PlainInt, NegativeInt, IntWords, RangeWords, PiecesWords, BoxWords, AttributeWords, Attributes, ParamWords, Params, BodyWords, DemandWords, ShapeWords, ObjectWords, OrderWords, SidesWords, MacroWords, RuleWords, StatementWords}
 use Rattle.problem_data.specs.Meaning as meaning
 use Rattle.problem_text.proofs.PrintingParts.{IsSome, IsTextNumber, CanWriteInts, CanWriteBox, CanWriteBoxes, CanWriteRange, CanWriteRanges, CanWritePieces, CanWriteEachPieces, CanWriteAttribute, CanWriteParam, CanWriteBody, CanWriteDemand}
 use Rattle.problem_text.proofs.PrintingStatements.{CanWriteShape, CanWriteMacro, CanWriteRule}
@@ -204,6 +204,7 @@ AreNames ns = Several (λ n. IsNameText n.name) ns
 pub record ObjectRead (second : Bool) (o : ObjectTree) : Type 0 where
   pub name : IsNameText o.name.name
   pub shapes : AreNames o.shapes
+  pub present : second ≡ false → o.absent ≡ None
   pub pieces : CanWriteEachPieces second (map meaning.pieces_of o.pieces)
   pub attributes : AllOf CanWriteAttribute (map meaning.attribute_of o.attributes)
 
@@ -219,6 +220,22 @@ StatementRead second (a_rule r) = CanWriteRule (meaning.rule_of r)
 module _ (text : List ℕ) (second : Bool) where
   names_read : (ns : List PlacedName) (w : List Token) → Listed (Named text) (Some ns) w → AllTrue text w → AreNames ns
   names_read ns w h tr = listed_of text (Named text) (λ n. IsNameText n.name) (name_is_text text) ns w h tr
+
+  -- the shapes of an object, in a text of version 2 or of version 1
+  shapes_read : (two : Bool) (ss : ShapeList) (w : List Token) → ShapesWords text two (Some ss) w → AllTrue text w → AreNames ss.0 × (two ≡ false → ss.1 ≡ None)
+  unfolding ShapesWords
+  shapes_read false ss w h tr =
+      let j = split text ss w h tr in
+      subst (λ (u : ShapeList). AreNames u.0 × (false ≡ false → u.1 ≡ None)) (pure_is (j.value, None) ss j.rest j.second) (names_read j.value j.front j.first j.front_true, (λ e. refl))
+  shapes_read true ss w h tr =
+      let j = split text ss w h tr in
+      let i = split text ss j.rest j.second j.rest_true in
+      let behind = i.first in
+      subst (λ (u : ShapeList). AreNames u.0 × (true ≡ false → u.1 ≡ None)) (pure_is (j.value ∷ i.value.0, i.value.1) ss i.rest i.second) (
+        several (λ n. IsNameText n.name) j.value i.value.0 (j.value ∷ i.value.0) refl (name_is_text text j.value j.front j.first j.front_true)
+            (items_of text (symbol syms.Comma) (Named text) AbsentWord (λ n. IsNameText n.name) (name_is_text text) behind.0 i.value i.front behind.1 i.front_true),
+        (λ e. absurd cc),
+      )
 
   shape_read : (s : StatementTree) (w : List Token) → ShapeWords text (Some s) w → AllTrue text w → StatementRead second s
   unfolding ShapeWords
@@ -244,7 +261,8 @@ module _ (text : List ℕ) (second : Bool) where
       subst (StatementRead second) (pure_is (object_tree n.value ss.value rs.value vs.value) s e.rest e.second)
       (record {
         name = name_is_text text n.value n.front n.first n.front_true;
-        shapes = names_read ss.value ss.front ss.first ss.front_true;
+        shapes = (shapes_read second ss.value ss.front ss.first ss.front_true).0;
+        present = (shapes_read second ss.value ss.front ss.first ss.front_true).1;
         pieces = each_pieces_read text second rs.value rs.front rs.first rs.front_true;
         attributes = attributes_read text vs.value vs.front vs.first vs.front_true;
       })

@@ -1,5 +1,5 @@
 -- Statements that are the same but for places have the same faults, each at the place of its own item.
-use Rattle.std.proofs.Common.{◌≡◌, ℕ, ◌≤◌, ◌-◌, ℤ, pos, ◌+ℤ◌, ◌≤ℤ◌, ◌<ℤ◌, List, length, take, map, Some, inl, inr, refl, sym, ap, ◌∙◌, subst}
+use Rattle.std.proofs.Common.{◌≡◌, ℕ, ◌≤◌, ◌-◌, ℤ, pos, ◌+ℤ◌, ◌≤ℤ◌, ◌<ℤ◌, List, length, take, map, Option, None, Some, inl, inr, refl, sym, ap, ◌∙◌, subst}
 use Rattle.std.specs.Prelude.{◌⊎◌, slice_get}
 use Rattle.std.specs.List.{Contains}
 use Rattle.std.proofs.lemmas.List.{length-map, take-map}
@@ -15,10 +15,10 @@ use Rattle.problem_data.specs.Tree.{BoxTree, ShapeTree, ObjectTree, OrderTree, M
 use Rattle.problem_data.specs.Least.{fault}
 use Rattle.problem_data.specs.Limits.{IsSmall, IsSize, IsFieldName, most_shapes, most_objects, most_object_shapes, most_pieces, most_attributes, most_macros, most_params, most_rules}
 use Rattle.problem_data.specs.Divisors.{body_zeros, formula_zeros}
-use Rattle.problem_data.specs.Faults.{Among, text_of, PastLimit, Repeated, NamesFault, NotMade, first_place, Miscounted, int_place, range_place, OffsetFault, SizeFault, OffsetsFault, SizesFault, UpsideDown, RangeFault, RangesFault, PastPiece, IsLast, TooNear, PieceFault, PiecesFault, pieces_place, OriginFault, PastBox, BoxFault, ShapeFault, ShapesFault, FieldFault, AttributesFault, ObjectFault, ObjectsFault, SecondOrder, Incomplete, OrderFault, DivisorFault, MacroFault, MacrosFault, DemandFault, RuleFault, RulesFault, shape_name, object_name, attribute_name, macro_name, param_name, rule_name}
+use Rattle.problem_data.specs.Faults.{Among, text_of, PastLimit, Repeated, NamesFault, NotMade, first_place, Miscounted, int_place, range_place, OffsetFault, SizeFault, OffsetsFault, SizesFault, UpsideDown, RangeFault, RangesFault, PastPiece, IsLast, TooNear, PieceFault, PiecesFault, pieces_place, OriginFault, PastBox, BoxFault, ShapeFault, ShapesFault, FieldFault, AttributesFault, AbsentFault, ObjectFault, ObjectsFault, SecondOrder, Incomplete, OrderFault, DivisorFault, MacroFault, MacrosFault, DemandFault, RuleFault, RulesFault, shape_name, object_name, attribute_name, macro_name, param_name, rule_name}
 use Rattle.problem_data.proofs.InLists.{get_back}
 use Rattle.problem_text.proofs.Consistent.{map_at}
-use Rattle.problem_text.proofs.PrintingParts.{bare_int, bare_range, bare_pieces, bare_box, bare_attribute, bare_param, bare_demand}
+use Rattle.problem_text.proofs.PrintingParts.{bare_absent, bare_int, bare_range, bare_pieces, bare_box, bare_attribute, bare_param, bare_demand}
 use Rattle.problem_text.proofs.BareParts.{bare_shape, bare_object, bare_order, bare_macro_tree, bare_rule_tree, map_after, map_both}
 use Rattle.problem_text.proofs.SameZeros.{bodies_count, formulas_alike, one_there}
 
@@ -176,16 +176,31 @@ attributes_carried xs ys e = or_carried (NamesFault most_attributes (map attribu
     (names_carried most_attributes (map attribute_name xs) (map attribute_name ys) (names_alike bare_attribute attribute_name (λ a. refl) xs ys e))
     (among_carried bare_attribute (λ before. FieldFault) (λ before. FieldFault) (λ before others x y t e. field_carried x y e) xs ys e)
 
+-- the word `absent` stands in both
+word_there : (a b : Option ℕ) (place : ℕ) → bare_absent a ≡ bare_absent b → a ≡ Some place → (other : ℕ) × (b ≡ Some other)
+word_there a None place e h = absurd (let wrong : Some 0 ≡ None = ap bare_absent (sym h) ∙ e in cc)
+word_there a (Some other) place e h = (other, refl)
+
+absent_carried : (x y : ObjectTree) → bare_object x ≡ bare_object y → Carries (AbsentFault x) (AbsentFault y)
+absent_carried x y e f h =
+    let there = word_there x.absent y.absent h.0 (ap (λ (o : ObjectTree). o.absent) e) h.1 in
+    let size : length x.shapes ≡ length y.shapes = length_alike bare_name x.shapes y.shapes (ap (λ (o : ObjectTree). o.shapes) e) in
+    (fault there.0 words.Limit, (there.0, there.1, subst (λ (n : ℕ). most_object_shapes ≤ n) size h.2, refl))
+
 module _ (k : ℕ) (made : List (List ℕ)) where
+  abbrev last : ObjectTree → Fault → Type 0
+  last o f = AttributesFault o.attributes f ⊎ AbsentFault o f
+
   object_carried : (x y : ObjectTree) → bare_object x ≡ bare_object y → Carries (ObjectFault k made x) (ObjectFault k made y)
   object_carried x y e =
       let shapes : map bare_name x.shapes ≡ map bare_name y.shapes = ap (λ (o : ObjectTree). o.shapes) e in
-      or_carried (NamesFault most_object_shapes x.shapes) (NamesFault most_object_shapes y.shapes) (λ f. NotMade made x.shapes f ⊎ OriginFault k x.pieces f ⊎ AttributesFault x.attributes f) (λ f. NotMade made y.shapes f ⊎ OriginFault k y.pieces f ⊎ AttributesFault y.attributes f)
+      or_carried (NamesFault most_object_shapes x.shapes) (NamesFault most_object_shapes y.shapes) (λ f. NotMade made x.shapes f ⊎ OriginFault k x.pieces f ⊎ last x f) (λ f. NotMade made y.shapes f ⊎ OriginFault k y.pieces f ⊎ last y f)
       (names_carried most_object_shapes x.shapes y.shapes shapes)
-      (or_carried (NotMade made x.shapes) (NotMade made y.shapes) (λ f. OriginFault k x.pieces f ⊎ AttributesFault x.attributes f) (λ f. OriginFault k y.pieces f ⊎ AttributesFault y.attributes f)
+      (or_carried (NotMade made x.shapes) (NotMade made y.shapes) (λ f. OriginFault k x.pieces f ⊎ last x f) (λ f. OriginFault k y.pieces f ⊎ last y f)
       (not_made_carried made x.shapes y.shapes shapes)
-      (or_carried (OriginFault k x.pieces) (OriginFault k y.pieces) (AttributesFault x.attributes) (AttributesFault y.attributes)
-      (origin_carried k x.pieces y.pieces (ap (λ (o : ObjectTree). o.pieces) e)) (attributes_carried x.attributes y.attributes (ap (λ (o : ObjectTree). o.attributes) e))))
+      (or_carried (OriginFault k x.pieces) (OriginFault k y.pieces) (last x) (last y)
+      (origin_carried k x.pieces y.pieces (ap (λ (o : ObjectTree). o.pieces) e))
+      (or_carried (AttributesFault x.attributes) (AttributesFault y.attributes) (AbsentFault x) (AbsentFault y) (attributes_carried x.attributes y.attributes (ap (λ (o : ObjectTree). o.attributes) e)) (absent_carried x y e))))
 
   pub objects_carried : (xs ys : List ObjectTree) → map bare_object xs ≡ map bare_object ys → Carries (ObjectsFault k made xs) (ObjectsFault k made ys)
   objects_carried xs ys e = or_carried (NamesFault most_objects (map object_name xs)) (NamesFault most_objects (map object_name ys)) (Among (λ before. ObjectFault k made) xs) (Among (λ before. ObjectFault k made) ys)

@@ -1,5 +1,6 @@
 -- A problem that a text says can be written.
 use Rattle.std.proofs.Common.{◌≡◌, ℕ, ◌≤◌, List, [], ◌∷◌, map, length, Some, Bool, true, false, ◌==◌, inl, inr, refl, sym, ap, ◌∙◌, subst}
+use Rattle.std.specs.Prelude.{is_some}
 use Rattle.std.specs.List.{range_with_len}
 use Rattle.geo_tokens.specs.declared.token.Token.{Token}
 use Rattle.geo_tokens.specs.Class.{number_in}
@@ -160,7 +161,7 @@ module _ (t : ProblemTree) (read : TreeRead t) (faultless : (f : Fault) → IsFa
       let reads = all_filtered as_object (StatementRead second) (ObjectRead second) (an_object_read second) t.statements read.statements in
       mapped (CanWriteObject second names) (meaning.object_of names) (parts_of t).objects
       (all_with {P = ObjectRead second} {Q = λ o. AllOf (Made names) o.shapes} {R = λ o. CanWriteObject second names (meaning.object_of names o)}
-      (λ o h made. record { name = h.name; shapes = can_write_names names o.shapes h.shapes made; pieces = h.pieces; attributes = h.attributes }) (parts_of t).objects reads (object_shapes_made (parts_of t) faultless))
+      (λ o h made. record { name = h.name; shapes = can_write_names names o.shapes h.shapes made; present = λ e. ap is_some (h.present e); pieces = h.pieces; attributes = h.attributes }) (parts_of t).objects reads (object_shapes_made (parts_of t) faultless))
 
   tree_written : CanWriteProblem (meaning.problem_of (parts_of t))
   tree_written = record {

@@ -1,5 +1,5 @@
 -- The canonical text of a problem: its statements by kind, in file order, each on a line of its own.
-use Rattle.std.specs.Prelude.{ℕ, suc, ℤ, pos, negsuc, List, [], ◌∷◌, ◌++◌, map, flat_map, slice_index_or, Bool, true, not, ◌==◌, ◌&&◌, if◌then◌else◌}
+use Rattle.std.specs.Prelude.{ℕ, suc, ℤ, pos, negsuc, List, [], ◌∷◌, ◌++◌, map, flat_map, slice_index_or, Bool, true, false, not, ◌==◌, ◌&&◌, if◌then◌else◌}
 use Rattle.std.specs.List.{list_any}
 use Rattle.geo_tokens.specs.declared.token.Keyword.{Keyword}
 use Rattle.geo_tokens.specs.declared.token.Keyword.TheVariants as keywords
@@ -97,10 +97,19 @@ closed ps = ps ++ symbol syms.Semicolon ∷ []
 abbrev pub shape_spelling : ShapeData → List Written
 shape_spelling s = word keywords.Shape ∷ name s.name ∷ closed (flat_map box_spelling s.boxes)
 
+-- the word `absent` behind the shapes of an object that may be absent
+abbrev pub absent_spelling : Bool → List Written
+absent_spelling true = symbol syms.Comma ∷ word keywords.Absent ∷ []
+absent_spelling false = []
+
+-- the shapes of an object, where they have these names
+abbrev pub shapes_spelling : List (List ℕ) → ObjectData → List Written
+shapes_spelling names o = listed (λ i. name_spelling (name_at names i)) o.shapes ++ absent_spelling o.may_be_absent
+
 -- an object, where the shapes have these names
 abbrev pub object_spelling : List (List ℕ) → ObjectData → List Written
 object_spelling names o =
-    word keywords.Object ∷ name o.name ∷ word keywords.As ∷ (listed (λ i. name_spelling (name_at names i)) o.shapes ++ word keywords.At ∷ (flat_map pieces_spelling o.pieces ++ closed (attributes_spelling o.attributes)))
+    word keywords.Object ∷ name o.name ∷ word keywords.As ∷ (shapes_spelling names o ++ word keywords.At ∷ (flat_map pieces_spelling o.pieces ++ closed (attributes_spelling o.attributes)))
 
 abbrev pub macro_spelling : MacroData → List Written
 macro_spelling m = word keywords.Macro ∷ name m.name ∷ (in_list (listed param_spelling m.params) ++ closed (body_spelling m.body))

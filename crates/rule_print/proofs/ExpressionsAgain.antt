@@ -17,7 +17,7 @@ use Rattle.rule_print.specs.Canonical.{number as digits, word as a_word, symbol 
 use Rattle.rule_print.specs.Spelled.{in_list, expr_spelling, sum_spelling, sum_step_spelling, product_spelling, product_step_spelling, argument_spelling, arguments_spelling, more_arguments_spelling, bare_name, bare_expr, bare_sums, bare_sum, bare_products, bare_product, bare_arguments, bare_argument}
 use Rattle.rule_reading.proofs.Limits.{factor_step, term_step, expr_over_step}
 use Rattle.rule_print.proofs.ShownTokens.{AllWritten, written_append}
-use Rattle.rule_print.proofs.Respelled.{Again, Respelled, tok_again, named_again, bind_again, last_again, left_again, right_again, there_again, absent_again, placed_again, raised_again, same_again, AllOf, Each, joined, many_again, many_good, chain_again}
+use Rattle.rule_print.proofs.Respelled.{Again, Respelled, tok_again, named_again, bind_again, last_again, left_again, right_again, there_again, missing_again, placed_again, raised_again, same_again, AllOf, Each, joined, many_again, many_good, chain_again}
 
 -- the languages of factors, terms and expressions, where n levels may be opened
 abbrev pub FactorIn : ℕ → List ℕ → Lang ExprTree
@@ -94,7 +94,7 @@ field_again a p b =
     last_again (λ y. field x d.start y) (named_again b.name) (λ y ey. (λ i. field (same_name x a ex i) 0 (same_name y b ey i))))))
 
 pub param_again : (a : PlacedName) → Again Variable (SameExpr (param a)) (name a.name ∷ [])
-param_again a = bind_again (named_again a.name) (λ x ex. absent_again (λ text. Bind (Tok (symbol syms.Dot)) (λ d. Bind (Named text) (λ b. Pure (field x d.start b)))) (param x) (ap param (same_name x a ex)))
+param_again a = bind_again (named_again a.name) (λ x ex. missing_again (λ text. Bind (Tok (symbol syms.Dot)) (λ d. Bind (Named text) (λ b. Pure (field x d.start b)))) (param x) (ap param (same_name x a ex)))
 
 pub shape_again : (p : ℕ) (a : PlacedName) → Again ShapeNumber (SameExpr (shape_number p a)) (a_word keywords.Shape ∷ name a.name ∷ [])
 shape_again p a = bind_again (tok_again (word keywords.Shape) (a_word keywords.Shape) refl) (λ t k. last_again (λ x. shape_number t.start x) (named_again a.name) (λ x ex. ap (shape_number 0) (same_name x a ex)))
@@ -185,7 +185,7 @@ abbrev pub SameArguments : List ArgumentTree → List ArgumentTree → Type 0
 SameArguments es xs = bare_arguments (arguments xs) ≡ bare_arguments (arguments es)
 
 argument_list_again : (n : ℕ) (es : List ArgumentTree) → AllOf (ArgumentAgain n) es → Respelled (λ text. ArgumentList (ExprOver (Factor text n))) (SameArguments es) (arguments_spelling (arguments es))
-argument_list_again n [] h = record { good = tt; again = absent_again _ [] refl }
+argument_list_again n [] h = record { good = tt; again = missing_again _ [] refl }
 argument_list_again n (e ∷ es) h =
     let c = chain_again (ArgumentIn n) SameArgument argument_spelling (symbol syms.Comma) (a_symbol syms.Comma) refl tt e es h in
     let q : argument_spelling e ++ joined (λ a. a_symbol syms.Comma ∷ argument_spelling a) es ≡ arguments_spelling (arguments (e ∷ es)) = ap (λ (u : List Written). argument_spelling e ++ u) (arguments_joined es) in

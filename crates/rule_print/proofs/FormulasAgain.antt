@@ -25,7 +25,7 @@ use Rattle.rule_print.specs.Canonical.{number as digits, word as a_word, symbol 
 use Rattle.rule_print.specs.Spelled.{in_list, expr_spelling, arguments_spelling, rel_symbol, quantifier_spelling, names_spelling, more_names_spelling, coll_spelling, formula_spelling, operands_spelling, more_operands_spelling, bare_name, bare_coll, bare_formula, bare_formulas}
 use Rattle.rule_reading.proofs.Limits.{unary_step, conjunction_step, disjunction_step, implication_step, formula_over_step}
 use Rattle.rule_print.proofs.ShownTokens.{written_append}
-use Rattle.rule_print.proofs.Respelled.{Again, Respelled, tok_again, named_again, bind_again, last_again, left_again, right_again, there_again, absent_again, placed_again, raised_again, AllOf, Each, joined, chain_again}
+use Rattle.rule_print.proofs.Respelled.{Again, Respelled, tok_again, named_again, bind_again, last_again, left_again, right_again, there_again, missing_again, placed_again, raised_again, AllOf, Each, joined, chain_again}
 use Rattle.rule_print.proofs.ExpressionsAgain.{ExprIn, SameExpr, ArgumentAgain, args_again, closed, closing, same_name, respelled_as}
 
 -- the languages of unaries, conjunctions, disjunctions, implications and formulas, where n levels may be opened
@@ -239,7 +239,7 @@ abbrev pub CollAgain : CollTree → Type 0
 CollAgain c = Respelled Collection (SameColl c) (coll_spelling c)
 
 pub all_again : CollAgain all_objects
-all_again = record { good = (tt, tt); again = left_again (bind_again (tok_again (word keywords.Objects) (a_word keywords.Objects) refl) (λ t k. absent_again NameList all_objects refl)) }
+all_again = record { good = (tt, tt); again = left_again (bind_again (tok_again (word keywords.Objects) (a_word keywords.Objects) refl) (λ t k. missing_again NameList all_objects refl)) }
 
 abbrev pub NameAgain : PlacedName → Type 0
 NameAgain a = Respelled Named (SameNamed a) (name a.name ∷ [])

@@ -1,5 +1,5 @@
 -- Lexemes that spell a value in a language, in whatever text they are shown: one lemma for each part of a grammar.
-use Rattle.std.proofs.Common.{◌≡◌, ℕ, zero, suc, ◌-◌, ◌≤◌, List, [], ◌∷◌, ◌++◌, drop, Some, None, true, false, ◌==◌, ◌||◌, refl, sym, ap, ◌∙◌, subst, arith}
+use Rattle.std.proofs.Common.{◌≡◌, ℕ, zero, suc, ◌-◌, ◌≤◌, List, [], ◌∷◌, ◌++◌, drop, Option, Some, None, true, false, ◌==◌, ◌||◌, refl, sym, ap, ◌∙◌, append_assoc, subst, arith}
 use Rattle.std.proofs.lemmas.List.{append-nil}
 use Rattle.geo_tokens.specs.declared.token.Token.{Token}
 use Rattle.geo_tokens.specs.declared.token.Keyword.{Keyword}
@@ -11,7 +11,7 @@ use Rattle.geo_tokens.specs.declared.token.Kind.TheVariants as kinds
 use Rattle.geo_tokens.specs.Class.{class_of, word_class, symbol_class, number_in}
 use Rattle.geo_tokens.specs.Cut.{IsToken}
 use Rattle.geo_tokens.specs.Names.{IsNameText}
-use Rattle.geo_tokens.specs.Words.{Kinds, has, Of, names, Lang, Pure, Tok, Cut, Bind, cut, both, Either, left, right, Opt, there, not_there, UpTo, Many, start_of, Placed, Chain}
+use Rattle.geo_tokens.specs.Words.{Kinds, has, Of, names, Lang, Pure, Tok, Cut, Bind, cut, both, Either, left, right, Opt, there, not_there, UpTo, Many, UpToEnded, Ended, start_of, Placed, Chain}
 use Rattle.geo_tokens.proofs.NameText.{name_token}
 use Rattle.rule_syntax.specs.declared.tree.PlacedName.{PlacedName}
 use Rattle.rule_syntax.specs.Grammar.{name_in, Named}
@@ -82,12 +82,12 @@ right_again l = record { reads = λ text v h. (let x = l.reads text v h in (x.0,
 pub there_again : {A : Type 0} {L : List ℕ → Lang A} {P : A → Type 0} {ps : List Written} (d : A) → Again L P ps → Again (λ text. Opt (L text) d) P ps
 there_again d l = record { reads = λ text v h. (let x = l.reads text v h in (x.0, there x.1, x.2)) }
 
-absent_reads : {A : Type 0} (L : Lang A) (d : A) (P : A → Type 0) (text : List ℕ) (v : List Token) → P d → Stands text [] v → (b : A) × Opt L d (Some b) v × P b
-absent_reads L d P text [] p h = (d, not_there refl refl, p)
-absent_reads L d P text (t ∷ v) p h = absurd h
+missing_reads : {A : Type 0} (L : Lang A) (d : A) (P : A → Type 0) (text : List ℕ) (v : List Token) → P d → Stands text [] v → (b : A) × Opt L d (Some b) v × P b
+missing_reads L d P text [] p h = (d, not_there refl refl, p)
+missing_reads L d P text (t ∷ v) p h = absurd h
 
-pub absent_again : {A : Type 0} (L : List ℕ → Lang A) {P : A → Type 0} (d : A) → P d → Again (λ text. Opt (L text) d) P []
-absent_again L {P} d p = record { reads = λ text v h. absent_reads (L text) d P text v p h }
+pub missing_again : {A : Type 0} (L : List ℕ → Lang A) {P : A → Type 0} (d : A) → P d → Again (λ text. Opt (L text) d) P []
+missing_again L {P} d p = record { reads = λ text v h. missing_reads (L text) d P text v p h }
 
 pub placed_again : {A B : Type 0} {L : List ℕ → Lang A} {P : A → Type 0} {Q : B → Type 0} {ps : List Written} (made : ℕ → A → B)
     → Again L P ps → ((n : ℕ) (a : A) → P a → Q (made n a)) → Again (λ text. Placed (L text) made) Q ps
@@ -136,6 +136,50 @@ module _ {A B : Type 0} (L : List ℕ → Lang A) (R : B → A → Type 0) (s : 
   pub many_good : (bs : List B) → AllOf (λ b. Respelled L (R b) (s b)) bs → AllWritten (joined s bs)
   many_good [] h = tt
   many_good (b ∷ bs) h = written_append (s b) (joined s bs) h.0.good (many_good bs h.1)
+
+-- ---- behind marks, with another one at the end
+
+module _ {A B C : Type 0} (marks : Kinds) (L : List ℕ → Lang A) (E : List ℕ → Lang B) (R : C → A → Type 0) (s : C → List Written) (mark : Written) (i : has marks (class_of (kind_of mark)) ≡ true) (w : IsWritten mark) where
+  abbrev marked : C → List Written
+  marked c = mark ∷ s c
+
+  abbrev Items : List ℕ → ℕ → Lang (List A × Option B)
+  Items text k = UpToEnded marks (L text) (E text) k
+
+  -- an item more in front of others
+  one_more : (c : C) → Respelled L (R c) (s c) → (cs : List C) (Q : Option B → Type 0) (k : ℕ) (qs : List Written) → Again (λ text. Items text k) (λ r. Each R cs r.0 × Q r.1) qs
+      → Again (λ text. Items text (suc k)) (λ r. Each R (c ∷ cs) r.0 × Q r.1) (marked c ++ qs)
+  one_more c h cs Q k qs others =
+      there_again ([], None) (bind_again (tok_again marks mark i) (λ m e. left_again (bind_again h.again (λ a ea. last_again (λ r. (a ∷ r.0, r.1)) others (λ r er. ((ea, er.0), er.1))))))
+
+  items_again : (cs : List C) → AllOf (λ c. Respelled L (R c) (s c)) cs → (Q : Option B → Type 0) (k : ℕ) (qs : List Written) → Again (λ text. Items text k) (λ r. Each R [] r.0 × Q r.1) qs
+      → (n : ℕ) × Again (λ text. Items text n) (λ r. Each R cs r.0 × Q r.1) (joined marked cs ++ qs)
+  items_again [] h Q k qs e = (k, e)
+  items_again (c ∷ cs) h Q k qs e =
+      let others = items_again cs h.1 Q k qs e in
+      (suc others.0, same_again (joined marked (c ∷ cs) ++ qs) (one_more c h.0 cs Q others.0 (joined marked cs ++ qs) others.1) (sym (append_assoc (marked c) (joined marked cs) qs)))
+
+  any_number : {P : List A × Option B → Type 0} {ps : List Written} (n : ℕ) → Again (λ text. Items text n) P ps → Again (λ text. Ended marks (L text) (E text)) P ps
+  any_number n h = record { reads = λ text v st. (let x = h.reads text v st in (x.0, (n, x.1), x.2)) }
+
+  -- items, and no other one behind them
+  pub unended_again : (cs : List C) → AllOf (λ c. Respelled L (R c) (s c)) cs → (Q : Option B → Type 0) → Q None → Again (λ text. Ended marks (L text) (E text)) (λ r. Each R cs r.0 × Q r.1) (joined marked cs)
+  unended_again cs h Q q =
+      let all = items_again cs h Q 0 [] (pure_again ([], None) (tt, q)) in
+      same_again (joined marked cs) (any_number all.0 all.1) (append-nil (joined marked cs))
+
+  -- items, and another one behind them
+  pub ended_again : (cs : List C) → AllOf (λ c. Respelled L (R c) (s c)) cs → (Q : Option B → Type 0) {P : B → Type 0} {ps : List Written} → Again E P ps → ((b : B) → P b → Q (Some b))
+      → Again (λ text. Ended marks (L text) (E text)) (λ r. Each R cs r.0 × Q r.1) (joined marked cs ++ mark ∷ ps)
+  ended_again cs h Q {P} {ps} e q =
+      let last : Again (λ text. Items text 1) (λ r. Each R [] r.0 × Q r.1) (mark ∷ ps) =
+      there_again ([], None) (bind_again (tok_again marks mark i) (λ m k. right_again (last_again (λ b. ([], Some b)) e (λ b eb. (tt, q b eb))))) in
+      let all = items_again cs h Q 1 (mark ∷ ps) last in
+      any_number all.0 all.1
+
+  pub marked_good : (cs : List C) → AllOf (λ c. Respelled L (R c) (s c)) cs → AllWritten (joined marked cs)
+  marked_good [] h = tt
+  marked_good (c ∷ cs) h = (w, written_append (s c) (joined marked cs) h.0.good (marked_good cs h.1))
 
 -- ---- what was read, and its tokens
 
@@ -202,6 +246,28 @@ many_of {A} text L Q f (suc k) xs w (there h) tr =
     let e : j.value ∷ i.value ≡ xs = pure_is (j.value ∷ i.value) xs i.rest i.second in
     subst (λ (us : List A). AllOf Q us) e (f j.value j.front j.first j.front_true, many_of text L Q f k i.value i.front i.first i.front_true)
 many_of {A} text L Q f (suc k) xs w (not_there e q) tr = let is : [] ≡ xs = cc in subst (λ (us : List A). AllOf Q us) is tt
+
+-- the items of one language, where a list of another may end them
+module _ {A B : Type 0} (text : List ℕ) (marks : Kinds) (L : Lang A) (E : Lang B) (Q : A → Type 0) (f : (a : A) (w : List Token) → L (Some a) w → AllTrue text w → Q a) where
+  abbrev Rests : ℕ → Type 0
+  Rests k = (r : List A × Option B) (w : List Token) → UpToEnded marks L E k (Some r) w → AllTrue text w → AllOf Q r.0
+
+  item_of : (k : ℕ) → Rests k → (r : List A × Option B) (w : List Token) → Either (Bind L (λ a. Bind (UpToEnded marks L E k) (λ q. Pure (a ∷ q.0, q.1)))) (Bind E (λ x. Pure ([], Some x))) (Some r) w
+      → AllTrue text w → AllOf Q r.0
+  item_of k rest r w (left l) tr =
+      let i = parts_of text r w l tr in
+      let n = parts_of text r i.rest i.second i.rest_true in
+      let e : (i.value ∷ n.value.0, n.value.1) ≡ r = pure_is (i.value ∷ n.value.0, n.value.1) r n.rest n.second in
+      subst (λ (u : List A × Option B). AllOf Q u.0) e (f i.value i.front i.first i.front_true, rest n.value n.front n.first n.front_true)
+  item_of k rest r w (right l) tr =
+      let i = parts_of text r w l tr in
+      let e : ([], Some i.value) ≡ r = pure_is ([], Some i.value) r i.rest i.second in
+      subst (λ (u : List A × Option B). AllOf Q u.0) e tt
+
+  pub items_of : (k : ℕ) → Rests k
+  items_of zero r w h tr = let e : ([], None) ≡ r = pure_is ([], None) r w h in subst (λ (u : List A × Option B). AllOf Q u.0) e tt
+  items_of (suc k) r w (not_there e q) tr = let is : ([], None) ≡ r = cc in subst (λ (u : List A × Option B). AllOf Q u.0) is tt
+  items_of (suc k) r w (there h) tr = let j = parts_of text r w h tr in item_of k (items_of k) r j.rest j.second j.rest_true
 
 -- ---- names and numbers
 

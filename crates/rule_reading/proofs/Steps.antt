@@ -1,7 +1,7 @@
 -- A language and the same language with one level more.
 use Rattle.std.proofs.Common.{◌≡◌, ℕ, zero, suc, List, [], ◌∷◌, ◌++◌, Option, Some, None, false, ◌⊎◌, inl, inr, refl, sym, ap, ◌∙◌, append_assoc, subst}
 use Rattle.geo_tokens.specs.declared.token.Token.{Token}
-use Rattle.geo_tokens.specs.Words.{Kinds, Of, Lang, Pure, Tok, Cut, Bind, cut, both, Either, left, right, Opt, there, not_there, UpTo, Many, Chain, Placed}
+use Rattle.geo_tokens.specs.Words.{Kinds, Of, Lang, Pure, Tok, Cut, Bind, cut, both, Either, left, right, Opt, there, not_there, UpTo, Many, UpToEnded, Ended, Chain, Placed}
 use Rattle.geo_tokens.proofs.Facts.{Facts, MayBeEmpty}
 use Rattle.geo_tokens.proofs.Levels.{IsCut, Splits, Above, tok_above, pure_above, bind_above, either_above, opt_above, many_above, placed_above}
 
@@ -59,6 +59,28 @@ module _ {A : Type 0} (L M : Lang A) where
 
   pub many_step : Step L M → Step (Many L) (Many M)
   many_step s = record { above = many_above L M s.above; fall = many_fall s }
+
+module _ {A B : Type 0} (marks : Kinds) (L M : Lang A) (E F : Lang B) (t : Token) (i : Of marks t) (s : Step L M) (e : Step E F) where
+  up_to_ended_step : (k : ℕ) → Step (UpToEnded marks L E k) (UpToEnded marks M F k)
+  up_to_ended_step zero = pure_step ([], None)
+  up_to_ended_step (suc k) = opt_step _ _ ([], None) (bind_step (Tok marks) (Tok marks) _ _ (tok_step marks t i) (λ m. either_step _ _ _ _
+      (bind_step L M _ _ s (λ a. bind_step (UpToEnded marks L E k) (UpToEnded marks M F k) (λ r. Pure (a ∷ r.0, r.1)) (λ r. Pure (a ∷ r.0, r.1)) (up_to_ended_step k) (λ r. pure_step (a ∷ r.0, r.1))))
+      (bind_step E F (λ x. Pure ([], Some x)) (λ x. Pure ([], Some x)) e (λ x. pure_step ([], Some x)))))
+
+  ended_above : Above (Ended marks L E) (Ended marks M F)
+  ended_above = record {
+    raise = λ a w l. (l.0, (up_to_ended_step l.0).above.raise a w l.1);
+    fill = λ y l. (let f = (up_to_ended_step l.0).above.fill y l.1 in (f.0, f.1, (l.0, f.2)));
+    value = ([], None);
+    list = [];
+    word = (0, (refl, refl));
+  }
+
+  ended_fall : (o : Option (List A × Option B)) (w : List Token) → Ended marks M F o w → (Ended marks L E o w) ⊎ IsCut (Ended marks L E) w
+  ended_fall o w l = elim ((up_to_ended_step l.0).fall o w l.1) [ inl m ↦ inl (l.0, m) | inr c ↦ inr (c.0, c.1, c.2, (l.0, c.3)) ]
+
+  pub ended_step : Step (Ended marks L E) (Ended marks M F)
+  ended_step = record { above = ended_above; fall = ended_fall }
 
 module _ {A B : Type 0} (L M : Lang A) (made : ℕ → A → B) where
   placed_fall : Step L M → (o : Option B) (w : List Token) → Placed M made o w → (Placed L made o w) ⊎ IsCut (Placed L made) w

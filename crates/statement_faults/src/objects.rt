@@ -4,7 +4,7 @@ ghost use Rattle.std.specs.Prelude.{◌≡◌, ◌↔◌, ◌≤◌, ◌∷◌, 
 ghost use Rattle.problem_data.specs.Limits.{IsFieldName};
 ghost use Rattle.problem_data.specs.View.{object_view};
 ghost use Rattle.problem_data.specs.Least.{IsLeast};
-ghost use Rattle.problem_data.specs.Faults.{FieldFault, AttributesFault, ObjectFault, ObjectsFault, Repeated};
+ghost use Rattle.problem_data.specs.Faults.{FieldFault, AttributesFault, AbsentFault, ObjectFault, ObjectsFault, Repeated};
 
 use crate::each::{FindFault, TryFindFault, each_fault, try_each_fault};
 use crate::names::{limited, names_fault, not_made};
@@ -71,6 +71,17 @@ fn attributes_fault(
     Ok(earlier(names, each))
 }
 
+/// The word `absent` behind as many shapes as there may be.
+fn absent_fault(object: &ObjectText) -> Option<Fault>
+    ensures { IsLeast (AbsentFault (object_view object.now)) result }
+{
+    let full = object.shapes.len() >= MOST_OBJECT_SHAPES;
+    match object.absent {
+        Some(place) => fault_if(full, place, FaultWord::Limit),
+        None => None,
+    }
+}
+
 /// The first fault of an object by itself, where these are the names of the shapes.
 fn object_fault(
     alloc: Global,
@@ -85,7 +96,8 @@ fn object_fault(
     let unknown = not_made(made, shapes);
     let origin = origin_fault(k, object.pieces.as_slice());
     let attributes = attributes_fault(alloc, object.attributes.as_slice())?;
-    let lists = earlier(origin, attributes);
+    let last = earlier(attributes, absent_fault(object));
+    let lists = earlier(origin, last);
     let others = earlier(unknown, lists);
     Ok(earlier(names, others))
 }

@@ -1,6 +1,6 @@
 //! The objects that statements spell.
 
-ghost use Rattle.std.specs.Prelude.{◌≡◌, ◌≤◌, map, length, IfOk};
+ghost use Rattle.std.specs.Prelude.{◌≡◌, ◌≤◌, map, length, is_some, IfOk};
 ghost use Rattle.problem_data.specs.View.{pieces_view, object_view};
 ghost use Rattle.problem_data.specs.ProblemView.{range_data, attribute_data};
 ghost use Rattle.problem_data.specs.Meaning.{position_of, range_of, pieces_of, attribute_of, object_of};
@@ -117,6 +117,7 @@ fn end_object(
     ensures { IfOk result (λ o. o ≡ record {
       name = object.name.name;
       shapes = shapes.items;
+      may_be_absent = is_some object.absent;
       pieces = pieces.items;
       attributes = map attribute_of object.attributes.items;
     }) }
@@ -124,12 +125,13 @@ fn end_object(
     let ObjectText {
         name,
         shapes: _,
+        absent,
         pieces: _,
         attributes,
     } = object;
     let attributes = build_attributes(alloc, attributes)?;
     let PlacedName { place: _, name } = name;
-    Ok(ObjectDef::new(name, shapes, pieces, attributes))
+    Ok(ObjectDef::new(name, shapes, absent.is_some(), pieces, attributes))
 }
 
 /// The objects, where these are the names of the shapes.

@@ -3,7 +3,7 @@
 ghost use Rattle.std.specs.Prelude.{◌≡◌, ◌++◌, ◌∷◌, [], IfOk, map, slice_index_or};
 ghost use Rattle.geo_tokens.specs.declared.token.Sym.TheVariants as syms;
 ghost use Rattle.rule_print.specs.Canonical.{written, symbol};
-ghost use Rattle.problem_text.specs.Canonical.{listed, name_spelling, name_at, shape_spelling, object_spelling, macro_spelling, rule_spelling, order_spelling, sides_spelling, line_text};
+ghost use Rattle.problem_text.specs.Canonical.{listed, name_spelling, name_at, absent_spelling, shapes_spelling, shape_spelling, object_spelling, macro_spelling, rule_spelling, order_spelling, sides_spelling, line_text};
 
 use crate::print::line::push_closed_line;
 use crate::print::part::{
@@ -61,6 +61,31 @@ fn spell_shape_names<'a>(
     Ok(())
 }
 
+/// The word behind the shapes of an object that may be absent.
+fn spell_absent<'a>(may_be_absent: bool, into: &mut Vec<Lexeme<'a>>) -> Result<(), AllocError>
+    ensures { IfOk result (λ _. map written into.new.items ≡ map written into.old.items
+        ++ absent_spelling may_be_absent) }
+{
+    if may_be_absent {
+        push_symbol(Sym::Comma, into)?;
+        push_word(Keyword::Absent, into)?;
+    }
+    Ok(())
+}
+
+/// The shapes of an object, where these are the shapes of the problem.
+fn spell_shapes<'a>(
+    shapes: &'a [ShapeDef],
+    object: &ObjectDef,
+    into: &mut Vec<Lexeme<'a>>,
+) -> Result<(), AllocError>
+    ensures { IfOk result (λ _. map written into.new.items ≡ map written into.old.items
+        ++ shapes_spelling (map (λ s. s.name) shapes.now) object.now) }
+{
+    spell_shape_names(shapes, object.shapes(), into)?;
+    spell_absent(object.may_be_absent(), into)
+}
+
 /// Appends the line of an object, where these are the shapes.
 pub fn push_object(
     alloc: Global,
@@ -80,7 +105,7 @@ pub fn push_object(
         ],
         &mut lexemes,
     )?;
-    spell_shape_names(shapes, object.shapes(), &mut lexemes)?;
+    spell_shapes(shapes, object, &mut lexemes)?;
     push_word(Keyword::At, &mut lexemes)?;
     spell_each_pieces(object.pieces(), &mut lexemes)?;
     spell_attributes(object.attributes(), &mut lexemes)?;

@@ -1,6 +1,6 @@
 use Rattle.std.proofs.Common.{◌≡◌, ℕ, List, [], ◌∷◌, ◌++◌, take, map, sym, ap, ◌∙◌, subst}
 use Rattle.std.specs.List.{Contains}
-use Rattle.geo_tokens.specs.Names.{NameTable, IsNameText}
+use Rattle.geo_tokens.specs.Names.{NameTable, IsPlaceText}
 use Rattle.problem_text.specs.NameTable.{shape_name}
 use Rattle.problem_data.proofs.InLists.{push_view}
 use Rattle.problem_text.proofs.Listed.{holds, is_new}
@@ -8,8 +8,8 @@ use Rattle.problem_text.proofs.names.add_shapes.Goals as goal
 
 pub add_shape-requires-clause-text : goal.add_shape-requires-clause-text
 add_shape-requires-clause-text c =
-    subst IsNameText (sym (c.as_bytes.ensures ∙ c.name.ensures))
-    (holds shape_name c.args.shapes.now c.shapes.shape-index c.shape-item.result c.shapes-test.true c.shape-item.is IsNameText c.requires.table.shape_texts)
+    subst IsPlaceText (sym (c.as_bytes.ensures ∙ c.name.ensures))
+    (holds shape_name c.args.shapes.now c.shapes.shape-index c.shape-item.result c.shapes-test.true c.shape-item.is IsPlaceText c.requires.table.shape_texts)
 
 pub add_shape-requires-clause-new_name : goal.add_shape-requires-clause-new_name
 add_shape-requires-clause-new_name c h =
