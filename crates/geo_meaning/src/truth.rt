@@ -1,10 +1,10 @@
 //! The truth of formulas.
 
 ghost use Rattle.std.specs.Prelude.{◌≡◌};
-ghost use Rattle.std.specs.List.{count_by, list_all, list_any};
+ghost use Rattle.std.specs.List.{count_by, filter, list_all, list_any};
 ghost use Rattle.problem_data.specs.Cells.{IsShaped};
-ghost use Rattle.problem_data.specs.Truth.{compare, quantify};
-ghost use Rattle.rule_expand.specs.PlainTruth.{plain_all, plain_elements, plain_holds, plain_some, plain_value, set_variable};
+ghost use Rattle.problem_data.specs.Truth.{compare, is_there as is_there_in, quantify};
+ghost use Rattle.rule_expand.specs.PlainTruth.{plain_all, plain_candidates, plain_holds, plain_some, plain_value, set_variable};
 ghost use Rattle.rule_expand.specs.PlainView.{plain_coll_view, plain_expr_view, plain_formula_view, plain_formulas_view};
 ghost use Rattle.geo_meaning.specs.Quantified.{AreCalm, holds_for};
 ghost use Rattle.rule_values.specs.Calm.{AllCalm, IsCalm, IsTame, SomeCalm};
@@ -12,7 +12,7 @@ ghost use Rattle.rule_values.specs.Elements.{element_at, elements_view};
 ghost use Rattle.rule_values.specs.View.{env_view};
 
 use crate::numbers::number;
-use crate::places::place;
+use crate::places::{is_there, place};
 use geo_conditions::Layout;
 use problem_data::problem::Problem;
 use rule_expand::plain::{PlainColl, PlainExpr, PlainFormula};
@@ -55,7 +55,7 @@ fn comparison(
     compared(left, rel, number(problem, layout, b, env))
 }
 
-/// What a variable ranges over on the tuple.
+/// What a variable could stand for on the tuple.
 fn ranged<'a>(
     problem: &'a Problem,
     layout: &Layout,
@@ -64,7 +64,7 @@ fn ranged<'a>(
 ) -> Elements<'a>
     requires layout { IsShaped problem.now layout.now }
     ensures { elements_view result
-        ≡ plain_elements problem.now layout.now (plain_coll_view coll.now) (env_view env.now) }
+        ≡ plain_candidates problem.now layout.now (plain_coll_view coll.now) (env_view env.now) }
 {
     let at = match owner(coll, env) {
         Some(o) => place(problem, layout, o),
@@ -135,7 +135,7 @@ fn some_holds(problem: &Problem, layout: &Layout, fs: &[PlainFormula], env: &Env
     false
 }
 
-/// Whether the formula holds for as many elements as the quantifier wants.
+/// Whether the formula holds for as many of the elements that are there as the quantifier wants.
 #[cycle(truth)]
 fn quantified(
     problem: &Problem,
@@ -152,7 +152,7 @@ fn quantified(
     ensures { result
         ≡ quantify kind
         (holds_for problem.now layout.now (plain_formula_view f.now) v (env_view env.now))
-        (elements_view elements.now) }
+        (filter (is_there_in problem.now layout.now) (elements_view elements.now)) }
 {
     match kind {
         QuantKind::ForAll => for_all(problem, layout, v, &*elements, f, &*env),
@@ -162,7 +162,8 @@ fn quantified(
     }
 }
 
-/// Whether the formula holds for every element; those behind one that it fails for are left out.
+/// Whether the formula holds for every element that is there; those behind one that it fails for are
+/// left out.
 #[cycle(truth)]
 fn for_all(
     problem: &Problem,
@@ -178,17 +179,18 @@ fn for_all(
     ensures { result
         ≡ list_all
         (holds_for problem.now layout.now (plain_formula_view f.now) v (env_view env.now))
-        (elements_view elements.now) }
+        (filter (is_there_in problem.now layout.now) (elements_view elements.now)) }
 {
     for i in 0..elements.len() {
-        if !holds_at(problem, layout, v, &*elements, i, f, &*env) {
+        let there = is_there(problem, layout, elements.at(i));
+        if there && !holds_at(problem, layout, v, &*elements, i, f, &*env) {
             return false;
         }
     }
     true
 }
 
-/// Whether the formula holds for some element; those behind it are left out.
+/// Whether the formula holds for some element that is there; those behind it are left out.
 #[cycle(truth)]
 fn for_some(
     problem: &Problem,
@@ -204,17 +206,18 @@ fn for_some(
     ensures { result
         ≡ list_any
         (holds_for problem.now layout.now (plain_formula_view f.now) v (env_view env.now))
-        (elements_view elements.now) }
+        (filter (is_there_in problem.now layout.now) (elements_view elements.now)) }
 {
     for i in 0..elements.len() {
-        if holds_at(problem, layout, v, &*elements, i, f, &*env) {
+        let there = is_there(problem, layout, elements.at(i));
+        if there && holds_at(problem, layout, v, &*elements, i, f, &*env) {
             return true;
         }
     }
     false
 }
 
-/// For how many elements the formula holds.
+/// For how many elements that are there the formula holds.
 #[cycle(truth)]
 fn how_many(
     problem: &Problem,
@@ -230,11 +233,12 @@ fn how_many(
     ensures { result
         ≡ count_by
         (holds_for problem.now layout.now (plain_formula_view f.now) v (env_view env.now))
-        (elements_view elements.now) }
+        (filter (is_there_in problem.now layout.now) (elements_view elements.now)) }
 {
     let mut count = 0;
     for i in 0..elements.len() {
-        if holds_at(problem, layout, v, &*elements, i, f, &*env) {
+        let there = is_there(problem, layout, elements.at(i));
+        if there && holds_at(problem, layout, v, &*elements, i, f, &*env) {
             count += 1;
         }
     }

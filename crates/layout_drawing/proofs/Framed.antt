@@ -24,6 +24,10 @@ least_as k P Q lo hi into back h = record {
 }
 
 module _ (p : ProblemData) (t : Tuple) (bs : List Block) (are : AreBlocksOf p t bs) where
+  -- without blocks there are no cells
+  pub no_cells : length bs ≡ 0 → (c : List ℤ) → IsCell p t c → ⊥
+  no_cells none c (o, x) = let w = are.has o c x in let lt : w.1.0 < length bs = w.1.1 in omega (arith, none, lt)
+
   pub least_cells : (lo hi : List ℤ) → IsLeastBox p.dims (IsOwned bs) lo hi → IsLeastBox p.dims (IsCell p t) lo hi
   least_cells lo hi h = least_as p.dims (IsOwned bs) (IsCell p t) lo hi (λ c (o, x). (o, are.only o c x)) (λ c (o, x). (o, are.has o c x)) h
 

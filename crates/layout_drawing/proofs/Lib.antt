@@ -1,4 +1,4 @@
-pub mod Said
+pub mod Boxes
 pub mod Owners
 pub mod Ends
 pub mod Owned

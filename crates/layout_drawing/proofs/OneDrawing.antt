@@ -1,13 +1,11 @@
 -- A tuple has one drawing, and none where its box is too large.
-use Rattle.std.proofs.Common.{◌≡◌, ◌<◌, ◌≤◌, ◌-◌, ◌==◌, ℕ, ℤ, pos, ◌≤ℤ◌, Bool, true, false, List, [], ◌∷◌, ◌++◌, length, get_or, Option, Some, None, if◌then◌else◌, refl, sym, ap, ◌∙◌, subst, arith}
-use Rattle.std.specs.Prelude.{slice_get}
-use Rattle.std.specs.Option.{option_map_or}
+use Rattle.std.proofs.Common.{◌≡◌, ◌<◌, ◌≤◌, ℕ, ℤ, pos, ◌≤ℤ◌, List, ◌++◌, length, sym, ◌∙◌, arith}
 use Rattle.std.proofs.lemmas.Int.{ints}
 use Rattle.std.proofs.lemmas.List.{ext_get_or}
 use Rattle.geo_base.specs.Boxes.{coordinate, Has}
 use Rattle.problem_data.specs.Cells.{IsCellOf}
-use Rattle.problem_data.specs.Problem.{BoxData, ObjectData, no_object, ProblemData}
-use Rattle.problem_data.specs.Tuple.{Tuple, boxes_in, boxes_of_shape, object_of, spot}
+use Rattle.problem_data.specs.Problem.{ProblemData}
+use Rattle.problem_data.specs.Tuple.{Tuple}
 use Rattle.problem_data.specs.WellFormed.{IsWellFormed}
 use Rattle.layout_drawing.specs.Drawing.{IsCell, IsLeastBox, IsLarge, IsDrawing, nothing, drawn, cell_count, most_cells, box_line, picture}
 use Rattle.layout_drawing.proofs.Owners.{same_signs}
@@ -31,21 +29,10 @@ module _ (k : ℕ) (Cell : List ℤ → Type 0) (lo hi low high : List ℤ) (one
       let e = a.2 in let f = b.2 in
       omega (arith, ints))
 
--- ---- without objects
+-- ---- without cells
 
-none_of : (f : ℕ → List BoxData) (b : Bool) → length (option_map_or f (if b then None else None) []) ≡ 0
-none_of f true = refl
-none_of f false = refl
-
-no_cell : (p : ProblemData) (t : Tuple) → p.objects ≡ [] → (c : List ℤ) → IsCell p t c → ⊥
-no_cell p t none c (o, (n, lt, has)) =
-    let few : length (boxes_in p t o) ≡ 0 =
-    ap (λ (os : List ObjectData). length (option_map_or (boxes_of_shape p) (if (spot t o).place == 0 then None else slice_get (get_or os o no_object).shapes ((spot t o).place - 1)) [])) none
-    ∙ none_of (boxes_of_shape p) ((spot t o).place == 0) in
-    absurd (omega (arith, lt, few))
-
-no_box : (p : ProblemData) (t : Tuple) (lo hi : List ℤ) → IsWellFormed p → p.objects ≡ [] → IsLeastBox p.dims (IsCell p t) lo hi → ⊥
-no_box p t lo hi well none box = let c = box.lowest 0 well.some in no_cell p t none c.0 c.1
+no_box : (p : ProblemData) (t : Tuple) (lo hi : List ℤ) → IsWellFormed p → ((c : List ℤ) → IsCell p t c → ⊥) → IsLeastBox p.dims (IsCell p t) lo hi → ⊥
+no_box p t lo hi well none box = let c = box.lowest 0 well.some in none c.0 c.1
 
 -- ---- one drawing
 

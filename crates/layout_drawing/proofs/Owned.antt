@@ -4,7 +4,7 @@ use Rattle.std.specs.Prelude.{◌-◌, ◌==◌, All, None, if◌then◌else◌,
 use Rattle.std.specs.Option.{option_map_or}
 use Rattle.std.specs.List.{Contains}
 use Rattle.std.proofs.lemmas.Bool.{cases_lt}
-use Rattle.std.proofs.lemmas.List.{get_or_past, length-append}
+use Rattle.std.proofs.lemmas.List.{get_or_past}
 use Rattle.std.proofs.lemmas.List.Elements.{All-push, Contains-append_left, Contains-push, Contains-push_cases}
 use Rattle.geo_base.specs.Tuple.{nothing_put, spot}
 use Rattle.problem_data.specs.Cells.{BoxHas, IsCellOf, box_at}
@@ -36,7 +36,6 @@ HasBelow p t o n c = (m : ℕ) × (m < n) × BoxHas p.dims (box_at (boxes_in p t
 module _ (p : ProblemData) (t : Tuple) (o : ℕ) where
   -- to old blocks those of the first n boxes came
   pub record Added (n : ℕ) (old new : List Block) : Type 0 where
-    pub more : length new ≡ length old + n
     pub dims : All (IsOfDims p.dims) old → All (IsOfDims p.dims) new
     pub kept : (u : ℕ) (c : List ℤ) → Owns old u c → Owns new u c
     pub added : (c : List ℤ) → HasBelow p t o n c → Owns new o c
@@ -44,7 +43,6 @@ module _ (p : ProblemData) (t : Tuple) (o : ℕ) where
 
   pub added_none : (bs : List Block) → Added 0 bs bs
   added_none bs = record {
-    more = omega arith;
     dims = λ h. h;
     kept = λ u c h. h;
     added = λ c h. (let lt : h.0 < 0 = h.1 in absurd (omega arith));
@@ -53,7 +51,6 @@ module _ (p : ProblemData) (t : Tuple) (o : ℕ) where
 
   pub added_more : (n : ℕ) (old new : List Block) (b : Block) → Added n old new → IsBlockOf p.dims (box_at (boxes_in p t o) n) (spot t o).origin o b → Added (n + 1) old (new ++ b ∷ [])
   added_more n old new b h is = record {
-    more = (let e : length new ≡ length old + n = h.more in let k : length (new ++ b ∷ []) ≡ length new + 1 = length-append new (b ∷ []) in omega arith);
     dims = λ a. All-push (IsOfDims p.dims) new b (h.dims a) is.dims;
     kept = λ u c x. owns_kept new b u c (h.kept u c x);
     added = λ c (m, lt, has). elim (cases_lt m n) [
@@ -67,9 +64,8 @@ module _ (p : ProblemData) (t : Tuple) (o : ℕ) where
     ];
   }
 
-  pub added_all : (old new : List Block) → 0 < length (boxes_in p t o) → Added (length (boxes_in p t o)) old new → Adds p t o old new
-  added_all old new some h = record {
-    more = (let e = h.more in omega arith);
+  pub added_all : (old new : List Block) → Added (length (boxes_in p t o)) old new → Adds p t o old new
+  added_all old new h = record {
     dims = h.dims;
     kept = h.kept;
     added = h.added;
@@ -90,14 +86,12 @@ cell_there p t o c (n, lt, has) = elim (cases_lt o (length t)) [ inl less ↦ le
 
 module _ (p : ProblemData) (t : Tuple) where
   pub record AreBelow (n : ℕ) (bs : List Block) : Type 0 where
-    pub some : n ≤ length bs
     pub dims : All (IsOfDims p.dims) bs
     pub has : (o : ℕ) (c : List ℤ) → o < n → IsCellOf p t o c → Owns bs o c
     pub only : (o : ℕ) (c : List ℤ) → Owns bs o c → IsCellOf p t o c
 
   pub none_below : AreBelow 0 []
   none_below = record {
-    some = omega arith;
     dims = λ k d lt. absurd (omega arith);
     has = λ o c lt h. absurd (omega arith);
     only = λ o c h. (let lt : h.1.0 < 0 = h.1.1 in absurd (omega arith));
@@ -105,7 +99,6 @@ module _ (p : ProblemData) (t : Tuple) where
 
   pub more_below : (n : ℕ) (old new : List Block) → AreBelow n old → Adds p t n old new → AreBelow (n + 1) new
   more_below n old new h a = record {
-    some = (let i = h.some in let j = a.more in omega arith);
     dims = a.dims h.dims;
     has = λ o c lt is. elim (cases_lt o n) [
       | inl less ↦ a.kept o c (h.has o c less is)
@@ -114,9 +107,8 @@ module _ (p : ProblemData) (t : Tuple) where
     only = λ o c x. elim (a.only o c x) [ inl before ↦ h.only o c before | inr here ↦ subst (λ (k : ℕ). IsCellOf p t k c) (sym here.0) here.1 ];
   }
 
-  pub all_below : (bs : List Block) → 0 < length t → AreBelow (length t) bs → AreBlocksOf p t bs
-  all_below bs some h = record {
-    some = (let i = h.some in omega arith);
+  pub all_below : (bs : List Block) → AreBelow (length t) bs → AreBlocksOf p t bs
+  all_below bs h = record {
     dims = h.dims;
     has = λ o c is. h.has o c (cell_there p t o c is) is;
     only = h.only;

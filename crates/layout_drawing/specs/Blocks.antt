@@ -1,5 +1,5 @@
 -- Boxes of placed objects as blocks of cells, by their ends in each dimension.
-use Rattle.std.specs.Prelude.{◌≡◌, ◌⊎◌, ◌<◌, ◌≤ℤ◌, ◌↔◌, ℕ, ℤ, List, length, map, All, Any}
+use Rattle.std.specs.Prelude.{◌≡◌, ◌⊎◌, ◌≤ℤ◌, ◌↔◌, ℕ, ℤ, List, length, map, All, Any}
 use Rattle.std.specs.List.{Contains}
 use Rattle.geo_base.specs.Boxes.{coordinate, Has}
 use Rattle.geo_base.specs.Tuple.{spot}
@@ -46,7 +46,6 @@ pub record IsBlockOf (k : ℕ) (a : BoxData) (origin : List ℤ) (o : ℕ) (b : 
 
 -- to old blocks those of the object o came
 pub record Adds (p : ProblemData) (t : Tuple) (o : ℕ) (old new : List Block) : Type 0 where
-  pub more : length old < length new
   pub dims : All (IsOfDims p.dims) old → All (IsOfDims p.dims) new
   pub kept : (u : ℕ) (c : List ℤ) → Owns old u c → Owns new u c
   pub added : (c : List ℤ) → IsCellOf p t o c → Owns new o c
@@ -54,7 +53,6 @@ pub record Adds (p : ProblemData) (t : Tuple) (o : ℕ) (old new : List Block) :
 
 -- the blocks of all objects where the tuple puts them
 pub record AreBlocksOf (p : ProblemData) (t : Tuple) (bs : List Block) : Type 0 where
-  pub some : 0 < length bs
   pub dims : All (IsOfDims p.dims) bs
   pub has : (o : ℕ) (c : List ℤ) → IsCellOf p t o c → Owns bs o c
   pub only : (o : ℕ) (c : List ℤ) → Owns bs o c → IsCellOf p t o c

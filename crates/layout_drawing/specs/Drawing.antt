@@ -127,9 +127,9 @@ box_line lo hi = codes "box" ++ (ranges lo hi ++ codes "\n")
 -- ---- the whole
 
 -- The text is the drawing of the tuple. Its box has no more cells than a drawing may have; without
--- objects there is no box.
+-- cells there is no box.
 pub data IsDrawing (p : ProblemData) (t : Tuple) (text : List ℕ) : Type 0 where
-  nothing : p.objects ≡ [] → text ≡ codes "box -\n" → IsDrawing p t text
+  nothing : ((c : List ℤ) → IsCell p t c → ⊥) → text ≡ codes "box -\n" → IsDrawing p t text
   drawn : (lo hi : List ℤ) → IsLeastBox p.dims (IsCell p t) lo hi →
       cell_count lo hi ≤ most_cells →
       (sign : List ℤ → ℕ) → AreSigns (IsCellOf p t) sign →

@@ -10,6 +10,7 @@ ghost use Rattle.layout_drawing.specs.Blocks.{Adds, AreBlocksOf, IsBlockOf};
 
 use crate::span::Span;
 use geo_conditions::{Layout, ObjId};
+use layout_text::shape_of;
 use problem_data::problem::{BoxDef, Problem};
 use std::alloc::{AllocError, Global};
 
@@ -63,18 +64,21 @@ fn block_of(alloc: Global, layout: &Layout, o: ObjId, part: &BoxDef) -> Result<B
     Ok(Block { object: o, spans })
 }
 
-// The boxes that the object has in the layout.
+// The boxes that the object has in the layout; none where it is absent.
 fn boxes<'a>(problem: &'a Problem, layout: &Layout, o: ObjId) -> &'a [BoxDef]
     requires layout { IsShaped problem.now layout.now }
     requires object { o.0 < length problem.now.objects }
     ensures same { result.now ≡ boxes_in problem.now layout.now o.0 }
-    ensures some { 0 < length result.now }
     ensures each { All (IsBox problem.now.dims) result.now }
 {
     problem.is_said();
-    let object = &problem.objects()[o.0 as usize];
-    let shape = object.shapes()[layout.place(o) as usize - 1];
-    problem.shapes()[shape as usize].boxes()
+    match shape_of(problem, layout, o) {
+        Some(number) => match problem.shapes().get(number as usize) {
+            Some(shape) => shape.boxes(),
+            None => &[],
+        },
+        None => &[],
+    }
 }
 
 // Appends the blocks of the object.
@@ -96,14 +100,13 @@ fn push_blocks(
     Ok(())
 }
 
-/// The blocks of all objects, of which there is one at least.
+/// The blocks of all objects.
 pub fn blocks_of(
     alloc: Global,
     problem: &Problem,
     layout: &Layout,
 ) -> Result<Vec<Block>, AllocError>
     requires layout { IsShaped problem.now layout.now }
-    requires some { 0 < length problem.now.objects }
     ensures { IfOk result (λ v. AreBlocksOf problem.now layout.now v.items) }
 {
     problem.is_said();

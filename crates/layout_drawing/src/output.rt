@@ -36,10 +36,10 @@ pub fn drawing(
         (λ text. IsDrawing problem.now layout.now text.items)) }
 {
     problem.is_said();
-    if problem.objects().is_empty() {
+    let blocks = blocks_of(alloc, problem, layout)?;
+    if blocks.is_empty() {
         return Ok(Some(Vec::from_slice(alloc, b"box -\n")?));
     }
-    let blocks = blocks_of(alloc, problem, layout)?;
     let spans = least_box(alloc, problem.dims(), blocks.as_slice())?;
     if !is_small(spans.as_slice()) {
         return Ok(None);

@@ -1,5 +1,5 @@
 -- The numbers, the pieces of ranges and the spots at a place of their lists.
-use Rattle.std.proofs.Common.{◌≡◌, ◌<◌, ℕ, ℤ, pos, List, [], length, map, get_or, sym, ap, ◌∙◌, subst, arith}
+use Rattle.std.proofs.Common.{◌≡◌, ◌<◌, ℕ, ℤ, pos, true, List, [], length, map, get_or, sym, ap, ◌∙◌, subst, arith}
 use Rattle.std.specs.Prelude.{slice_index_or}
 use Rattle.std.proofs.lemmas.List.{get_or-map, get_or_default, length-map}
 use Rattle.geo_base.specs.Boxes.{coordinate}
@@ -9,12 +9,14 @@ use Rattle.problem_data.specs.Cells.{HasForm, IsSpotOf}
 use Rattle.problem_data.specs.Meaning.{number_of}
 use Rattle.problem_data.specs.Problem.{ObjectData, RangeData, ProblemData}
 use Rattle.problem_data.specs.Pieces.{IsInPieces}
+use Rattle.problem_data.specs.Places.{is_absent_at}
 use Rattle.problem_data.specs.Tuple.{Spot, object_of}
 use Rattle.problem_data.specs.WellFormed.{IsObject}
 use Rattle.layout_text.specs.declared.tree.GroupText.{GroupText}
-use Rattle.layout_text.specs.Faults.{AreInPieces, spot_in}
+use Rattle.layout_text.specs.Faults.{AreInPieces, first_values, spot_in}
 use Rattle.layout_text.specs.Token.{tuple_in}
 use Rattle.layout_text.specs.View.{group_view}
+use Rattle.layout_text.proofs.FirstValues.{are_first_of, first_same}
 
 module _ (rs : List (List RangeData)) (xs : List Int) (i : ℕ) (r : List RangeData) (x : Int) (same : length rs ≡ length xs) (lt : i < length xs) (is : r ≡ get_or rs i r) where
   range_is : slice_index_or rs i [] ≡ r
@@ -29,12 +31,21 @@ module _ (rs : List (List RangeData)) (xs : List Int) (i : ℕ) (r : List RangeD
   pub out_of_pieces : IsInPieces (slice_index_or rs i []) (coordinate (map number_of xs) i) → IsInPieces r (get_or xs i x).value
   out_of_pieces h = subst (λ (v : ℤ). IsInPieces r v) number_is (subst (λ (s : List RangeData). IsInPieces s (coordinate (map number_of xs) i)) range_is h)
 
--- a spot of that form whose numbers lie in the pieces is one of the object
-pub made_spot : (p : ProblemData) (o : ObjectData) (s : Spot) → IsObject p o → HasForm p o s → AreInPieces o.pieces s.origin → IsSpotOf p o s
-made_spot p o s is form h = record { form = form; pieces = λ d lt. h d (let e : length o.pieces ≡ p.dims = is.dimensions in omega (arith, e, lt)) }
+-- a spot of that form whose numbers lie in the pieces, and are the first values where it is absent, is
+-- one of the object
+pub made_spot : (p : ProblemData) (o : ObjectData) (s : Spot) → IsObject p o → HasForm p o s → AreInPieces o.pieces s.origin
+    → (is_absent_at o s.place ≡ true → s.origin ≡ first_values p o) → IsSpotOf p o s
+made_spot p o s is form h first = record {
+  form = form;
+  pieces = λ d lt. h d (let e : length o.pieces ≡ p.dims = is.dimensions in omega (arith, e, lt));
+  first = λ e. are_first_of p o s.origin (first e);
+}
 
 pub spot_inside : (p : ProblemData) (o : ObjectData) (s : Spot) → IsObject p o → IsSpotOf p o s → AreInPieces o.pieces s.origin
 spot_inside p o s is h d lt = h.pieces d (let e : length o.pieces ≡ p.dims = is.dimensions in omega (arith, e, lt))
+
+pub spot_first : (p : ProblemData) (o : ObjectData) (s : Spot) → IsSpotOf p o s → is_absent_at o s.place ≡ true → s.origin ≡ first_values p o
+spot_first p o s h e = first_same p o s.origin h.form.dimensions (h.first e)
 
 -- the spot that a group gives
 pub group_spot : (gs : List GroupText) (i : ℕ) (g : GroupText) → i < length gs → g ≡ get_or gs i g → spot (tuple_in (map group_view gs)) i ≡ spot_in (group_view g)

@@ -19,9 +19,9 @@ use Rattle.problem_data.specs.Grammar.{IntWords}
 use Rattle.problem_syntax.specs.WholeText.{FirstFault}
 use Rattle.problem_data.specs.Least.{fault}
 use Rattle.problem_data.specs.Faults.{first_place, int_place}
-use Rattle.layout_text.specs.Tree.{LineTree, TokenTree, LayoutTree}
-use Rattle.layout_text.specs.Grammar.{LineWords, TupleWords, TokenWords, TokenLine, LayoutWords}
-use Rattle.layout_text.specs.Faults.{OutsideFault, LineFault, TokenLineFault, behind_lines, IsFault}
+use Rattle.layout_text.specs.Tree.{PutTree, placed, absent, LineTree, TokenTree, LayoutTree}
+use Rattle.layout_text.specs.Grammar.{PutWords, LineWords, TupleWords, TokenWords, TokenLine, LayoutWords}
+use Rattle.layout_text.specs.Faults.{OutsideFault, PutFault, LineFault, TokenLineFault, behind_lines, IsFault}
 use Rattle.layout_text.specs.FirstFault.{most_bytes, HasFirstFault, long, no_token, no_lines, in_lines}
 
 -- ---- tokens
@@ -142,17 +142,25 @@ module _ (n : ℕ) where
       (bind_in (tok_in (symbol symbols.Minus)) (λ m h. bind_in (tok_in numbers) (λ t g. pure_in _ h)))
       (bind_in (tok_in numbers) (λ t h. pure_in _ h))
 
+  abbrev InPut : PutTree → Type 0
+  InPut (placed shape origin) = (shape.place ≤ n) × AllOf (λ (i : Int). i.place ≤ n) origin
+  InPut (absent place) = place ≤ n
+
+  put_in : (text : List ℕ) → In n (PutWords text) InPut
+  unfolding PutWords
+  put_in text = either_in
+      (bind_in (tok_in (word keywords.As)) (λ t ht. bind_in (named_in text) (λ s hs. bind_in (tok_in (word keywords.At)) (λ u hu.
+      bind_in (bind_in int_in (λ x hx. bind_in (many_in int_in) (λ xs hxs. pure_in {P = AllOf (λ (i : Int). i.place ≤ n)} (x ∷ xs) (hx, hxs))))
+      (λ xs hxs. pure_in {P = InPut} (placed s xs) (hs, hxs))))))
+      (bind_in (tok_in (word keywords.Absent)) (λ t h. pure_in {P = InPut} (absent t.start) h))
+
   record InLine (l : LineTree) : Type 0 where
     name : l.name.place ≤ n
-    shape : l.shape.place ≤ n
-    origin : AllOf (λ (i : Int). i.place ≤ n) l.origin
+    put : InPut l.put
 
   line_in : (text : List ℕ) → In n (LineWords text) InLine
   unfolding LineWords
-  line_in text =
-      bind_in (named_in text) (λ a ha. bind_in (tok_in (word keywords.As)) (λ t ht. bind_in (named_in text) (λ s hs. bind_in (tok_in (word keywords.At)) (λ u hu.
-      bind_in (bind_in int_in (λ x hx. bind_in (many_in int_in) (λ xs hxs. pure_in {P = AllOf (λ (i : Int). i.place ≤ n)} (x ∷ xs) (hx, hxs))))
-      (λ xs hxs. pure_in _ (record { name = ha; shape = hs; origin = hxs }))))))
+  line_in text = bind_in (named_in text) (λ a ha. bind_in (put_in text) (λ p hp. pure_in _ (record { name = ha; put = hp })))
 
   abbrev InToken : Option TokenTree → Type 0
   InToken None = Unit {0}
@@ -192,12 +200,16 @@ module _ (n : ℕ) where
   outside_in None i f h g = absurd h
   outside_in (Some r) i f h g = same_place f i.place words.Range h.1 g
 
+  put_fault_in : (p : ProblemData) (o : ObjectData) (u : PutTree) (f : Fault) → InPut u → PutFault p o u f → f.place ≤ n
+  put_fault_in p o (placed shape origin) f g (inl h) = same_place f shape.place words.Unknown h.1 g.0
+  put_fault_in p o (placed shape origin) f g (inr (inl h)) = same_place f (first_place int_place origin) words.Limit h.1 (first_in origin g.1)
+  put_fault_in p o (placed shape origin) f g (inr (inr h)) = outside_in (slice_get o.pieces (length (take h.index origin))) h.item f h.wrong (at_in (λ (i : Int). i.place ≤ n) origin h.index h.item g.1 h.there)
+  put_fault_in p o (absent place) f g h = same_place f place words.Unknown h.1 g
+
   line_fault_in : (p : ProblemData) (o : Option ObjectData) (l : LineTree) (f : Fault) → InLine l → LineFault p o l f → f.place ≤ n
   line_fault_in p None l f g h = same_place f l.name.place words.Order h g.name
   line_fault_in p (Some o) l f g (inl h) = same_place f l.name.place words.Order h.1 g.name
-  line_fault_in p (Some o) l f g (inr (inl h)) = same_place f l.shape.place words.Unknown h.1 g.shape
-  line_fault_in p (Some o) l f g (inr (inr (inl h))) = same_place f (first_place int_place l.origin) words.Limit h.1 (first_in l.origin g.origin)
-  line_fault_in p (Some o) l f g (inr (inr (inr h))) = outside_in (slice_get o.pieces (length (take h.index l.origin))) h.item f h.wrong (at_in (λ (i : Int). i.place ≤ n) l.origin h.index h.item g.origin h.there)
+  line_fault_in p (Some o) l f g (inr h) = put_fault_in p o l.put f g.put h
 
   behind_in : (o : Option TokenTree) → InToken o → behind_lines n o ≤ n
   behind_in None h = omega arith

@@ -7,15 +7,20 @@ use Rattle.geo_tokens.specs.Deep.{IsReading}
 use Rattle.geo_tokens.proofs.Levels.{is_reading}
 use Rattle.rule_reading.proofs.Steps.{Step, pure_step, bind_step, either_step, opt_step, many_step, steps_split}
 use Rattle.problem_syntax.proofs.Levels.{word_step, symbol_step, number_step, named_step, one_or_more_step, int_step}
-use Rattle.layout_text.specs.Grammar.{LineWords, GroupWords, TupleWords, TokenWords, TokenLine, LayoutWords}
+use Rattle.layout_text.specs.Grammar.{PutWords, LineWords, GroupWords, TupleWords, TokenWords, TokenLine, LayoutWords}
 use Rattle.layout_text.specs.Reading.{layout_at}
 use Rattle.layout_text.proofs.Right.{layout_good}
 
+put_step : (text : List ℕ) → Step (PutWords text) (PutWords text)
+unfolding PutWords
+put_step text = either_step _ _ _ _
+    (bind_step _ _ _ _ (word_step keywords.As) (λ t. bind_step _ _ _ _ (named_step text) (λ s.
+    bind_step _ _ _ _ (word_step keywords.At) (λ u. bind_step _ _ _ _ (one_or_more_step _ _ int_step) (λ xs. pure_step _)))))
+    (bind_step _ _ _ _ (word_step keywords.Absent) (λ t. pure_step _))
+
 line_step : (text : List ℕ) → Step (LineWords text) (LineWords text)
 unfolding LineWords
-line_step text =
-    bind_step _ _ _ _ (named_step text) (λ a. bind_step _ _ _ _ (word_step keywords.As) (λ t. bind_step _ _ _ _ (named_step text) (λ s.
-    bind_step _ _ _ _ (word_step keywords.At) (λ u. bind_step _ _ _ _ (one_or_more_step _ _ int_step) (λ xs. pure_step _)))))
+line_step text = bind_step _ _ _ _ (named_step text) (λ a. bind_step _ _ _ _ (put_step text) (λ p. pure_step _))
 
 group_step : Step GroupWords GroupWords
 unfolding GroupWords

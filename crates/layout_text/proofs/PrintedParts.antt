@@ -1,5 +1,5 @@
 -- The parts of a layout block: they are its bytes, and they are cut where they end.
-use Rattle.std.proofs.Common.{◌≡◌, ℕ, suc, ◌≤◌, ℤ, List, [], ◌∷◌, ◌++◌, length, refl, sym, ap, ◌∙◌, subst, append_assoc}
+use Rattle.std.proofs.Common.{◌≡◌, ℕ, suc, ◌≤◌, ℤ, Bool, true, false, if◌then◌else◌, List, [], ◌∷◌, ◌++◌, length, refl, sym, ap, ◌∙◌, subst, append_assoc}
 use Rattle.std.specs.Prelude.{pos, negsuc, slice_index, codes, flat_map, decimal}
 use Rattle.std.specs.Fmt.{signed_decimal}
 use Rattle.std.specs.List.{range_with_len}
@@ -11,10 +11,11 @@ use Rattle.rule_print.specs.Canonical.{Written, name, number, word, symbol, sign
 use Rattle.rule_print.proofs.Lexemes.{EndsAll, space_ends, line_ends}
 use Rattle.rule_print.proofs.Respelled.{AllOf, joined}
 use Rattle.problem_data.specs.Problem.{ProblemData}
+use Rattle.problem_data.specs.Places.{is_absent_at}
 use Rattle.problem_data.specs.Tuple.{Spot, Tuple, spot, object_of}
 use Rattle.problem_text.specs.Canonical.{int_spelling}
 use Rattle.problem_text.proofs.PrintingParts.{IsTextNumber}
-use Rattle.layout_text.specs.Block.{shape_name, coordinates, line_of, lines_of, group_of, later_group, token_of, token_line, block_of}
+use Rattle.layout_text.specs.Block.{shape_name, coordinates, placed_line, absent_line, line_of, lines_of, group_of, later_group, token_of, token_line, block_of}
 use Rattle.layout_text.proofs.TextParts.{Part, blank, lexeme, part_bytes, all_bytes, lexemes, Fits, bytes_both, fits_both, lexemes_both, IsMark, space_mark, comma_mark, slash_mark, mark_ends}
 
 -- ---- numbers
@@ -75,13 +76,24 @@ pub record CanWriteSpot (s : Spot) : Type 0 where
   pub origin : AllOf IsTextNumber s.origin
 
 module _ (p : ProblemData) (t : Tuple) where
-  abbrev pub line_parts : ℕ → List Part
-  line_parts o =
+  abbrev pub placed_parts : ℕ → List Part
+  placed_parts o =
       lexeme (name (object_of p o).name) ∷ blank 32 ∷ lexeme (word keywords.As) ∷ blank 32 ∷ lexeme (name (shape_name p t o)) ∷ blank 32 ∷ lexeme (word keywords.At)
       ∷ (coordinate_parts (blank 32) (spot t o).origin ++ blank 10 ∷ [])
 
-  line_bytes : (o : ℕ) → all_bytes (line_parts o) ≡ line_of p t o
-  line_bytes o =
+  abbrev pub absent_parts : ℕ → List Part
+  absent_parts o = lexeme (name (object_of p o).name) ∷ blank 32 ∷ lexeme (word keywords.Absent) ∷ blank 10 ∷ []
+
+  -- of an object that is absent, or is not
+  abbrev pub parts_where : Bool → ℕ → List Part
+  parts_where true o = absent_parts o
+  parts_where false o = placed_parts o
+
+  abbrev pub line_parts : ℕ → List Part
+  line_parts o = parts_where (is_absent_at (object_of p o) (spot t o).place) o
+
+  placed_bytes : (o : ℕ) → all_bytes (placed_parts o) ≡ placed_line p t o
+  placed_bytes o =
       let n : List ℕ = (object_of p o).name in
       let s : List ℕ = shape_name p t o in
       let tail : List ℕ = coordinates (codes " ") (spot t o).origin ++ codes "\n" in
@@ -89,16 +101,24 @@ module _ (p : ProblemData) (t : Tuple) where
       ap (λ (u : List ℕ). n ++ (codes " as " ++ (s ++ (codes " at" ++ u)))) same
       ∙ sym (append_assoc n (codes " as " ++ (s ++ codes " at")) tail ∙ ap (λ (u : List ℕ). n ++ (codes " as " ++ u)) (append_assoc s (codes " at") tail))
 
-  line_fits : (o : ℕ) (u : List ℕ) → IsNameText (object_of p o).name → IsNameText (shape_name p t o) → CanWriteSpot (spot t o) → Fits (line_parts o) u
-  line_fits o u hn hs h =
+  line_bytes : (b : Bool) (o : ℕ) → all_bytes (parts_where b o) ≡ (if b then absent_line p o else placed_line p t o)
+  line_bytes true o = refl
+  line_bytes false o = placed_bytes o
+
+  placed_fits : (o : ℕ) (u : List ℕ) → IsNameText (object_of p o).name → IsNameText (shape_name p t o) → CanWriteSpot (spot t o) → Fits (placed_parts o) u
+  placed_fits o u hn hs h =
       let cs : List Part = coordinate_parts (blank 32) (spot t o).origin in
       let last : Fits (cs ++ blank 10 ∷ []) u = fits_both cs (blank 10 ∷ []) u (coordinate_fits (blank 32) (spot t o).origin (10 ∷ u) space_mark h.origin line_ends) (refl, tt) in
       let ends : EndsAll (slice_index (all_bytes (cs ++ blank 10 ∷ []) ++ u) 0) =
       subst (λ (v : List ℕ). EndsAll (slice_index v 0)) (sym (ap (λ (v : List ℕ). v ++ u) (bytes_both cs (blank 10 ∷ [])) ∙ append_assoc (all_bytes cs) (10 ∷ []) u)) (coordinates_end (blank 32) (spot t o).origin (10 ∷ u) space_mark line_ends) in
       (hn, space_ends (name (object_of p o).name), (refl, (tt, space_ends (word keywords.As), (refl, (hs, space_ends (name (shape_name p t o)), (refl, (tt, ends (word keywords.At), last)))))))
 
-  pub line_lexemes : (o : ℕ) → lexemes (line_parts o) ≡ name (object_of p o).name ∷ word keywords.As ∷ name (shape_name p t o) ∷ word keywords.At ∷ flat_map int_spelling (spot t o).origin
-  line_lexemes o =
+  line_fits : (b : Bool) (o : ℕ) (u : List ℕ) → IsNameText (object_of p o).name → (b ≡ false → IsNameText (shape_name p t o)) → CanWriteSpot (spot t o) → Fits (parts_where b o) u
+  line_fits true o u hn hs h = (hn, space_ends (name (object_of p o).name), (refl, (tt, line_ends (word keywords.Absent), (refl, tt))))
+  line_fits false o u hn hs h = placed_fits o u hn (hs refl) h
+
+  pub placed_lexemes : (o : ℕ) → lexemes (placed_parts o) ≡ name (object_of p o).name ∷ word keywords.As ∷ name (shape_name p t o) ∷ word keywords.At ∷ flat_map int_spelling (spot t o).origin
+  placed_lexemes o =
       ap (λ (us : List Written). name (object_of p o).name ∷ word keywords.As ∷ name (shape_name p t o) ∷ word keywords.At ∷ us)
       (lexemes_both (coordinate_parts (blank 32) (spot t o).origin) (blank 10 ∷ []) ∙ append-nil (lexemes (coordinate_parts (blank 32) (spot t o).origin)) ∙ spaced_lexemes (spot t o).origin)
 
@@ -155,7 +175,7 @@ module _ (p : ProblemData) (t : Tuple) where
 
   lines_bytes : (os : List ℕ) → all_bytes (flat_map (line_parts p t) os) ≡ flat_map (line_of p t) os
   lines_bytes [] = refl
-  lines_bytes (o ∷ os) = bytes_both (line_parts p t o) (flat_map (line_parts p t) os) ∙ ap (λ (u : List ℕ). u ++ all_bytes (flat_map (line_parts p t) os)) (line_bytes p t o) ∙ ap (λ (u : List ℕ). line_of p t o ++ u) (lines_bytes os)
+  lines_bytes (o ∷ os) = bytes_both (line_parts p t o) (flat_map (line_parts p t) os) ∙ ap (λ (u : List ℕ). u ++ all_bytes (flat_map (line_parts p t) os)) (line_bytes p t (is_absent_at (object_of p o) (spot t o).place) o) ∙ ap (λ (u : List ℕ). line_of p t o ++ u) (lines_bytes os)
 
   end_bytes : all_bytes end_parts ≡ token_line t
   end_bytes = ap (λ (u : List ℕ). codes "token " ++ u) (bytes_both (token_parts t) (blank 10 ∷ []) ∙ ap (λ (u : List ℕ). u ++ codes "\n") (token_bytes t))
@@ -168,12 +188,12 @@ module _ (p : ProblemData) (t : Tuple) where
   -- what can be written of an object's line
   pub record CanWriteLine (o : ℕ) : Type 0 where
     pub name : IsNameText (object_of p o).name
-    pub shape : IsNameText (shape_name p t o)
+    pub shape : is_absent_at (object_of p o) (spot t o).place ≡ false → IsNameText (shape_name p t o)
     pub spot : CanWriteSpot (spot t o)
 
   lines_fit : (os : List ℕ) (u : List ℕ) → AllOf CanWriteLine os → Fits (flat_map (line_parts p t) os) u
   lines_fit [] u h = tt
-  lines_fit (o ∷ os) u h = fits_both (line_parts p t o) (flat_map (line_parts p t) os) u (line_fits p t o (all_bytes (flat_map (line_parts p t) os) ++ u) h.0.name h.0.shape h.0.spot) (lines_fit os u h.1)
+  lines_fit (o ∷ os) u h = fits_both (line_parts p t o) (flat_map (line_parts p t) os) u (line_fits p t (is_absent_at (object_of p o) (spot t o).place) o (all_bytes (flat_map (line_parts p t) os) ++ u) h.0.name h.0.shape h.0.spot) (lines_fit os u h.1)
 
   pub block_fits : AllOf CanWriteLine (range_with_len 0 (length t)) → AllOf CanWriteSpot t → Fits block_parts []
   block_fits h g =

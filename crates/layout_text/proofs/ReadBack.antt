@@ -1,5 +1,5 @@
 -- A layout block is read back as its tuple, and a tuple has one block and one token.
-use Rattle.std.proofs.Common.{◌≡◌, ◌≢◌, ℕ, zero, suc, ◌+◌, ◌-◌, ◌<◌, ◌≤◌, ◌≤ℤ◌, ℤ, pos, negsuc, List, [], ◌∷◌, length, map, take, get_or, Option, Some, None, Result, Ok, Err, false, ◌==◌, if◌then◌else◌, inl, inr, ⊎_elim, refl, sym, ap, ◌∙◌, subst, arith}
+use Rattle.std.proofs.Common.{◌≡◌, ◌≢◌, ℕ, zero, suc, ◌+◌, ◌-◌, ◌<◌, ◌≤◌, ◌≤ℤ◌, ℤ, pos, negsuc, List, [], ◌∷◌, length, map, take, get_or, Option, Some, None, Result, Ok, Err, Bool, true, false, ◌==◌, if◌then◌else◌, inl, inr, ⊎_elim, refl, sym, ap, ◌∙◌, subst, arith}
 use Rattle.std.specs.Prelude.{slice_get}
 use Rattle.std.specs.List.{range_with_len, position_or_len}
 use Rattle.std.specs.Option.{option_map_or}
@@ -23,6 +23,7 @@ use Rattle.geo_tokens.specs.Reading.{Got}
 use Rattle.geo_tokens.proofs.Good.{reads_all}
 use Rattle.geo_tokens.proofs.Cuts.{one_list}
 use Rattle.rule_print.proofs.Lexemes.{nothing_ends}
+use Rattle.rule_syntax.specs.declared.tree.PlacedName.{PlacedName}
 use Rattle.rule_print.proofs.Respelled.{AllOf, Each}
 use Rattle.problem_data.specs.declared.fault.Fault.{Fault}
 use Rattle.problem_data.specs.declared.tree.Int.{Int}
@@ -30,28 +31,30 @@ use Rattle.problem_data.specs.Problem.{RangeData, ObjectData, no_object, Problem
 use Rattle.problem_data.specs.Pieces.{no_range, range_at, IsInPieces, pieces_at}
 use Rattle.problem_text.specs.NameTable as tables
 use Rattle.problem_text.specs.NameTable.{name_table}
+use Rattle.problem_data.specs.Places.{is_absent_at, place_count}
 use Rattle.problem_data.specs.Tuple.{Tuple, spot, object_of}
 use Rattle.problem_data.specs.Meaning.{number_of, position_of}
 use Rattle.problem_data.specs.Whole.{IsWhole}
 use Rattle.problem_data.specs.Accepted.{IsSaid}
 use Rattle.problem_data.specs.Cells.{IsSpotOf, IsTuple}
 use Rattle.problem_data.specs.WellFormed.{IsRange, IsObject, IsWellFormed}
-use Rattle.problem_text.proofs.Said.{said_table}
+use Rattle.problem_text.proofs.Said.{said_shape_texts, said_shapes_differ, said_table}
 use Rattle.problem_syntax.proofs.WholeText.{is_whole}
 use Rattle.problem_text.proofs.PrintingParts.{IsTextNumber, IsSome}
 use Rattle.layout_text.specs.Block.{shape_name, token_of, block_of}
-use Rattle.layout_text.specs.Tree.{LineTree, GroupTree, TokenTree, LayoutTree}
+use Rattle.layout_text.specs.Tree.{PutTree, placed, absent, LineTree, GroupTree, TokenTree, LayoutTree}
 use Rattle.layout_text.specs.Grammar.{TupleWords, LayoutWords}
 use Rattle.layout_text.specs.Reading.{tuple_at, layout_at}
-use Rattle.layout_text.specs.Faults.{name_of_shape, shape_names, spot_of, tuple_of, spot_in, OutsideFault, LineFault, TokenLineFault, IsFault}
+use Rattle.layout_text.specs.Faults.{name_of_shape, shape_names, put_spot, spot_of, tuple_of, spot_in, OutsideFault, PutFault, LineFault, TokenLineFault, IsFault}
 use Rattle.layout_text.specs.FirstFault.{most_bytes, Accepts, IsOnlyLayout, IsAnswered}
 use Rattle.layout_text.specs.Token.{SaysGroups, tuple_in}
 use Rattle.layout_text.proofs.Right.{tuple_good, layout_good}
 use Rattle.layout_text.proofs.Levels.{layout_reading}
+use Rattle.layout_text.proofs.FirstValues.{absent_is, absent_may, first_same, present_place}
 use Rattle.layout_text.proofs.Tuples.{no_line, spots_length, spot_at}
 use Rattle.layout_text.proofs.TextParts.{all_bytes, tokens_from, parts_are_tokens, parts_stand_whole}
 use Rattle.layout_text.proofs.PrintedParts.{token_parts, token_bytes, token_fits, block_parts, block_bytes, block_fits, CanWriteSpot, CanWriteLine}
-use Rattle.layout_text.proofs.SpelledAgain.{SaysSpot, CanReadLine, GivesTuple, SaysTuple, tuple_again, block_again}
+use Rattle.layout_text.proofs.SpelledAgain.{SaysPut, SaysSpot, CanReadLine, GivesTuple, SaysTuple, tuple_again, block_again}
 
 -- ---- lists by their items
 
@@ -107,15 +110,13 @@ module _ (p : ProblemData) (well : IsWellFormed p) (said : IsSaid p) where
 
       ordered : (j k : ℕ) → j < k → k < length p.shapes → name_of_shape p j ≡ name_of_shape p k → ⊥
       ordered j k lt l g =
-          let table : IsNameTable (name_table p) = said_table p said in
           let n = length-map p.shapes tables.shape_name in
-          table.shapes_differ j k [] lt (omega arith) (named j (omega arith) ∙ g ∙ sym (named k l))
+          said_shapes_differ p said j k [] lt (omega arith) (named j (omega arith) ∙ g ∙ sym (named k l))
 
   shape_text : (k : ℕ) → k < length p.shapes → IsNameText (name_of_shape p k)
   shape_text k lt =
-      let table : IsNameTable (name_table p) = said_table p said in
       let n = length-map p.shapes tables.shape_name in
-      subst IsNameText (get_or-map tables.shape_name p.shapes k _ [] lt) (table.shape_texts k [] (omega arith))
+      subst IsNameText (get_or-map tables.shape_name p.shapes k _ [] lt) (said_shape_texts p said k [] (omega arith))
 
   module _ (t : Tuple) (is : IsTuple p t) where
     sized : length t ≡ length p.objects
@@ -128,57 +129,118 @@ module _ (p : ProblemData) (well : IsWellFormed p) (said : IsSaid p) where
       is_object : IsObject p (object_of p i)
       is_object = well.objects i no_object lt
 
-      -- the position of the shape in the object's list, and its number
-      at : ℕ
-      at = (spot t i).place - 1
-
-      number : ℕ
-      unfolding at
-      number = get_or (object_of p i).shapes at 0
-
-      in_list : at < length (object_of p i).shapes
-      unfolding at
-      in_list = let first : 1 ≤ (spot t i).place = fits.form.first in let last : (spot t i).place ≤ length (object_of p i).shapes = fits.form.last in omega arith
-
-      there : number < length p.shapes
-      unfolding number
-      there = is_object.shapes at 0 in_list
-
-      shape_is : shape_name p t i ≡ name_of_shape p number
-      unfolding number at
-      shape_is =
-          ap (λ (o : Option ℕ). option_map_or (name_of_shape p) o [])
-          (picked (spot t i).place (object_of p i).shapes fits.form.first ∙ slice_get-get_or (object_of p i).shapes ((spot t i).place - 1) 0 in_list)
-
-      listed : (k : ℕ) → k < length (object_of p i).shapes → get_or (shape_names p (object_of p i)) k [] ≡ name_of_shape p (get_or (object_of p i).shapes k 0)
-      listed k less = get_or-map (name_of_shape p) (object_of p i).shapes k 0 [] less
-
-      -- the shape's name stands there alone
-      found : position_or_len (bytes_eq (shape_name p t i)) (shape_names p (object_of p i)) ≡ at
-      unfolding number
-      found =
-          let n = length-map (object_of p i).shapes (name_of_shape p) in
-          let inside : at < length (object_of p i).shapes = in_list in
-          position_or_len_is (bytes_eq (shape_name p t i)) (shape_names p (object_of p i)) at [] (omega arith)
-          (λ k less. (let few : k < length (object_of p i).shapes = omega arith in
-          not_same (shape_name p t i) (get_or (shape_names p (object_of p i)) k [])
-          (λ e. names_differ (get_or (object_of p i).shapes k 0) number (is_object.shapes k 0 few) there (is_object.once k at 0 less inside) (sym (listed k few) ∙ sym e ∙ shape_is))))
-          (λ less. (bytes_eq-Decides (shape_name p t i) (get_or (shape_names p (object_of p i)) at [])).1 (shape_is ∙ sym (listed at inside)))
-
-      found_as : (l : LineTree) → SaysSpot p t i l → position_of (shape_names p (object_of p i)) l.shape + 1 ≡ (spot t i).place
-      unfolding at
-      found_as l h =
-          let e : position_of (shape_names p (object_of p i)) l.shape ≡ (spot t i).place - 1 = ap (λ (n : List ℕ). position_or_len (bytes_eq n) (shape_names p (object_of p i))) h.shape ∙ found in
-          let first : 1 ≤ (spot t i).place = fits.form.first in
-          omega arith
-
-      spot_is : (l : LineTree) → SaysSpot p t i l → spot_of p (object_of p i) l ≡ spot t i
-      spot_is l h = λ j. record { place = found_as l h j; origin = h.origin j }
-
-      -- ---- what can be written
-
       counted : length (spot t i).origin ≡ p.dims
       counted = fits.form.dimensions
+
+      -- ---- in the shape that the tuple gives it
+
+      module _ (present : is_absent_at (object_of p i) (spot t i).place ≡ false) where
+        -- the position of the shape in the object's list, and its number
+        at : ℕ
+        at = (spot t i).place - 1
+
+        number : ℕ
+        unfolding at
+        number = get_or (object_of p i).shapes at 0
+
+        in_list : at < length (object_of p i).shapes
+        unfolding at
+        in_list =
+            let first : 1 ≤ (spot t i).place = fits.form.first in
+            let last : (spot t i).place ≤ length (object_of p i).shapes = present_place (object_of p i) (spot t i).place fits.form.last present in
+            omega arith
+
+        there : number < length p.shapes
+        unfolding number
+        there = is_object.shapes at 0 in_list
+
+        shape_is : shape_name p t i ≡ name_of_shape p number
+        unfolding number at
+        shape_is =
+            ap (λ (o : Option ℕ). option_map_or (name_of_shape p) o [])
+            (picked (spot t i).place (object_of p i).shapes fits.form.first ∙ slice_get-get_or (object_of p i).shapes ((spot t i).place - 1) 0 in_list)
+
+        listed : (k : ℕ) → k < length (object_of p i).shapes → get_or (shape_names p (object_of p i)) k [] ≡ name_of_shape p (get_or (object_of p i).shapes k 0)
+        listed k less = get_or-map (name_of_shape p) (object_of p i).shapes k 0 [] less
+
+        -- the shape's name stands there alone
+        found : position_or_len (bytes_eq (shape_name p t i)) (shape_names p (object_of p i)) ≡ at
+        unfolding number
+        found =
+            let n = length-map (object_of p i).shapes (name_of_shape p) in
+            let inside : at < length (object_of p i).shapes = in_list in
+            position_or_len_is (bytes_eq (shape_name p t i)) (shape_names p (object_of p i)) at [] (omega arith)
+            (λ k less. (let few : k < length (object_of p i).shapes = omega arith in
+            not_same (shape_name p t i) (get_or (shape_names p (object_of p i)) k [])
+            (λ e. names_differ (get_or (object_of p i).shapes k 0) number (is_object.shapes k 0 few) there (is_object.once k at 0 less inside) (sym (listed k few) ∙ sym e ∙ shape_is))))
+            (λ less. (bytes_eq-Decides (shape_name p t i) (get_or (shape_names p (object_of p i)) at [])).1 (shape_is ∙ sym (listed at inside)))
+
+        found_as : (shape : PlacedName) → shape.name ≡ shape_name p t i → position_of (shape_names p (object_of p i)) shape + 1 ≡ (spot t i).place
+        unfolding at
+        found_as shape h =
+            let e : position_of (shape_names p (object_of p i)) shape ≡ (spot t i).place - 1 = ap (λ (n : List ℕ). position_or_len (bytes_eq n) (shape_names p (object_of p i))) h ∙ found in
+            let first : 1 ≤ (spot t i).place = fits.form.first in
+            omega arith
+
+        -- its shape and its coordinates have no fault
+        placed_right : (shape : PlacedName) (origin : List Int) → shape.name ≡ shape_name p t i → map number_of origin ≡ (spot t i).origin → (f : Fault) → PutFault p (object_of p i) (placed shape origin) f → ⊥
+        unfolding number
+        placed_right shape origin named same f (inl a) =
+            a.0 (at, (let n = length-map (object_of p i).shapes (name_of_shape p) in let inside : at < length (object_of p i).shapes = in_list in omega arith), there_is)
+          where
+            there_is : get_or (shape_names p (object_of p i)) at shape.name ≡ shape.name
+            there_is = get_or-map (name_of_shape p) (object_of p i).shapes at 0 shape.name in_list ∙ sym (named ∙ shape_is)
+        placed_right shape origin named same f (inr (inl a)) = a.0 (sym (length-map origin number_of) ∙ ap length same ∙ counted)
+        placed_right shape origin named same f (inr (inr a)) =
+            outside (slice_get (object_of p i).pieces (length (take a.index origin))) refl a.wrong
+          where
+            size : length origin ≡ p.dims
+            size = sym (length-map origin number_of) ∙ ap length same ∙ counted
+
+            here : a.index < length origin
+            here = elim (cases_lt a.index (length origin)) [ inl less ↦ less | inr le ↦ absurd (past origin a.index a.item le a.there) ]
+              where
+                past : (xs : List Int) (k : ℕ) (x : Int) → length xs ≤ k → slice_get xs k ≡ Some x → ⊥
+                past [] k x le e = cc
+                past (y ∷ xs) zero x le e = omega arith
+                past (y ∷ xs) (suc k) x le e = let few : length xs ≤ k = omega arith in past xs k x few e
+
+            value : a.item.value ≡ coordinate (spot t i).origin a.index
+            value =
+                ap number_of (sym (get_or_from_slice_get origin a.index a.item a.item a.there)) ∙ sym (get_or-map number_of origin a.index a.item (pos 0) here)
+                ∙ ap (λ (vs : List ℤ). get_or vs a.index (pos 0)) same
+
+            outside : (o : Option (List RangeData)) → o ≡ slice_get (object_of p i).pieces (length (take a.index origin)) → OutsideFault o a.item f → ⊥
+            outside None e w = w
+            outside (Some r) e w =
+                let below : a.index < p.dims = (let n : length origin ≡ p.dims = size in let less : a.index < length origin = here in omega arith) in
+                let few : a.index < length (object_of p i).pieces = (let m : length (object_of p i).pieces ≡ p.dims = is_object.dimensions in omega arith) in
+                let so_far : length (take a.index origin) ≡ a.index = length-take-le a.index origin (let less : a.index < length origin = here in omega arith) in
+                let q : Some r ≡ Some (pieces_at (object_of p i) a.index) = e ∙ ap (λ (k : ℕ). slice_get (object_of p i).pieces k) so_far ∙ slice_get-get_or (object_of p i).pieces a.index _ few in
+                let same_pieces : r ≡ pieces_at (object_of p i) a.index = cc in
+                w.0 (subst (λ (s : List RangeData). IsInPieces s a.item.value) (sym same_pieces) (subst (λ (v : ℤ). IsInPieces (pieces_at (object_of p i) a.index) v) (sym value) (fits.pieces a.index below)))
+
+      -- ---- where its line puts it
+
+      put_is : (b : Bool) (u : PutTree) → is_absent_at (object_of p i) (spot t i).place ≡ b → SaysPut p t i b u → put_spot p (object_of p i) u ≡ spot t i
+      put_is true (absent place) e h = λ j. record {
+        place = sym (absent_is (object_of p i) (spot t i).place e) j;
+        origin = sym (first_same p (object_of p i) (spot t i).origin counted (fits.first e)) j;
+      }
+      put_is true (placed shape origin) e h = absurd h
+      put_is false (absent place) e h = absurd h
+      put_is false (placed shape origin) e h = λ j. record { place = found_as e shape h.0 j; origin = h.1 j }
+
+      spot_is : (l : LineTree) → SaysSpot p t i l → spot_of p (object_of p i) l ≡ spot t i
+      spot_is l h = put_is (is_absent_at (object_of p i) (spot t i).place) l.put refl h.put
+
+      put_right : (b : Bool) (u : PutTree) → is_absent_at (object_of p i) (spot t i).place ≡ b → SaysPut p t i b u → (f : Fault) → PutFault p (object_of p i) u f → ⊥
+      put_right true (absent place) e h f a = let may : (object_of p i).may_be_absent ≡ true = absent_may (object_of p i) (spot t i).place e in let not : (object_of p i).may_be_absent ≡ false = a.0 in cc
+      put_right true (placed shape origin) e h f a = h
+      put_right false (absent place) e h f a = h
+      put_right false (placed shape origin) e h f a = placed_right e shape origin h.0 h.1 f a
+
+      -- ---- what can be written
 
       small : (d : ℕ) → d < length (spot t i).origin → IsTextNumber (get_or (spot t i).origin d (pos 0))
       small d less =
@@ -190,7 +252,7 @@ module _ (p : ProblemData) (well : IsWellFormed p) (said : IsSaid p) where
 
       writes_spot : CanWriteSpot (spot t i)
       writes_spot = record {
-        place = (let last : (spot t i).place ≤ length (object_of p i).shapes = fits.form.last in let few : length (object_of p i).shapes ≤ 16 = is_object.few in omega arith);
+        place = (let last : (spot t i).place ≤ place_count (object_of p i) = fits.form.last in let few : place_count (object_of p i) ≤ 16 = is_object.few in omega arith);
         origin = all_of IsTextNumber (spot t i).origin (pos 0) small;
       }
 
@@ -201,53 +263,23 @@ module _ (p : ProblemData) (well : IsWellFormed p) (said : IsSaid p) where
       object_text =
           let table : IsNameTable (name_table p) = said_table p said in
           let objects : ℕ = length p.objects in
-          let names : List (List ℕ) = map (λ o. o.0) (map tables.named_object p.objects) in
-          let n : length names ≡ length p.objects = length-map (map tables.named_object p.objects) (λ o. o.0) ∙ length-map p.objects tables.named_object in
-          let m = length-map p.objects tables.named_object in
-          subst IsNameText (get_or-map (λ (o : List ℕ × List ℕ). o.0) (map tables.named_object p.objects) i ([], []) [] (omega arith) ∙ ap (λ (o : List ℕ × List ℕ). o.0) (get_or-map tables.named_object p.objects i no_object ([], []) lt)) (table.object_texts i [] (omega arith))
+          let named : ObjectData → List ℕ × List ℕ = tables.named_object (length p.shapes) in
+          let names : List (List ℕ) = map (λ o. o.0) (map named p.objects) in
+          let n : length names ≡ length p.objects = length-map (map named p.objects) (λ o. o.0) ∙ length-map p.objects named in
+          let m = length-map p.objects named in
+          subst IsNameText (get_or-map (λ (o : List ℕ × List ℕ). o.0) (map named p.objects) i ([], []) [] (omega arith) ∙ ap (λ (o : List ℕ × List ℕ). o.0) (get_or-map named p.objects i no_object ([], []) lt)) (table.object_texts i [] (omega arith))
 
       reads_line : CanReadLine p t i
-      reads_line = (record { name = object_text; shape = subst IsNameText (sym shape_is) (shape_text number there); spot = writes_spot }, some)
+      reads_line = (
+        record { name = object_text; shape = λ e. subst IsNameText (sym (shape_is e)) (shape_text (number e) (there e)); spot = writes_spot },
+        some,
+      )
 
       -- ---- its line has no fault
 
       line_right : (l : LineTree) → SaysSpot p t i l → (f : Fault) → LineFault p (Some (object_of p i)) l f → ⊥
-      unfolding number
       line_right l h f (inl a) = a.0 h.name
-      line_right l h f (inr (inl a)) =
-          a.0 (at, (let n = length-map (object_of p i).shapes (name_of_shape p) in let inside : at < length (object_of p i).shapes = in_list in omega arith), there_is)
-        where
-          there_is : get_or (shape_names p (object_of p i)) at l.shape.name ≡ l.shape.name
-          there_is = get_or-map (name_of_shape p) (object_of p i).shapes at 0 l.shape.name in_list ∙ sym (h.shape ∙ shape_is)
-      line_right l h f (inr (inr (inl a))) = a.0 (sym (length-map l.origin number_of) ∙ ap length h.origin ∙ counted)
-      line_right l h f (inr (inr (inr a))) =
-          outside (slice_get (object_of p i).pieces (length (take a.index l.origin))) refl a.wrong
-        where
-          size : length l.origin ≡ p.dims
-          size = sym (length-map l.origin number_of) ∙ ap length h.origin ∙ counted
-
-          here : a.index < length l.origin
-          here = elim (cases_lt a.index (length l.origin)) [ inl less ↦ less | inr le ↦ absurd (past l.origin a.index a.item le a.there) ]
-            where
-              past : (xs : List Int) (k : ℕ) (x : Int) → length xs ≤ k → slice_get xs k ≡ Some x → ⊥
-              past [] k x le e = cc
-              past (y ∷ xs) zero x le e = omega arith
-              past (y ∷ xs) (suc k) x le e = let few : length xs ≤ k = omega arith in past xs k x few e
-
-          value : a.item.value ≡ coordinate (spot t i).origin a.index
-          value =
-              ap number_of (sym (get_or_from_slice_get l.origin a.index a.item a.item a.there)) ∙ sym (get_or-map number_of l.origin a.index a.item (pos 0) here)
-              ∙ ap (λ (vs : List ℤ). get_or vs a.index (pos 0)) h.origin
-
-          outside : (o : Option (List RangeData)) → o ≡ slice_get (object_of p i).pieces (length (take a.index l.origin)) → OutsideFault o a.item f → ⊥
-          outside None e w = w
-          outside (Some r) e w =
-              let below : a.index < p.dims = (let n : length l.origin ≡ p.dims = size in let less : a.index < length l.origin = here in omega arith) in
-              let few : a.index < length (object_of p i).pieces = (let m : length (object_of p i).pieces ≡ p.dims = is_object.dimensions in omega arith) in
-              let so_far : length (take a.index l.origin) ≡ a.index = length-take-le a.index l.origin (let less : a.index < length l.origin = here in omega arith) in
-              let q : Some r ≡ Some (pieces_at (object_of p i) a.index) = e ∙ ap (λ (k : ℕ). slice_get (object_of p i).pieces k) so_far ∙ slice_get-get_or (object_of p i).pieces a.index _ few in
-              let same : r ≡ pieces_at (object_of p i) a.index = cc in
-              w.0 (subst (λ (s : List RangeData). IsInPieces s a.item.value) (sym same) (subst (λ (v : ℤ). IsInPieces (pieces_at (object_of p i) a.index) v) (sym value) (fits.pieces a.index below)))
+      line_right l h f (inr a) = put_right (is_absent_at (object_of p i) (spot t i).place) l.put refl h.put f a
 
     writes_spots : AllOf CanWriteSpot t
     writes_spots = all_of CanWriteSpot t nothing_put (λ i lt. writes_spot i (let e : length t ≡ length p.objects = sized in omega arith))

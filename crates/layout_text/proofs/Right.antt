@@ -10,14 +10,26 @@ use Rattle.problem_data.specs.Marks.{int_firsts}
 use Rattle.problem_data.specs.Grammar.{IntWords}
 use Rattle.problem_syntax.specs.Reading.{next_at, int_at}
 use Rattle.problem_syntax.proofs.Right.{int_good, ints_good, next_good}
-use Rattle.layout_text.specs.Grammar.{LineWords, GroupWords, NoGroups, SomeGroups, TupleWords, TokenWords, TokenLine, LayoutWords}
-use Rattle.layout_text.specs.Reading.{line_at, group_at, next_group_at, no_groups_at, some_groups_at, tuple_at, token_line_at, end_at, layout_at}
+use Rattle.layout_text.specs.Grammar.{PlacedWords, AbsentWord, PutWords, LineWords, GroupWords, NoGroups, SomeGroups, TupleWords, TokenWords, TokenLine, LayoutWords}
+use Rattle.layout_text.specs.Reading.{placed_at, absent_at, put_at, line_at, group_at, next_group_at, no_groups_at, some_groups_at, tuple_at, token_line_at, end_at, layout_at}
+
+placed_good : (text : List ℕ) → Good (PlacedWords text) (placed_at text) false (word keywords.As) int_firsts
+unfolding placed_at
+placed_good text =
+    bind_good refl (word_good keywords.As) (λ t. bind_good refl (named_good text) (λ s.
+    bind_good refl (word_good keywords.At) (λ u. bind_good refl ints_good (λ xs. pure_good _))))
+
+absent_good : Good AbsentWord absent_at false (word keywords.Absent) []
+unfolding absent_at
+absent_good = bind_good refl (word_good keywords.Absent) (λ t. pure_good _)
+
+put_good : (text : List ℕ) → Good (PutWords text) (put_at text) false (word keywords.As ++ word keywords.Absent) (int_firsts ++ [])
+unfolding PutWords put_at
+put_good text = either_good refl (placed_good text) absent_good
 
 pub line_good : (text : List ℕ) → Good (LineWords text) (line_at text) false names int_firsts
 unfolding LineWords line_at
-line_good text =
-    bind_good refl (named_good text) (λ a. bind_good refl (word_good keywords.As) (λ t. bind_good refl (named_good text) (λ s.
-    bind_good refl (word_good keywords.At) (λ u. bind_good refl ints_good (λ xs. pure_good _)))))
+line_good text = bind_good refl (named_good text) (λ a. bind_good refl (put_good text) (λ p. pure_good _))
 
 -- a number behind a comma
 pub next_int_good : Good (Bind (Tok (symbol symbols.Comma)) (λ mark. IntWords)) (next_at int_at) false (symbol symbols.Comma) []

@@ -1,29 +1,31 @@
 -- The tokens of a layout block spell its lines and its groups by the grammar.
-use Rattle.std.proofs.Common.{◌≡◌, ℕ, ℤ, List, [], ◌∷◌, ◌++◌, length, map, Option, Some, None, refl, sym, ap, ◌∙◌, subst}
+use Rattle.std.proofs.Common.{◌≡◌, ℕ, ℤ, Bool, true, false, List, [], ◌∷◌, ◌++◌, length, map, Option, Some, None, refl, sym, ap, ◌∙◌, subst}
 use Rattle.std.specs.Prelude.{flat_map}
 use Rattle.std.specs.List.{range_with_len}
 use Rattle.std.proofs.lemmas.List.{append-nil}
 use Rattle.geo_tokens.specs.declared.token.Keyword.TheVariants as keywords
 use Rattle.geo_tokens.specs.declared.token.Sym.TheVariants as syms
 use Rattle.geo_tokens.specs.Class.{number_in}
+use Rattle.geo_tokens.specs.Names.{IsNameText}
 use Rattle.geo_tokens.specs.Words.{numbers, word, symbol, Tok, Bind, Many}
 use Rattle.rule_print.specs.Canonical.{Written}
-use Rattle.rule_print.specs.Canonical.{number as digits, word as a_word, symbol as a_symbol}
+use Rattle.rule_print.specs.Canonical.{name as a_name, number as digits, word as a_word, symbol as a_symbol}
 use Rattle.rule_print.proofs.ShownTokens.{AllWritten}
 use Rattle.rule_print.proofs.Respelled.{Again, Respelled, tok_again, named_again, bind_again, last_again, left_again, right_again, there_again, same_again, AllOf, Each, joined, many_again, many_good}
 use Rattle.problem_data.specs.declared.tree.Int.{Int}
 use Rattle.problem_data.specs.Problem.{ProblemData}
+use Rattle.problem_data.specs.Places.{is_absent_at}
 use Rattle.problem_data.specs.Tuple.{Spot, Tuple, spot, object_of}
 use Rattle.problem_data.specs.Meaning.{number_of}
 use Rattle.problem_data.specs.Grammar.{OneOrMore, IntWords}
 use Rattle.problem_text.specs.Canonical.{int_spelling}
 use Rattle.problem_text.proofs.PrintingParts.{bare_int, int_of, IsTextNumber, IsSome, IntAgain, int_again, all_as, one_or_more_again}
-use Rattle.layout_text.specs.Tree.{LineTree, GroupTree, TokenTree, LayoutTree}
-use Rattle.layout_text.specs.Grammar.{line_tree, group_tree, token_tree, layout_tree, LineWords, GroupWords, TupleWords, TokenWords, TokenLine, LayoutWords}
+use Rattle.layout_text.specs.Tree.{PutTree, placed, absent, LineTree, GroupTree, TokenTree, LayoutTree}
+use Rattle.layout_text.specs.Grammar.{line_tree, group_tree, token_tree, layout_tree, PutWords, LineWords, GroupWords, TupleWords, TokenWords, TokenLine, LayoutWords}
 use Rattle.layout_text.specs.Block.{shape_name}
 use Rattle.layout_text.specs.Faults.{spot_in}
 use Rattle.layout_text.proofs.TextParts.{blank, lexemes, lexemes_both}
-use Rattle.layout_text.proofs.PrintedParts.{comma_lexemes, CanWriteSpot, line_parts, line_lexemes, group_parts, later_parts, token_parts, end_parts, block_parts, CanWriteLine}
+use Rattle.layout_text.proofs.PrintedParts.{comma_lexemes, CanWriteSpot, parts_where, line_parts, placed_lexemes, group_parts, later_parts, token_parts, end_parts, block_parts, CanWriteLine}
 
 -- ---- numbers
 
@@ -40,11 +42,20 @@ ints_again vs some h =
 
 -- ---- lines
 
--- the line says where the tuple puts the object
-pub record SaysSpot (p : ProblemData) (t : Tuple) (o : ℕ) (l : LineTree) : Type 0 where
+-- where the tuple puts the object, by whether it is absent
+abbrev pub SaysPut : ProblemData → Tuple → ℕ → Bool → PutTree → Type 0
+SaysPut p t o true (absent place) = Unit {0}
+SaysPut p t o true (placed shape origin) = ⊥
+SaysPut p t o false (absent place) = ⊥
+SaysPut p t o false (placed shape origin) = (shape.name ≡ shape_name p t o) × (map number_of origin ≡ (spot t o).origin)
+
+pub record SaysLine (p : ProblemData) (t : Tuple) (o : ℕ) (b : Bool) (l : LineTree) : Type 0 where
   pub name : l.name.name ≡ (object_of p o).name
-  pub shape : l.shape.name ≡ shape_name p t o
-  pub origin : map number_of l.origin ≡ (spot t o).origin
+  pub put : SaysPut p t o b l.put
+
+-- the line says where the tuple puts the object
+abbrev pub SaysSpot : ProblemData → Tuple → ℕ → LineTree → Type 0
+SaysSpot p t o = SaysLine p t o (is_absent_at (object_of p o) (spot t o).place)
 
 module _ (p : ProblemData) (t : Tuple) where
   abbrev LineAgain : ℕ → Type 0
@@ -56,17 +67,35 @@ module _ (p : ProblemData) (t : Tuple) where
   ints_written : (vs : List ℤ) → AllOf IsTextNumber vs → IsSome vs → AllWritten (flat_map int_spelling vs)
   ints_written vs h some = (one_or_more_again (λ text. IntWords) (λ v i. bare_int i ≡ int_of v) int_spelling vs some (all_as {P = IsTextNumber} {Q = IntAgain} int_again vs h)).good
 
-  line_again : (o : ℕ) → CanReadLine o → LineAgain o
+  placed_again : (o : ℕ) → IsNameText (shape_name p t o) → CanWriteSpot (spot t o) → IsSome (spot t o).origin
+      → Again PutWords (SaysPut p t o false) (a_word keywords.As ∷ a_name (shape_name p t o) ∷ a_word keywords.At ∷ flat_map int_spelling (spot t o).origin)
+  unfolding PutWords
+  placed_again o hs h some =
+      left_again (bind_again (tok_again (word keywords.As) (a_word keywords.As) refl) (λ w k. bind_again (named_again (shape_name p t o)) (λ s es.
+      bind_again (tok_again (word keywords.At) (a_word keywords.At) refl) (λ u j. last_again (λ xs. placed s xs) (ints_again (spot t o).origin some h.origin) (λ xs ex. (es, ex))))))
+
+  absent_again : (o : ℕ) → Again PutWords (SaysPut p t o true) (a_word keywords.Absent ∷ [])
+  unfolding PutWords
+  absent_again o = right_again (last_again (λ w. absent w.start) (tok_again (word keywords.Absent) (a_word keywords.Absent) refl) (λ w k. tt))
+
+  line_where : (b : Bool) (o : ℕ) → IsNameText (object_of p o).name → (b ≡ false → IsNameText (shape_name p t o)) → CanWriteSpot (spot t o) → IsSome (spot t o).origin
+      → Respelled LineWords (SaysLine p t o b) (lexemes (parts_where p t b o))
   unfolding LineWords
-  line_again o h =
-      let e = sym (line_lexemes p t o) in
+  line_where true o hn hs h some = record {
+    good = (hn, (tt, tt));
+    again = bind_again (named_again (object_of p o).name) (λ a ea. last_again (λ q. line_tree a q) (absent_again o) (λ q eq. record { name = ea; put = eq }));
+  }
+  line_where false o hn hs h some =
+      let e = sym (placed_lexemes p t o) in
       record {
-        good = subst (λ (us : List Written). AllWritten us) e (h.0.name, (tt, (h.0.shape, (tt, ints_written (spot t o).origin h.0.spot.origin h.1))));
-        again = same_again (lexemes (line_parts p t o))
-            (bind_again (named_again (object_of p o).name) (λ a ea. bind_again (tok_again (word keywords.As) (a_word keywords.As) refl) (λ w k. bind_again (named_again (shape_name p t o)) (λ s es.
-            bind_again (tok_again (word keywords.At) (a_word keywords.At) refl) (λ u j. last_again (λ xs. line_tree a s xs) (ints_again (spot t o).origin h.1 h.0.spot.origin) (λ xs ex. record { name = ea; shape = es; origin = ex }))))))
+        good = subst (λ (us : List Written). AllWritten us) e (hn, (tt, (hs refl, (tt, ints_written (spot t o).origin h.origin some))));
+        again = same_again (lexemes (parts_where p t false o))
+            (bind_again (named_again (object_of p o).name) (λ a ea. last_again (λ q. line_tree a q) (placed_again o (hs refl) h some) (λ q eq. record { name = ea; put = eq })))
             e;
       }
+
+  line_again : (o : ℕ) → CanReadLine o → LineAgain o
+  line_again o h = line_where (is_absent_at (object_of p o) (spot t o).place) o h.0.name h.0.shape h.0.spot h.1
 
   lines_lexemes : (os : List ℕ) → joined (λ o. lexemes (line_parts p t o)) os ≡ lexemes (flat_map (line_parts p t) os)
   lines_lexemes [] = refl

@@ -1,7 +1,7 @@
 -- Lines without a fault are one for each object, and what they give is a tuple.
-use Rattle.std.proofs.Common.{◌≡◌, ℕ, zero, suc, ◌+◌, ◌<◌, ◌≤◌, ℤ, pos, List, [], ◌∷◌, ◌++◌, length, map, take, get_or, Option, Some, None, inl, inr, ⊎_elim, refl, sym, ap, ◌∙◌, subst, arith}
+use Rattle.std.proofs.Common.{◌≡◌, ℕ, zero, suc, ◌+◌, ◌<◌, ◌≤◌, ℤ, pos, List, [], ◌∷◌, ◌++◌, length, map, take, get_or, Option, Some, None, true, inl, inr, ⊎_elim, refl, sym, ap, ◌∙◌, subst, arith}
 use Rattle.std.specs.Prelude.{slice_get}
-use Rattle.std.proofs.lemmas.Bool.{cases_lt}
+use Rattle.std.proofs.lemmas.Bool.{cases_lt, cases_Bool}
 use Rattle.std.proofs.lemmas.Option.{slice_get-get_or}
 use Rattle.std.proofs.lemmas.List.{length-map, length-take-le, get_or-map}
 use Rattle.geo_tokens.specs.declared.fault.FaultWord.TheVariants as words
@@ -19,17 +19,15 @@ use Rattle.problem_data.specs.Cells.{HasForm, IsSpotOf, IsTuple}
 use Rattle.problem_data.specs.WellFormed.{IsObject, IsWellFormed}
 use Rattle.problem_data.proofs.NoFault.{NoFault, none_among, counted}
 use Rattle.problem_text.proofs.Positions.{Made, made_or_not}
-use Rattle.layout_text.specs.Tree.{LineTree, LayoutTree}
-use Rattle.layout_text.specs.Faults.{shape_names, name_of_shape, spot_of, spots_of, tuple_of, OutsideFault, LineFault, behind_lines, IsFault}
+use Rattle.layout_text.specs.Tree.{PutTree, placed, absent, LineTree, LayoutTree}
+use Rattle.layout_text.specs.Faults.{shape_names, name_of_shape, spot_of, spots_of, put_spot, tuple_of, OutsideFault, PutFault, LineFault, behind_lines, IsFault}
 use Rattle.layout_text.specs.FirstFault.{Accepts}
+use Rattle.layout_text.proofs.FirstValues.{absent_counted, as_many_first, first_are, first_values_in, not_absent}
 use Rattle.layout_text.proofs.InPieces.{in_some}
-
-abbrev pub nothing : PlacedName
-nothing = record { place = 0; name = [] }
 
 -- no line, and no object
 abbrev pub no_line : LineTree
-no_line = record { name = nothing; shape = nothing; origin = [] }
+no_line = record { name = record { place = 0; name = [] }; put = absent 0 }
 
 -- ---- the list of spots
 
@@ -57,6 +55,64 @@ spots_more p [] ls i d e h g = absurd (omega arith)
 spots_more p (o ∷ os) [] i d e h g = absurd (omega arith)
 spots_more p (o ∷ os) (l ∷ ls) zero d e h g = ap (λ (t : Tuple). spot_of p o l ∷ t) (spots_none p os)
 spots_more p (o ∷ os) (l ∷ ls) (suc i) d e h g = let less : i < length os = omega arith in let few : i < length ls = omega arith in let n : suc i + 1 ≡ suc (i + 1) = omega arith in ap (λ (k : ℕ). spots_of p (o ∷ os) (take k (l ∷ ls))) n ∙ ap (λ (t : Tuple). spot_of p o l ∷ t) (spots_more p os ls i d e less few)
+
+-- ---- where a line without a fault puts its object
+
+module _ (p : ProblemData) (o : ObjectData) (is : IsObject p o) where
+  module _ (shape : PlacedName) (origin : List Int) (faultless : NoFault (PutFault p o (placed shape origin))) where
+    made : Made (shape_names p o) shape
+    made = elim (made_or_not (shape_names p o) shape) [ inl m ↦ m | inr none ↦ absurd (faultless (fault shape.place words.Unknown) (inl (none, refl))) ]
+
+    in_list : position_of (shape_names p o) shape < length o.shapes
+    in_list = subst (λ (n : ℕ). position_of (shape_names p o) shape < n) (length-map o.shapes (name_of_shape p)) made.inside
+
+    listed : position_of (shape_names p o) shape + 1 ≤ length o.shapes
+    listed = let less : position_of (shape_names p o) shape < length o.shapes = in_list in omega arith
+
+    all_counted : length origin ≡ p.dims
+    all_counted = counted int_place p.dims origin (λ f h. faultless f (inr (inl h)))
+
+    placed_form : HasForm p o (put_spot p o (placed shape origin))
+    placed_form = record {
+      first = omega arith;
+      last = (let less : position_of (shape_names p o) shape + 1 ≤ length o.shapes = listed in omega arith);
+      dimensions = length-map origin number_of ∙ all_counted;
+    }
+
+    no_int : Int
+    no_int = record { place = 0; value = pos 0 }
+
+    inside : (d : ℕ) → d < p.dims → IsInPieces (pieces_at o d) (coordinate (map number_of origin) d)
+    inside d below =
+        let less : d < length o.pieces = (let g : length o.pieces ≡ p.dims = is.dimensions in omega arith) in
+        let few : d < length origin = (let e : length origin ≡ p.dims = all_counted in omega arith) in
+        let r : List RangeData = pieces_at o d in
+        let x : Int = get_or origin d no_int in
+        let so_far : length (take d origin) ≡ d = length-take-le d origin (omega arith) in
+        let at : NoFault (OutsideFault (slice_get o.pieces d) x) = subst (λ (n : ℕ). NoFault (OutsideFault (slice_get o.pieces n) x)) so_far (none_among (λ before. OutsideFault (slice_get o.pieces (length before))) origin (λ f h. faultless f (inr (inr h))) d no_int few) in
+        let fits : NoFault (OutsideFault (Some r) x) = subst (λ (s : Option (List RangeData)). NoFault (OutsideFault s x)) (slice_get-get_or o.pieces d _ less) at in
+        let value : coordinate (map number_of origin) d ≡ x.value = get_or-map number_of origin d no_int (pos 0) few in
+        subst (λ (v : ℤ). IsInPieces r v) (sym value) (in_some r x.value (λ n. fits (fault x.place words.Range) (n, refl)))
+
+    placed_is : IsSpotOf p o (put_spot p o (placed shape origin))
+    placed_is = record { form = placed_form; pieces = inside; first = λ e. absurd (not_absent o (position_of (shape_names p o) shape + 1) listed e) }
+
+  optional : (place : ℕ) → NoFault (PutFault p o (absent place)) → o.may_be_absent ≡ true
+  optional place faultless = elim (cases_Bool o.may_be_absent) [
+    | inl t ↦ t
+    | inr e ↦ absurd (faultless (fault place words.Unknown) (e, refl))
+  ]
+
+  absent_is_spot : (place : ℕ) → o.may_be_absent ≡ true → IsSpotOf p o (put_spot p o (absent place))
+  absent_is_spot place may = record {
+    form = record { first = omega arith; last = absent_counted o may; dimensions = as_many_first p o };
+    pieces = first_values_in p o is;
+    first = λ e. first_are p o;
+  }
+
+  pub put_is : (u : PutTree) → NoFault (PutFault p o u) → IsSpotOf p o (put_spot p o u)
+  put_is (placed shape origin) h = placed_is shape origin h
+  put_is (absent place) h = absent_is_spot place (optional place h)
 
 -- ---- lines without a fault
 
@@ -101,40 +157,12 @@ module _ (p : ProblemData) (end : ℕ) (t : LayoutTree) (right : NoFault (IsFaul
     unfolding o
     is_object = well.objects i no_object lt
 
-    made : Made (shape_names p o) l.shape
-    made = elim (made_or_not (shape_names p o) l.shape) [ inl m ↦ m | inr none ↦ absurd (faultless (fault l.shape.place words.Unknown) (inr (inl (none, refl)))) ]
-
-    in_list : position_of (shape_names p o) l.shape < length o.shapes
-    in_list = subst (λ (n : ℕ). position_of (shape_names p o) l.shape < n) (length-map o.shapes (name_of_shape p)) made.inside
-
-    all_counted : length l.origin ≡ p.dims
-    all_counted = counted int_place p.dims l.origin (λ f h. faultless f (inr (inr (inl h))))
-
-    form : HasForm p o (spot_of p o l)
-    form = record {
-      first = omega arith;
-      last = (let less : position_of (shape_names p o) l.shape < length o.shapes = in_list in omega arith);
-      dimensions = length-map l.origin number_of ∙ all_counted;
-    }
-
-    no_int : Int
-    no_int = record { place = 0; value = pos 0 }
-
-    inside : (d : ℕ) → d < p.dims → IsInPieces (pieces_at o d) (coordinate (map number_of l.origin) d)
-    inside d below =
-        let less : d < length o.pieces = (let g : length o.pieces ≡ p.dims = is_object.dimensions in omega arith) in
-        let few : d < length l.origin = (let e : length l.origin ≡ p.dims = all_counted in omega arith) in
-        let r : List RangeData = pieces_at o d in
-        let x : Int = get_or l.origin d no_int in
-        let so_far : length (take d l.origin) ≡ d = length-take-le d l.origin (omega arith) in
-        let at : NoFault (OutsideFault (slice_get o.pieces d) x) = subst (λ (n : ℕ). NoFault (OutsideFault (slice_get o.pieces n) x)) so_far (none_among (λ before. OutsideFault (slice_get o.pieces (length before))) l.origin (λ f h. faultless f (inr (inr (inr h)))) d no_int few) in
-        let fits : NoFault (OutsideFault (Some r) x) = subst (λ (s : Option (List RangeData)). NoFault (OutsideFault s x)) (slice_get-get_or o.pieces d _ less) at in
-        let value : coordinate (map number_of l.origin) d ≡ x.value = get_or-map number_of l.origin d no_int (pos 0) few in
-        subst (λ (v : ℤ). IsInPieces r v) (sym value) (in_some r x.value (λ n. fits (fault x.place words.Range) (n, refl)))
+    here : IsSpotOf p o (spot_of p o l)
+    here = put_is p o is_object l.put (λ f h. faultless f (inr h))
 
     pub is_spot : IsSpotOf p (object_of p i) (spot (tuple_of p t.lines) i)
     unfolding o l
-    is_spot = subst (λ (s : Spot). IsSpotOf p (get_or p.objects i no_object) s) (sym (spot_at p p.objects t.lines i lt (let e : length t.lines ≡ length p.objects = as_many in omega arith))) (record { form = form; pieces = inside })
+    is_spot = subst (λ (s : Spot). IsSpotOf p (get_or p.objects i no_object) s) (sym (spot_at p p.objects t.lines i lt (let e : length t.lines ≡ length p.objects = as_many in omega arith))) here
 
   -- the lines give a tuple
   pub is_tuple : IsWellFormed p → IsTuple p (tuple_of p t.lines)

@@ -1,18 +1,20 @@
 -- The tuple that a layout text gives for a problem, and its faults. The object of a line is the one at the same place in file
 -- order.
-use Rattle.std.specs.Prelude.{◌≡◌, ◌≤ℤ◌, ℕ, ◌+◌, ◌<◌, ℤ, List, [], ◌∷◌, length, map, slice_get, slice_index_or, Option, Some, None, ◌⊎◌}
-use Rattle.std.specs.List.{Contains}
+use Rattle.std.specs.Prelude.{◌≡◌, ℕ, ◌+◌, ◌<◌, ℤ, false, List, [], ◌∷◌, length, map, slice_get, slice_index_or, Option, Some, None, ◌⊎◌}
+use Rattle.std.specs.List.{Contains, range_with_len}
 use Rattle.geo_tokens.specs.declared.fault.FaultWord.TheVariants as words
 use Rattle.problem_data.specs.declared.fault.Fault.{Fault}
 use Rattle.problem_data.specs.declared.tree.Int.{Int}
 use Rattle.geo_base.specs.Boxes.{coordinate}
 use Rattle.problem_data.specs.Problem.{RangeData, ObjectData, ProblemData}
 use Rattle.problem_data.specs.Pieces.{IsInPieces}
+use Rattle.problem_data.specs.Places.{absent_place, first_value}
 use Rattle.problem_data.specs.Tuple.{Spot, Tuple}
 use Rattle.problem_data.specs.Meaning.{number_of, position_of}
 use Rattle.problem_data.specs.Least.{fault}
 use Rattle.problem_data.specs.Faults.{Among, Miscounted, int_place}
-use Rattle.layout_text.specs.Tree.{LineTree, GroupTree, TokenTree, LayoutTree}
+use Rattle.rule_syntax.specs.declared.tree.PlacedName.{PlacedName}
+use Rattle.layout_text.specs.Tree.{PutTree, placed, absent, LineTree, GroupTree, TokenTree, LayoutTree}
 
 -- ---- what lines and groups give
 
@@ -24,9 +26,18 @@ name_of_shape p s = (slice_index_or p.shapes s (record { name = []; boxes = [] }
 abbrev pub shape_names : ProblemData → ObjectData → List (List ℕ)
 shape_names p o = map (name_of_shape p) o.shapes
 
--- the spot that a line gives its object: the place of the shape in the object's list, and the coordinates
+-- the first value of each dimension: there lies an object that is absent
+abbrev pub first_values : ProblemData → ObjectData → List ℤ
+first_values p o = map (first_value p o) (range_with_len 0 p.dims)
+
+-- the spot that a line gives its object: the place of the shape in the object's list, and the
+-- coordinates; or the place `absent`, and the first values
+abbrev pub put_spot : ProblemData → ObjectData → PutTree → Spot
+put_spot p o (placed shape origin) = record { place = position_of (shape_names p o) shape + 1; origin = map number_of origin }
+put_spot p o (absent place) = record { place = absent_place o; origin = first_values p o }
+
 abbrev pub spot_of : ProblemData → ObjectData → LineTree → Spot
-spot_of p o l = record { place = position_of (shape_names p o) l.shape + 1; origin = map number_of l.origin }
+spot_of p o l = put_spot p o l.put
 
 -- the spots that lines give these objects
 abbrev pub spots_of : ProblemData → List ObjectData → List LineTree → Tuple
@@ -47,8 +58,8 @@ abbrev pub NameFault : ObjectData → LineTree → Fault → Type 0
 NameFault o l f = (l.name.name ≡ o.name → ⊥) × (f ≡ fault l.name.place words.Order)
 
 -- `unknown` at the name of a shape that is not in the object's list
-abbrev pub ShapeFault : ProblemData → ObjectData → LineTree → Fault → Type 0
-ShapeFault p o l f = (Contains (shape_names p o) l.shape.name → ⊥) × (f ≡ fault l.shape.place words.Unknown)
+abbrev pub ShapeFault : ProblemData → ObjectData → PlacedName → Fault → Type 0
+ShapeFault p o shape f = (Contains (shape_names p o) shape.name → ⊥) × (f ≡ fault shape.place words.Unknown)
 
 -- `limit` at the first of coordinates that are not one for each dimension
 abbrev pub CountFault : ℕ → List Int → Fault → Type 0
@@ -66,10 +77,19 @@ OutsideFault (Some pieces) x f = (IsInPieces pieces x.value → ⊥) × (f ≡ f
 abbrev pub PiecesFault : List (List RangeData) → List Int → Fault → Type 0
 PiecesFault ranges = Among (λ before. OutsideFault (slice_get ranges (length before)))
 
+-- `unknown` at the word `absent` where the object's list does not have it
+abbrev pub AbsentFault : ObjectData → ℕ → Fault → Type 0
+AbsentFault o place f = (o.may_be_absent ≡ false) × (f ≡ fault place words.Unknown)
+
+-- of where a line puts its object
+abbrev pub PutFault : ProblemData → ObjectData → PutTree → Fault → Type 0
+PutFault p o (placed shape origin) f = ShapeFault p o shape f ⊎ CountFault p.dims origin f ⊎ PiecesFault o.pieces origin f
+PutFault p o (absent place) f = AbsentFault o place f
+
 -- of a line and its object; with no object for it, the line is one too many
 abbrev pub LineFault : ProblemData → Option ObjectData → LineTree → Fault → Type 0
 LineFault p None l f = f ≡ fault l.name.place words.Order
-LineFault p (Some o) l f = NameFault o l f ⊎ ShapeFault p o l f ⊎ CountFault p.dims l.origin f ⊎ PiecesFault o.pieces l.origin f
+LineFault p (Some o) l f = NameFault o l f ⊎ PutFault p o l.put f
 
 abbrev pub LinesFault : ProblemData → List LineTree → Fault → Type 0
 LinesFault p = Among (λ before. LineFault p (slice_get p.objects (length before)))

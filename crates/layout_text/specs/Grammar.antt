@@ -1,7 +1,7 @@
 -- The grammar of layout texts: which tokens of a text spell which lines. It opens no level.
 --
 --   text  = 'layout' { line } [ 'token' tuple ]
---   line  = NAME 'as' NAME 'at' int { int }
+--   line  = NAME ( 'as' NAME 'at' int { int } | 'absent' )
 --   tuple = '-' | group { '/' group }
 --   group = NUM { ',' int }
 --   int   = [ '-' ] NUM
@@ -15,12 +15,12 @@ use Rattle.rule_syntax.specs.declared.tree.PlacedName.{PlacedName}
 use Rattle.rule_syntax.specs.Grammar.{Named}
 use Rattle.problem_data.specs.declared.tree.Int.{Int}
 use Rattle.problem_data.specs.Grammar.{OneOrMore, IntWords}
-use Rattle.layout_text.specs.Tree.{LineTree, GroupTree, TokenTree, LayoutTree}
+use Rattle.layout_text.specs.Tree.{PutTree, placed, absent, LineTree, GroupTree, TokenTree, LayoutTree}
 
 -- ---- what tokens say
 
-abbrev pub line_tree : PlacedName → PlacedName → List Int → LineTree
-line_tree a s xs = record { name = a; shape = s; origin = xs }
+abbrev pub line_tree : PlacedName → PutTree → LineTree
+line_tree a p = record { name = a; put = p }
 
 abbrev pub group_tree : Token → List Int → GroupTree
 group_tree n xs = record { shape = number_in n.kind; origin = xs }
@@ -33,10 +33,19 @@ layout_tree ls t = record { lines = ls; token = t }
 
 -- ---- the productions
 
+abbrev pub PlacedWords : List ℕ → Lang PutTree
+PlacedWords text =
+    Bind (Tok (word keywords.As)) (λ t. Bind (Named text) (λ s. Bind (Tok (word keywords.At)) (λ u.
+    Bind (OneOrMore IntWords) (λ xs. Pure (placed s xs)))))
+
+abbrev pub AbsentWord : Lang PutTree
+AbsentWord = Bind (Tok (word keywords.Absent)) (λ t. Pure (absent t.start))
+
+unfoldable pub PutWords : List ℕ → Lang PutTree
+PutWords text = Either (PlacedWords text) AbsentWord
+
 unfoldable pub LineWords : List ℕ → Lang LineTree
-LineWords text =
-    Bind (Named text) (λ a. Bind (Tok (word keywords.As)) (λ t. Bind (Named text) (λ s. Bind (Tok (word keywords.At)) (λ u.
-    Bind (OneOrMore IntWords) (λ xs. Pure (line_tree a s xs))))))
+LineWords text = Bind (Named text) (λ a. Bind (PutWords text) (λ p. Pure (line_tree a p)))
 
 unfoldable pub GroupWords : Lang GroupTree
 GroupWords = Bind (Tok numbers) (λ n. Bind (Many (Bind (Tok (symbol symbols.Comma)) (λ c. IntWords))) (λ xs. Pure (group_tree n xs)))

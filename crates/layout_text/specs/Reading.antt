@@ -6,13 +6,22 @@ use Rattle.geo_tokens.specs.Words.{names, numbers, word, symbol}
 use Rattle.geo_tokens.specs.Reading.{Got, ◌>>=◌, token_at, either_at, opt_at, many_at}
 use Rattle.rule_syntax.specs.Reading.{Reader, named_at}
 use Rattle.problem_syntax.specs.Reading.{next_at, int_at, ints_at}
-use Rattle.layout_text.specs.Tree.{LineTree, GroupTree, TokenTree, LayoutTree}
+use Rattle.layout_text.specs.Tree.{PutTree, placed, absent, LineTree, GroupTree, TokenTree, LayoutTree}
 use Rattle.layout_text.specs.Grammar.{line_tree, group_tree, token_tree, layout_tree}
 
+unfoldable pub placed_at : List ℕ → Reader PutTree
+placed_at text w =
+    token_at (word keywords.As) w >>= λ t w1. named_at text w1 >>= λ s w2. token_at (word keywords.At) w2 >>= λ u w3.
+    ints_at w3 >>= λ xs rest. Got (Some (placed s xs)) rest
+
+unfoldable pub absent_at : Reader PutTree
+absent_at w = token_at (word keywords.Absent) w >>= λ t rest. Got (Some (absent t.start)) rest
+
+unfoldable pub put_at : List ℕ → Reader PutTree
+put_at text = either_at (word keywords.As) (placed_at text) absent_at
+
 unfoldable pub line_at : List ℕ → Reader LineTree
-line_at text w =
-    named_at text w >>= λ a w1. token_at (word keywords.As) w1 >>= λ t w2. named_at text w2 >>= λ s w3.
-    token_at (word keywords.At) w3 >>= λ u w4. ints_at w4 >>= λ xs rest. Got (Some (line_tree a s xs)) rest
+line_at text w = named_at text w >>= λ a w1. put_at text w1 >>= λ p rest. Got (Some (line_tree a p)) rest
 
 unfoldable pub group_at : Reader GroupTree
 group_at w = token_at numbers w >>= λ n w1. many_at (symbol symbols.Comma) (next_at int_at) w1 >>= λ xs rest. Got (Some (group_tree n xs)) rest

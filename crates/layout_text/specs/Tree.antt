@@ -3,13 +3,18 @@ use Rattle.std.specs.Prelude.{ℕ, List, Option}
 use Rattle.rule_syntax.specs.declared.tree.PlacedName.{PlacedName}
 use Rattle.problem_data.specs.declared.tree.Int.{Int}
 
--- a line: the name of an object, the name of its shape, and its coordinates
+-- where a line puts its object: in this shape, at these coordinates, or nowhere, with the place of
+-- the word `absent`
+pub data PutTree : Type 0 where
+  placed : PlacedName → List Int → PutTree
+  absent : ℕ → PutTree
+
+-- a line: the name of an object, and where it is put
 pub record LineTree : Type 0 where
   pub name : PlacedName
-  pub shape : PlacedName
-  pub origin : List Int
+  pub put : PutTree
 
--- a group of the token line: which shape of the object's list, from 1, and the coordinates
+-- a group of the token line: which place of the object's list, from 1, and the coordinates
 pub record GroupTree : Type 0 where
   pub shape : ℕ
   pub origin : List Int

@@ -2,13 +2,19 @@
 use Rattle.std.specs.Prelude.{List, map, Vec, Option, option_map}
 use Rattle.std.specs.declared.alloc.Global.{Global}
 use Rattle.layout_text.specs.declared.tree.LineText.{LineText}
+use Rattle.layout_text.specs.declared.tree.PutText.{PutText}
+use Rattle.layout_text.specs.declared.tree.PutText.TheVariants as puts
 use Rattle.layout_text.specs.declared.tree.GroupText.{GroupText}
 use Rattle.layout_text.specs.declared.tree.TokenText.{TokenText}
 use Rattle.layout_text.specs.declared.tree.LayoutText.{LayoutText}
-use Rattle.layout_text.specs.Tree.{LineTree, GroupTree, TokenTree, LayoutTree}
+use Rattle.layout_text.specs.Tree.{PutTree, placed, absent, LineTree, GroupTree, TokenTree, LayoutTree}
+
+abbrev pub put_view : PutText → PutTree
+put_view (puts.Placed shape origin) = placed shape origin.items
+put_view (puts.Absent place) = absent place
 
 abbrev pub line_view : LineText → LineTree
-line_view l = record { name = l.name; shape = l.shape; origin = l.origin.items }
+line_view l = record { name = l.name; put = put_view l.put }
 
 abbrev pub line_views : Vec LineText Global → List LineTree
 line_views ls = map line_view ls.items

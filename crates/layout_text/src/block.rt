@@ -6,14 +6,17 @@ ghost use Rattle.geo_base.specs.Boxes.{coordinate};
 ghost use Rattle.geo_base.specs.Tuple.{spot};
 ghost use Rattle.geo_chan.specs.Written.{Prints};
 ghost use Rattle.problem_data.specs.Cells.{IsShaped};
-ghost use Rattle.layout_text.specs.Block.{shape_name as shape_name_of, behind, coordinates, head_of, line_of, lines_of, group_of, later_group, token_of, token_line, block_of};
+ghost use Rattle.problem_data.specs.Places.{is_absent_at};
+ghost use Rattle.problem_data.specs.Tuple.{object_of};
+ghost use Rattle.layout_text.specs.Block.{shape_name as shape_name_of, behind, coordinates, head_of, placed_line, absent_line, line_of, lines_of, group_of, later_group, token_of, token_line, block_of};
 
+use crate::given::shape_of;
 use geo_chan::{Piece, PutFault, Sink, write_all_bytes, write_pieces};
 use geo_conditions::{Layout, ObjId};
 use problem_data::problem::Problem;
 
-/// Writes the layout block: the line `layout`, a line `NAME as SHAPE at X1 .. XK` for each object in file order, and the
-/// token line. After a fault a front part of it was written.
+/// Writes the layout block: the line `layout`, a line `NAME as SHAPE at X1 .. XK`, or `NAME absent`,
+/// for each object in file order, and the token line. After a fault a front part of it was written.
 pub fn print_layout<W: Sink>(
     problem: &Problem,
     layout: &Layout,
@@ -28,8 +31,8 @@ pub fn print_layout<W: Sink>(
     print_token_line(problem, layout, sink)
 }
 
-/// Writes the token of a layout: the place of the shape and the coordinates of each object, in file order; `-` where there
-/// are no objects. After a fault a front part of it was written.
+/// Writes the token of a layout: the place and the coordinates of each object, in file order; `-`
+/// where there are no objects. After a fault a front part of it was written.
 pub fn print_token<W: Sink>(
     problem: &Problem,
     layout: &Layout,
@@ -78,6 +81,49 @@ fn write_line<W: Sink>(
     ensures { Prints W.written W.faults W.quiet sink.old sink.new result
         (line_of problem.now layout.now o.0) }
 {
+    if is_absent(problem, layout, o) {
+        write_absent(problem, o, sink)
+    } else {
+        write_placed(problem, layout, o, sink)
+    }
+}
+
+// Whether the object is absent.
+fn is_absent(problem: &Problem, layout: &Layout, o: ObjId) -> bool
+    requires layout { IsShaped problem.now layout.now }
+    requires object { o.0 < length problem.now.objects }
+    ensures { result ≡ is_absent_at (object_of problem.now o.0) (spot layout.now o.0).place }
+{
+    problem.is_said();
+    problem.objects()[o.0 as usize].is_absent_at(layout.place(o) as usize)
+}
+
+// Writes the line `NAME absent`.
+fn write_absent<W: Sink>(problem: &Problem, o: ObjId, sink: &mut W) -> Result<(), PutFault>
+    requires { o.0 < length problem.now.objects }
+    ensures { Prints W.written W.faults W.quiet sink.old sink.new result
+        (absent_line problem.now o.0) }
+{
+    let object = &problem.objects()[o.0 as usize];
+    let pieces = [
+        Piece::Bytes(object.name().as_bytes()),
+        Piece::Bytes(b" absent\n"),
+    ];
+    write_pieces(sink, &pieces)
+}
+
+// Writes the line `NAME as SHAPE at X1 .. XK`.
+fn write_placed<W: Sink>(
+    problem: &Problem,
+    layout: &Layout,
+    o: ObjId,
+    sink: &mut W,
+) -> Result<(), PutFault>
+    requires layout { IsShaped problem.now layout.now }
+    requires object { o.0 < length problem.now.objects }
+    ensures { Prints W.written W.faults W.quiet sink.old sink.new result
+        (placed_line problem.now layout.now o.0) }
+{
     write_head(problem, layout, o, sink)?;
     write_coordinates(problem.dims(), layout, o, b" ", sink)?;
     write_all_bytes(sink, b"\n")
@@ -104,16 +150,19 @@ fn write_head<W: Sink>(
     write_pieces(sink, &pieces)
 }
 
-// The name of the shape that the layout gives the object.
+// The name of the shape that the layout gives the object; none where it gives it no shape.
 fn shape_name<'a>(problem: &'a Problem, layout: &Layout, o: ObjId) -> &'a [u8]
     requires layout { IsShaped problem.now layout.now }
     requires object { o.0 < length problem.now.objects }
     ensures { result.now ≡ shape_name_of problem.now layout.now o.0 }
 {
-    problem.is_said();
-    let object = &problem.objects()[o.0 as usize];
-    let number = object.shapes()[layout.place(o) as usize - 1];
-    problem.shapes()[number as usize].name().as_bytes()
+    match shape_of(problem, layout, o) {
+        Some(number) => match problem.shapes().get(number as usize) {
+            Some(shape) => shape.name().as_bytes(),
+            None => b"",
+        },
+        None => b"",
+    }
 }
 
 // Writes the object's coordinates, each behind the mark.

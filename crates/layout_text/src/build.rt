@@ -5,8 +5,9 @@ ghost use Rattle.problem_data.specs.WellFormed.{IsObject};
 ghost use Rattle.layout_text.specs.View.{line_view};
 ghost use Rattle.layout_text.specs.Faults.{spot_of, tuple_of};
 
+use crate::first::first_values;
 use crate::names::shape_position;
-use crate::tree::LineText;
+use crate::tree::{LineText, PutText};
 use geo_conditions::Layout;
 use problem_data::problem::{ObjectDef, Problem};
 use problem_syntax::numbers::values;
@@ -24,9 +25,18 @@ fn put(
     ensures { OnOk result (layout.new
         ≡ layout.old ++ spot_of problem.now object.now (line_view line.now) ∷ []) }
 {
-    let place = shape_position(problem, object, &line.shape.name) + 1;
-    let origin = values(alloc, line.origin.as_slice())?;
-    layout.push(place as u8, origin.as_slice())
+    match &line.put {
+        PutText::Placed(shape, origin) => {
+            let place = shape_position(problem, object, &shape.name) + 1;
+            let origin = values(alloc, origin.as_slice())?;
+            layout.push(place as u8, origin.as_slice())
+        }
+        PutText::Absent(_) => {
+            let place = object.shapes().len() + 1;
+            let origin = first_values(alloc, problem, object)?;
+            layout.push(place as u8, origin.as_slice())
+        }
+    }
 }
 
 /// The tuple that lines give, of which there are no more than objects.

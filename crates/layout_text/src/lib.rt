@@ -7,6 +7,8 @@
 mod block;
 mod build;
 mod faults;
+mod first;
+mod given;
 mod groups;
 mod laws;
 mod lines;
@@ -19,6 +21,7 @@ mod token;
 mod tree;
 
 pub use block::{print_layout, print_token, print_token_line};
+pub use given::shape_of;
 pub use laws::texts_are_read_back;
 pub use read::read_layout;
 pub use token::{TokenFault, read_token};

@@ -5,24 +5,31 @@
 use problem_data::tree::Int;
 use rule_syntax::tree::PlacedName;
 
-/// A line: the name of an object, the name of its shape, and its coordinates.
+/// Where a line puts its object.
+#[derive(Drop)]
+pub enum PutText {
+    /// In the shape of this name, at these coordinates.
+    Placed(PlacedName, Vec<Int>),
+    /// Nowhere, with the place of the word `absent`.
+    Absent(u64),
+}
+
+/// A line: the name of an object, and where it is put.
 pub struct LineText {
     pub name: PlacedName,
-    pub shape: PlacedName,
-    pub origin: Vec<Int>,
+    pub put: PutText,
 }
 
 impl Drop for LineText {
     fn drop(self) {
         let LineText {
             name: _name,
-            shape: _shape,
-            origin: _origin,
+            put: _put,
         } = self;
     }
 }
 
-/// A group of the token line: which shape of the object's list, from 1, and the coordinates.
+/// A group of the token line: which place of the object's list, from 1, and the coordinates.
 pub struct GroupText {
     pub shape: u32,
     pub origin: Vec<Int>,

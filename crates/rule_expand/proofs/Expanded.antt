@@ -2,7 +2,7 @@
 use Rattle.std.proofs.Common.{◌≡◌, ℕ, zero, suc, ◌+◌, ◌≤◌, eqb, Bool, true, false, cond, not, ◌&&◌, ◌||◌, List, [], ◌∷◌, map, length, ℤ, pos, ◌+ℤ◌, ◌*ℤ◌, neg_ℤ, sym, ap, ◌∙◌, refl, arith}
 use Rattle.std.specs.Prelude.{Option, None, Some, nat_le}
 use Rattle.std.specs.Option.{option_map_or}
-use Rattle.std.specs.List.{list_all, list_any, count_by, fold, range_with_len}
+use Rattle.std.specs.List.{list_all, list_any, count_by, filter, fold, range_with_len}
 use Rattle.std.specs.Int.{int_min, int_max}
 use Rattle.std.specs.Str.{bytes_eq}
 use Rattle.std.proofs.lemmas.Bool.Decides.{nat_tests}
@@ -13,12 +13,12 @@ use Rattle.problem_data.specs.Problem.{BoxData, ParamData, ProblemData}
 use Rattle.problem_data.specs.Tree.{BodyTree, means, equals}
 use Rattle.problem_data.specs.Tuple.{Tuple, boxes_in}
 use Rattle.problem_data.specs.Value.{Thing, Number, Object, Part, Env, bind, object_position, shape_position, macro_position, look, as_number, field_value, Calls, thing, sum_value, sums_value, product_value, products_value, argument_thing, things, value}
-use Rattle.problem_data.specs.Truth.{compare, same_truth, quantify, boxes_of_thing, elements, holds, all_hold, some_holds, bind_all, body_value, body_truth, macro_of, calls_of, formula_holds}
+use Rattle.problem_data.specs.Truth.{compare, same_truth, quantify, boxes_of_thing, candidates, is_there, elements, holds, all_hold, some_holds, bind_all, body_value, body_truth, macro_of, calls_of, formula_holds}
 use Rattle.rule_expand.specs.declared.plain.Subject.{Subject}
 use Rattle.rule_expand.specs.declared.plain.Subject.TheVariants as subjects
 use Rattle.rule_expand.specs.Plain as plain
 use Rattle.rule_expand.specs.Plain.{PlainExprTree, PlainCollTree, PlainFormulaTree}
-use Rattle.rule_expand.specs.PlainTruth.{PlainEnv, set_variable, variable_in, subject_in, plain_value, plain_sum, plain_sums, plain_product, plain_products, plain_elements, plain_holds, plain_all, plain_some}
+use Rattle.rule_expand.specs.PlainTruth.{PlainEnv, set_variable, variable_in, subject_in, plain_value, plain_sum, plain_sums, plain_product, plain_products, plain_candidates, plain_elements, plain_holds, plain_all, plain_some}
 use Rattle.rule_expand.specs.Expansion.{Meant, an_expr, a_subject, Subst, give, meant_by, as_expr, field_of, binders, Expansions, meant, sum_expanded, sums_expanded, product_expanded, products_expanded, argument_meant, arguments_meant, expr_expanded, boxes_expanded, coll_expanded, formula_expanded, formulas_expanded, give_all, body_expr, body_formula, expansions_of, expanded}
 
 -- the value of what a name became
@@ -235,16 +235,27 @@ boxes-spatial p t (Object o) = parts-spatial (boxes_in p t o)
 boxes-spatial p t (Number z) = tt
 boxes-spatial p t (Part b) = tt
 
-elements-spatial : (p : ProblemData) (t : Tuple) (coll : PlainCollTree) (env : PlainEnv) → AreSpatial (plain_elements p t coll env)
-elements-spatial p t plain.all_objects env = objects-spatial (range_with_len 0 (length p.objects))
-elements-spatial p t (plain.listed os) env = objects-spatial os
-elements-spatial p t (plain.boxes_of s) env = boxes-spatial p t (subject_in s env)
+candidates-spatial : (p : ProblemData) (t : Tuple) (coll : PlainCollTree) (env : PlainEnv) → AreSpatial (plain_candidates p t coll env)
+candidates-spatial p t plain.all_objects env = objects-spatial (range_with_len 0 (length p.objects))
+candidates-spatial p t (plain.listed os) env = objects-spatial os
+candidates-spatial p t (plain.boxes_of s) env = boxes-spatial p t (subject_in s env)
 
-boxes-mean : (p : ProblemData) (t : Tuple) (env : PlainEnv) (m : Meant) → plain_elements p t (boxes_expanded m) env ≡ boxes_of_thing p t (meant_thing p t env m)
+spatial-if : (b : Bool) (x : Thing) (xs : List Thing) → as_number x ≡ pos 0 → AreSpatial xs → AreSpatial (cond b (x ∷ xs) xs)
+spatial-if true x xs h a = (h, a)
+spatial-if false x xs h a = a
+
+filter-spatial : (test : Thing → Bool) (xs : List Thing) → AreSpatial xs → AreSpatial (filter test xs)
+filter-spatial test [] a = tt
+filter-spatial test (x ∷ xs) a = spatial-if (test x) x (filter test xs) a.0 (filter-spatial test xs a.1)
+
+elements-spatial : (p : ProblemData) (t : Tuple) (coll : PlainCollTree) (env : PlainEnv) → AreSpatial (plain_elements p t coll env)
+elements-spatial p t coll env = filter-spatial (is_there p t) (plain_candidates p t coll env) (candidates-spatial p t coll env)
+
+boxes-mean : (p : ProblemData) (t : Tuple) (env : PlainEnv) (m : Meant) → plain_candidates p t (boxes_expanded m) env ≡ boxes_of_thing p t (meant_thing p t env m)
 boxes-mean p t env (an_expr e) = refl
 boxes-mean p t env (a_subject s) = refl
 
-coll-means : (p : ProblemData) (t : Tuple) (env : PlainEnv) (coll : CollTree) (sub : Subst) → plain_elements p t (coll_expanded p coll sub) env ≡ elements p t coll (env_of p t env sub)
+coll-means : (p : ProblemData) (t : Tuple) (env : PlainEnv) (coll : CollTree) (sub : Subst) → plain_candidates p t (coll_expanded p coll sub) env ≡ candidates p t coll (env_of p t env sub)
 coll-means p t env all_objects sub = refl
 coll-means p t env (listed ns) sub = refl
 coll-means p t env (boxes_of a) sub = boxes-mean p t env (meant_by p a.name sub) ∙ ap (boxes_of_thing p t) (look-sub p t env a.name sub)
@@ -254,7 +265,7 @@ quantified-holds : (p : ProblemData) (t : Tuple) (kind : QuantKind) (k : ℕ) (c
     plain_holds p t (plain.quantified kind k (coll_expanded p coll sub) body) env ≡ quantify kind h (elements p t coll (env_of p t env sub))
 quantified-holds p t kind k coll sub body env h f =
     quantify-same kind (λ v. plain_holds p t body (set_variable k v env)) h (plain_elements p t (coll_expanded p coll sub) env) (elements-spatial p t (coll_expanded p coll sub) env) f
-    ∙ ap (quantify kind h) (coll-means p t env coll sub)
+    ∙ ap (λ xs. quantify kind h (filter (is_there p t) xs)) (coll-means p t env coll sub)
 
 mutual
   pub formula-means : (p : ProblemData) (t : Tuple) (c : Calls) (x : Expansions) → Expands p t c x → (f : FormulaTree) (sub : Subst) (k : ℕ) (env : PlainEnv) → IsSpatial env → IsFresh p t k sub →

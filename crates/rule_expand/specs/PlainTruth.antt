@@ -1,11 +1,11 @@
 -- The meaning of a rule without macros on a tuple, by the same cases as that of the rule as it is written.
 use Rattle.std.specs.Prelude.{ℕ, ◌+◌, ◌==◌, ◌&&◌, ◌||◌, not, Bool, true, false, if◌then◌else◌, List, [], ◌∷◌, map, length, ℤ, pos, ◌+ℤ◌, ◌*ℤ◌, neg_ℤ}
-use Rattle.std.specs.List.{range_with_len}
+use Rattle.std.specs.List.{filter, range_with_len}
 use Rattle.std.specs.Int.{int_min, int_max, int_div_euclid, int_rem_euclid}
 use Rattle.problem_data.specs.Problem.{ProblemData}
 use Rattle.problem_data.specs.Tuple.{Tuple}
 use Rattle.problem_data.specs.Value.{Thing, Number, Object, field_value}
-use Rattle.problem_data.specs.Truth.{compare, same_truth, quantify, boxes_of_thing}
+use Rattle.problem_data.specs.Truth.{compare, same_truth, quantify, boxes_of_thing, is_there}
 use Rattle.rule_expand.specs.declared.plain.Subject.{Subject}
 use Rattle.rule_expand.specs.declared.plain.Subject.TheVariants as subjects
 use Rattle.rule_expand.specs.Plain.{PlainExprTree, number, field, shape_number, negative, sum, product, least, greatest, PlainSumTree, plus, minus, PlainSums, no_sums, a_sum, PlainProductTree, times, over, modulo, PlainProducts, no_products, a_product, PlainCollTree, all_objects, listed, boxes_of, PlainFormulaTree, truth, falsehood, negation, all_of, any_of, implication, equivalence, comparison, quantified, PlainFormulas, no_formulas, a_formula}
@@ -57,10 +57,15 @@ abbrev mutual
   plain_products p t z no_products env = z
   plain_products p t z (a_product s rest) env = plain_products p t (plain_product p t z s env) rest env
 
+-- what a quantifier's variable could stand for
+abbrev pub plain_candidates : ProblemData → Tuple → PlainCollTree → PlainEnv → List Thing
+plain_candidates p t all_objects env = map Object (range_with_len 0 (length p.objects))
+plain_candidates p t (listed os) env = map Object os
+plain_candidates p t (boxes_of s) env = boxes_of_thing p t (subject_in s env)
+
+-- the elements that it ranges over: those that are there
 abbrev pub plain_elements : ProblemData → Tuple → PlainCollTree → PlainEnv → List Thing
-plain_elements p t all_objects env = map Object (range_with_len 0 (length p.objects))
-plain_elements p t (listed os) env = map Object os
-plain_elements p t (boxes_of s) env = boxes_of_thing p t (subject_in s env)
+plain_elements p t coll env = filter (is_there p t) (plain_candidates p t coll env)
 
 abbrev mutual
   pub plain_holds : ProblemData → Tuple → PlainFormulaTree → PlainEnv → Bool

@@ -9,7 +9,7 @@ use Rattle.problem_data.specs.Value as meaning
 use Rattle.problem_data.specs.Truth.{boxes_of_thing}
 use Rattle.problem_data.specs.Value.{Number, Object, Part}
 use Rattle.rule_expand.specs.Plain.{PlainCollTree, all_objects, listed, boxes_of}
-use Rattle.rule_expand.specs.PlainTruth.{PlainEnv, plain_elements, set_variable, subject_in, variable_in}
+use Rattle.rule_expand.specs.PlainTruth.{PlainEnv, plain_candidates, set_variable, subject_in, variable_in}
 use Rattle.rule_values.specs.Elements.{IsPlacedIn, elements_at, object_in, owner_of}
 use Rattle.rule_values.specs.Shapes.{boxes_at}
 use Rattle.rule_values.specs.View.{env_layer, env_view, thing_view}
@@ -31,8 +31,8 @@ outer-thing v own x env n =
     let other : (v == own) ≡ false = grind (arith, nat_tests, n) in
     ap (λ b. if b then x else variable_in v env) other
 
--- the elements at the place that the owner has on a tuple
-pub as-placed : (p : ProblemData) (t : Tuple) (place : ℕ) (c : PlainCollTree) (env : PlainEnv) → IsPlacedIn t place (owner_of c env) → elements_at p place c env ≡ plain_elements p t c env
+-- the candidates at the place that the owner has on a tuple
+pub as-placed : (p : ProblemData) (t : Tuple) (place : ℕ) (c : PlainCollTree) (env : PlainEnv) → IsPlacedIn t place (owner_of c env) → elements_at p place c env ≡ plain_candidates p t c env
 as-placed p t place all_objects env h = refl
 as-placed p t place (listed os) env h = refl
 as-placed p t place (boxes_of s) env h = of-thing (subject_in s env) h

@@ -1,13 +1,14 @@
 -- Rules whose evaluation, from the left and no further than it has to go, meets only numbers that fit 128 bits: every subexpression,
 -- and what a sum or a product has given after each of its steps. An equivalence evaluates both its sides. A quantifier may look at
--- all its elements.
+-- each of its candidates that is there.
 use Rattle.std.specs.Prelude.{ℕ, ◌≡◌, ◌<◌, true, false, List, [], length, ℤ, ◌+ℤ◌, neg_ℤ, All}
 use Rattle.std.specs.Int.RustNames.{FitsSigned}
 use Rattle.std.specs.Int.{w128}
 use Rattle.problem_data.specs.Problem.{ProblemData}
 use Rattle.problem_data.specs.Tuple.{Tuple}
+use Rattle.problem_data.specs.Truth.{is_there}
 use Rattle.rule_expand.specs.Plain.{PlainExprTree, number, field, shape_number, negative, sum, product, least, greatest, PlainSumTree, plus, minus, PlainSums, no_sums, a_sum, PlainProductTree, times, over, modulo, PlainProducts, no_products, a_product, PlainFormulaTree, truth, falsehood, negation, all_of, any_of, implication, equivalence, comparison, quantified, PlainFormulas, no_formulas, a_formula}
-use Rattle.rule_expand.specs.PlainTruth.{PlainEnv, set_variable, plain_value, plain_sum, plain_product, plain_elements, plain_holds}
+use Rattle.rule_expand.specs.PlainTruth.{PlainEnv, set_variable, plain_value, plain_sum, plain_product, plain_candidates, plain_holds}
 use Rattle.rule_expand.specs.Rules as rules
 use Rattle.rule_expand.specs.Rules.{PlainDemand, PlainRuleData}
 use Rattle.rule_values.specs.Elements.{element_at}
@@ -52,7 +53,9 @@ abbrev mutual
   IsCalm p t (implication f g) env = IsCalm p t f env × (plain_holds p t f env ≡ true → IsCalm p t g env)
   IsCalm p t (equivalence f g) env = IsCalm p t f env × IsCalm p t g env
   IsCalm p t (comparison a rel b) env = IsTame p t a env × IsTame p t b env
-  IsCalm p t (quantified kind v coll f) env = (i : ℕ) → i < length (plain_elements p t coll env) → IsCalm p t f (set_variable v (element_at (plain_elements p t coll env) i) env)
+  IsCalm p t (quantified kind v coll f) env =
+      (i : ℕ) → i < length (plain_candidates p t coll env) → is_there p t (element_at (plain_candidates p t coll env) i) ≡ true →
+      IsCalm p t f (set_variable v (element_at (plain_candidates p t coll env) i) env)
 
   -- the formulas behind one that fails are not looked at
   pub AllCalm : ProblemData → Tuple → PlainFormulas → PlainEnv → Type 0

@@ -1,4 +1,4 @@
--- What the variable of a quantifier ranges over, by the place of the shape of the object whose boxes it ranges over.
+-- What the variable of a quantifier could stand for, by the place of the shape of the object whose boxes it ranges over.
 use Rattle.std.specs.Prelude.{◌≡◌, ℕ, List, [], map, length, pos, slice_index_or}
 use Rattle.std.specs.Prelude.{Option, None, Some}
 use Rattle.std.specs.Option.{option_map_or}
@@ -23,7 +23,7 @@ owner_of all_objects env = None
 owner_of (listed os) env = None
 owner_of (boxes_of s) env = object_in (subject_in s env)
 
--- the elements where the owner has its shape at that place
+-- the candidates where the owner has its shape at that place
 abbrev pub elements_at : ProblemData → ℕ → PlainCollTree → PlainEnv → List Thing
 elements_at p place all_objects env = map Object (range_with_len 0 (length p.objects))
 elements_at p place (listed os) env = map Object os

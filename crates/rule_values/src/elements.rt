@@ -1,10 +1,11 @@
-//! What the variable of a quantifier ranges over.
+//! What the variable of a quantifier could stand for. Objects that are absent are among them: whether
+//! one is there is asked of a tuple.
 
 ghost use Rattle.std.specs.Prelude.{◌≡◌, ◌<◌, ◌^◌, length, map};
 ghost use Rattle.std.specs.List.{range_with_len};
 ghost use Rattle.problem_data.specs.Tuple.{Tuple};
 ghost use Rattle.problem_data.specs.Value.{Object};
-ghost use Rattle.rule_expand.specs.PlainTruth.{plain_elements};
+ghost use Rattle.rule_expand.specs.PlainTruth.{plain_candidates};
 ghost use Rattle.rule_expand.specs.PlainView.{plain_coll_view};
 ghost use Rattle.rule_values.specs.Elements.{IsPlacedIn, element_at, elements_at, elements_view, object_in, owner_of};
 ghost use Rattle.rule_values.specs.View.{env_view, thing_view};
@@ -14,7 +15,7 @@ use crate::shapes::boxes_at;
 use problem_data::problem::{BoxDef, Problem};
 use rule_expand::plain::PlainColl;
 
-/// The elements that a variable ranges over.
+/// What a variable could stand for.
 #[derive(Clone, Copy)]
 pub enum Elements<'a> {
     /// So many objects, from the first one.
@@ -87,7 +88,7 @@ pub fn owner<'a>(coll: &PlainColl, env: &'a Env<'a>) -> Option<usize>
     }
 }
 
-/// The elements that a variable ranges over. `place` is the place of the shape that the owner has, in its list.
+/// What a variable could stand for. `place` is the place of the shape that the owner has, in its list.
 pub fn elements_of<'a>(
     problem: &'a Problem,
     coll: &'a PlainColl,
@@ -99,7 +100,7 @@ pub fn elements_of<'a>(
     ensures tuple { (t : Tuple)
         → IsPlacedIn t place (owner_of (plain_coll_view coll.now) (env_view env.now))
         → elements_view result
-        ≡ plain_elements problem.now t (plain_coll_view coll.now) (env_view env.now) }
+        ≡ plain_candidates problem.now t (plain_coll_view coll.now) (env_view env.now) }
     ensures few { length (elements_view result) < 2 ^ 62 }
 {
     match coll {

@@ -5,16 +5,18 @@ ghost use Rattle.geo_tokens.specs.declared.fault.FaultWord.TheVariants.{Limit};
 ghost use Rattle.problem_data.specs.declared.tree.Int.{Int};
 ghost use Rattle.problem_data.specs.Least.{IsLeast};
 ghost use Rattle.problem_data.specs.WellFormed.{IsObject};
-ghost use Rattle.layout_text.specs.View.{line_view};
-ghost use Rattle.layout_text.specs.Faults.{NameFault, ShapeFault, CountFault, OutsideFault, PiecesFault, LineFault};
+ghost use Rattle.layout_text.specs.Tree.{placed};
+ghost use Rattle.layout_text.specs.View.{line_view, put_view};
+ghost use Rattle.layout_text.specs.Faults.{NameFault, ShapeFault, CountFault, OutsideFault, PiecesFault, AbsentFault, PutFault, LineFault};
 
 use crate::names::shape_position;
 use crate::pieces::is_in_pieces;
-use crate::tree::LineText;
+use crate::tree::{LineText, PutText};
 use geo_tokens::fault::FaultWord;
 use problem_data::fault::{Fault, earlier, fault_if};
 use problem_data::problem::{ObjectDef, PiecesDef, Problem};
 use problem_data::tree::Int;
+use rule_syntax::tree::PlacedName;
 use statement_faults::numbers::first_int;
 
 fn name_fault(object: &ObjectDef, line: &LineText) -> Option<Fault>
@@ -24,13 +26,13 @@ fn name_fault(object: &ObjectDef, line: &LineText) -> Option<Fault>
     fault_if(!same, line.name.place, FaultWord::Order)
 }
 
-fn shape_fault(problem: &Problem, object: &ObjectDef, line: &LineText) -> Option<Fault>
+fn shape_fault(problem: &Problem, object: &ObjectDef, shape: &PlacedName) -> Option<Fault>
     requires { IsObject problem.now object.now }
-    ensures { IsLeast (ShapeFault problem.now object.now (line_view line.now)) result }
+    ensures { IsLeast (ShapeFault problem.now object.now shape.now) result }
 {
-    let position = shape_position(problem, object, &line.shape.name);
+    let position = shape_position(problem, object, &shape.name);
     let listed = position < object.shapes().len();
-    fault_if(!listed, line.shape.place, FaultWord::Unknown)
+    fault_if(!listed, shape.place, FaultWord::Unknown)
 }
 
 fn count_fault(dims: usize, origin: &[Int]) -> Option<Fault>
@@ -67,19 +69,50 @@ fn pieces_fault(pieces: &[PiecesDef], origin: &[Int]) -> Option<Fault>
     found
 }
 
+// The first fault of a shape and coordinates.
+fn placed_fault(
+    problem: &Problem,
+    object: &ObjectDef,
+    shape: &PlacedName,
+    origin: &[Int],
+) -> Option<Fault>
+    requires { IsObject problem.now object.now }
+    ensures { IsLeast (PutFault problem.now object.now (placed shape.now origin.now)) result }
+{
+    let shape = shape_fault(problem, object, shape);
+    let count = count_fault(problem.dims(), origin);
+    let pieces = pieces_fault(object.pieces(), origin);
+    let last = earlier(count, pieces);
+    earlier(shape, last)
+}
+
+// The fault of the word `absent` at a place.
+fn absent_fault(object: &ObjectDef, place: u64) -> Option<Fault>
+    ensures { IsLeast (AbsentFault object.now place) result }
+{
+    let optional = object.may_be_absent();
+    fault_if(!optional, place, FaultWord::Unknown)
+}
+
+// The first fault of where a line puts its object.
+fn put_fault(problem: &Problem, object: &ObjectDef, put: &PutText) -> Option<Fault>
+    requires { IsObject problem.now object.now }
+    ensures { IsLeast (PutFault problem.now object.now (put_view put.now)) result }
+{
+    match put {
+        PutText::Placed(shape, origin) => placed_fault(problem, object, shape, origin.as_slice()),
+        PutText::Absent(place) => absent_fault(object, *place),
+    }
+}
+
 // The first fault of a line that has this object.
 fn object_line_fault(problem: &Problem, object: &ObjectDef, line: &LineText) -> Option<Fault>
     requires { IsObject problem.now object.now }
     ensures { IsLeast (LineFault problem.now (Some object.now) (line_view line.now)) result }
 {
-    let origin = line.origin.as_slice();
     let name = name_fault(object, line);
-    let shape = shape_fault(problem, object, line);
-    let count = count_fault(problem.dims(), origin);
-    let pieces = pieces_fault(object.pieces(), origin);
-    let last = earlier(count, pieces);
-    let last = earlier(shape, last);
-    earlier(name, last)
+    let put = put_fault(problem, object, &line.put);
+    earlier(name, put)
 }
 
 /// The first fault of a line that has so many lines before it.

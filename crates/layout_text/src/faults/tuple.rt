@@ -6,8 +6,9 @@ ghost use Rattle.problem_data.specs.WellFormed.{IsObject};
 ghost use Rattle.layout_text.specs.View.{line_view, group_view};
 ghost use Rattle.layout_text.specs.Faults.{spot_of, spots_of, tuple_of, spot_in};
 
+use crate::first::are_first_values;
 use crate::names::shape_position;
-use crate::tree::{GroupText, LineText};
+use crate::tree::{GroupText, LineText, PutText};
 use problem_data::problem::{ObjectDef, Problem};
 use problem_data::tree::Int;
 
@@ -32,8 +33,17 @@ fn same_spot(problem: &Problem, object: &ObjectDef, line: &LineText, group: &Gro
     ensures { IsTrue result
         ↔ (spot_in (group_view group.now) ≡ spot_of problem.now object.now (line_view line.now)) }
 {
-    let place = shape_position(problem, object, &line.shape.name) + 1;
-    group.shape as usize == place && same_numbers(group.origin.as_slice(), line.origin.as_slice())
+    let numbers = group.origin.as_slice();
+    match &line.put {
+        PutText::Placed(shape, origin) => {
+            let place = shape_position(problem, object, &shape.name) + 1;
+            group.shape as usize == place && same_numbers(numbers, origin.as_slice())
+        }
+        PutText::Absent(_) => {
+            let place = object.shapes().len() + 1;
+            group.shape as usize == place && are_first_values(problem, object, numbers)
+        }
+    }
 }
 
 // The groups give the spots that the lines give these objects.

@@ -1,5 +1,6 @@
-use Rattle.std.proofs.Common.{◌≡◌, drop, take}
-use Rattle.std.specs.List.{count_by, list_all, list_any}
+use Rattle.std.proofs.Common.{◌≡◌, ◌+◌, drop}
+use Rattle.std.specs.List.{count_by, filter, list_all, list_any}
+use Rattle.problem_data.specs.Truth.{is_there}
 use Rattle.rule_expand.specs.PlainTruth.{plain_all, plain_some}
 use Rattle.rule_expand.specs.PlainView.{plain_formula_view, plain_formulas_view}
 use Rattle.rule_values.specs.Elements.{elements_view}
@@ -17,13 +18,17 @@ invariant-some_holds-loop-f l = SomeLeft l.problem l.layout (env_view l.env) (pl
 abbrev pub invariant-for_all-loop-i : goal.invariant-for_all-loop-i
 invariant-for_all-loop-i l =
     let test = holds_for l.problem l.layout (plain_formula_view l.f) l.v (env_view l.env) in
-    list_all test (drop l.i (elements_view l.elements)) ≡ list_all test (elements_view l.elements)
+    let there = is_there l.problem l.layout in
+    list_all test (filter there (drop l.i (elements_view l.elements))) ≡ list_all test (filter there (elements_view l.elements))
 
 abbrev pub invariant-for_some-loop-i : goal.invariant-for_some-loop-i
 invariant-for_some-loop-i l =
     let test = holds_for l.problem l.layout (plain_formula_view l.f) l.v (env_view l.env) in
-    list_any test (drop l.i (elements_view l.elements)) ≡ list_any test (elements_view l.elements)
+    let there = is_there l.problem l.layout in
+    list_any test (filter there (drop l.i (elements_view l.elements))) ≡ list_any test (filter there (elements_view l.elements))
 
 abbrev pub invariant-how_many-loop-i : goal.invariant-how_many-loop-i
 invariant-how_many-loop-i l =
-    l.count ≡ count_by (holds_for l.problem l.layout (plain_formula_view l.f) l.v (env_view l.env)) (take l.i (elements_view l.elements))
+    let test = holds_for l.problem l.layout (plain_formula_view l.f) l.v (env_view l.env) in
+    let there = is_there l.problem l.layout in
+    l.count + count_by test (filter there (drop l.i (elements_view l.elements))) ≡ count_by test (filter there (elements_view l.elements))

@@ -1,4 +1,4 @@
-use Rattle.std.proofs.Common.{◌≡◌, ◌<◌, ℕ, length, subst, arith}
+use Rattle.std.proofs.Common.{◌≡◌, ℕ, length, subst, arith}
 use Rattle.problem_data.specs.Problem.{ProblemData}
 use Rattle.problem_data.specs.Tuple.{Tuple}
 use Rattle.layout_drawing.proofs.Owned.{AreBelow, more_below, all_below}
@@ -13,6 +13,4 @@ returns c =
     let t : Tuple = c.args.layout.now in
     let len : c.len-o-end.result ≡ length t = c.len-o-end.ensures in
     let all : c.loop-o.o ≡ length t = omega arith in
-    let objects : length t ≡ length p.objects = c.requires.layout.objects in
-    let some : 0 < length p.objects = c.requires.some in
-    all_below p t c.loop-o.blocks.items (omega arith) (subst (λ (n : ℕ). AreBelow p t n c.loop-o.blocks.items) all c.loop-o.invariant)
+    all_below p t c.loop-o.blocks.items (subst (λ (n : ℕ). AreBelow p t n c.loop-o.blocks.items) all c.loop-o.invariant)

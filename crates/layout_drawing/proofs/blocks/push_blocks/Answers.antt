@@ -1,4 +1,4 @@
-use Rattle.std.proofs.Common.{◌≡◌, ◌+◌, ℕ, ℤ, List, [], length, sym, ap, ◌∙◌, subst, arith}
+use Rattle.std.proofs.Common.{◌≡◌, ◌+◌, ℕ, List, [], length, sym, ap, ◌∙◌, subst, arith}
 use Rattle.std.proofs.lemmas.List.{get_or_default}
 use Rattle.geo_base.specs.Tuple.{spot}
 use Rattle.problem_data.specs.Cells.{box_at}
@@ -30,5 +30,4 @@ returns c =
     let o : ℕ = c.args.o.0 in
     let e : c.loop-part.part-index ≡ length c.boxes-parts.result.now = omega arith in
     let all : c.loop-part.part-index ≡ length (boxes_in p t o) = e ∙ ap length c.boxes-parts.ensures.same in
-    let some = c.boxes-parts.ensures.some in
-    added_all p t o c.args.into.now.items c.loop-part.into.items (omega arith) (subst (λ (n : ℕ). Added p t o n c.args.into.now.items c.loop-part.into.items) all c.loop-part.invariant)
+    added_all p t o c.args.into.now.items c.loop-part.into.items (subst (λ (n : ℕ). Added p t o n c.args.into.now.items c.loop-part.into.items) all c.loop-part.invariant)

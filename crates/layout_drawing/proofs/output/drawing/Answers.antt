@@ -1,19 +1,29 @@
-use Rattle.std.proofs.Common.{◌≡◌, ◌<◌, ◌≤◌, ◌++◌, ℕ, ℤ, List, length, sym, ap, ◌∙◌, subst, inl, inr}
+use Rattle.std.proofs.Common.{◌≡◌, ◌<◌, ◌≤◌, ◌==◌, ◌++◌, ℕ, ℤ, true, List, length, sym, ap, ◌∙◌, subst, inl, inr, arith}
 use Rattle.std.proofs.lemmas.Bool.{cases_lt, false≢true}
+use Rattle.std.proofs.lemmas.Bool.Decides.{nat_tests}
 use Rattle.problem_data.specs.Problem.{ProblemData}
 use Rattle.problem_data.specs.Tuple.{Tuple}
 use Rattle.layout_drawing.specs.declared.blocks.Block.{Block}
 use Rattle.layout_drawing.specs.declared.span.Span.{Span}
 use Rattle.layout_drawing.specs.Blocks.{highs, lows, IsOwned, Owns}
-use Rattle.layout_drawing.specs.Drawing.{AreSigns, IsLeastBox, box_line, cell_count, drawn, most_cells, picture}
+use Rattle.layout_drawing.specs.Drawing.{AreSigns, IsLeastBox, box_line, cell_count, drawn, most_cells, nothing, picture}
 use Rattle.layout_drawing.specs.Painting.{IsFrame}
 use Rattle.layout_drawing.proofs.Found.{signs_found}
-use Rattle.layout_drawing.proofs.Framed.{cell_signs, frame_is, least_cells, tuple_box}
+use Rattle.layout_drawing.proofs.Framed.{cell_signs, frame_is, least_cells, no_cells, tuple_box}
 use Rattle.layout_drawing.proofs.output.drawing.Goals as goal
 
 -- how many cells there are, of spans by another name
 counted : (slice ss : List Span) → slice ≡ ss → cell_count (lows slice) (highs slice) ≡ cell_count (lows ss) (highs ss)
 counted slice ss e = ap (λ (xs : List Span). cell_count (lows xs) (highs xs)) e
+
+no_blocks : (n m : ℕ) → n ≡ m → (n == 0) ≡ true → m ≡ 0
+no_blocks n m e h = grind (arith, nat_tests)
+
+pub returns-then-is_empty : goal.returns-then-is_empty
+returns-then-is_empty c =
+    let bs : List Block = c.in_ok-blocks.blocks.items in
+    nothing (no_cells c.args.problem.now c.args.layout.now bs c.in_ok-blocks.ensures (no_blocks c.in_ok-blocks.blocks.len (length bs) c.in_ok-blocks.blocks.ok.0 (sym c.is_empty.ensures ∙ c.if-is_empty.true)))
+    c.in_ok-from_slice.ensures.items
 
 pub returns-then-not-is_small : goal.returns-then-not-is_small
 returns-then-not-is_small c =

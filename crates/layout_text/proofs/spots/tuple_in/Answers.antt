@@ -1,7 +1,8 @@
-use Rattle.std.proofs.Common.{◌≡◌, ◌<◌, ◌≤◌, ℕ, List, length, map, get_or, ap, subst, arith}
+use Rattle.std.proofs.Common.{◌<◌, ◌≤◌, ℕ, List, length, map, subst, arith}
 use Rattle.std.proofs.lemmas.List.{length-map}
 use Rattle.problem_data.specs.Cells.{IsSpotOf}
 use Rattle.problem_data.specs.Problem.{ProblemData}
+use Rattle.problem_data.specs.Places.{place_count}
 use Rattle.problem_data.specs.Tuple.{Spot, object_of}
 use Rattle.layout_text.specs.declared.tree.GroupText.{GroupText}
 use Rattle.layout_text.specs.Faults.{spot_in}
@@ -21,6 +22,6 @@ overflow_cast-group c =
     let there : i < length gs = c.loop-group-test.true in
     let few : i < length p.objects = omega (arith, n, m, c.requires.objects) in
     let fits : IsSpotOf p (object_of p i) (spot_in (group_view g)) = subst (λ (s : Spot). IsSpotOf p (object_of p i) s) (group_spot gs i g there c.group-item.is) (c.requires.each i few) in
-    let last : g.shape ≤ length (object_of p i).shapes = fits.form.last in
-    let sixteen : length (object_of p i).shapes ≤ 16 = (c.is_said.ensures.formed.objects i no_object few).few in
+    let last : g.shape ≤ place_count (object_of p i) = fits.form.last in
+    let sixteen : place_count (object_of p i) ≤ 16 = (c.is_said.ensures.formed.objects i no_object few).few in
     omega (arith, last, sixteen)

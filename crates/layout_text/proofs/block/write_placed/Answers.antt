@@ -4,7 +4,7 @@ use Rattle.std.proofs.lemmas.Result.{err_from_is_err_and}
 use Rattle.geo_base.specs.Tuple.{spot}
 use Rattle.geo_chan.proofs.Appending.{wrote_none, wrote_first, wrote_ok, wrote_err, wrote_then}
 use Rattle.layout_text.specs.Block.{coordinates, head_of}
-use Rattle.layout_text.proofs.block.write_line.Goals as goal
+use Rattle.layout_text.proofs.block.write_placed.Goals as goal
 
 pub returns-in_err-write_head : goal.returns-in_err-write_head
 returns-in_err-write_head g c = let p = err_from_is_err_and c.from_residual.result c.from_residual.ensures.1 in
