@@ -13,6 +13,7 @@ use Rattle.geo_base.specs.Tuple.{Tuple, spot}
 use Rattle.problem_data.specs.Problem.{BoxData, ProblemData}
 use Rattle.problem_data.specs.Tuple.{object_of}
 use Rattle.problem_data.specs.Cells.{BoxHas, box_at, IsCellOf, NoCommonCell, IsApart, IsShaped}
+use Rattle.problem_data.specs.Places.{place_count}
 use Rattle.problem_data.specs.WellFormed.{IsBox, IsWellFormed}
 use Rattle.linear_conditions.specs.CondTree.{CondTree, true_on}
 use Rattle.rule_ground.specs.Shapes.{places, IsPlace, other_shape}
@@ -122,8 +123,8 @@ AllOf p t i j = All (IsTrueOn t) (apart_of p i j)
 pub of-out : (p : ProblemData) (t : Tuple) (i s j u : ℕ) → IsPlace p i s → IsPlace p j u → All (IsTrueOn t) (apart_of p i j)
     → (m n : ℕ) → m < length (boxes_at p i s) → n < length (boxes_at p j u) → IsTrueOn t (apart_condition p i s j u (box_at (boxes_at p i s) m) (box_at (boxes_at p j u) n))
 of-out p t i s j u x y h m n l k =
-    let first = all-range-out (λ s. All (IsTrueOn t) (apart_at_place p i j s)) 1 (length (object_of p i).shapes) (all-flat-out (IsTrueOn t) (apart_at_place p i j) (places p i) h) s x.first (let e = x.last in omega arith) in
-    let second = all-range-out (λ u. All (IsTrueOn t) (apart_at_places p i s j u)) 1 (length (object_of p j).shapes) (all-flat-out (IsTrueOn t) (apart_at_places p i s j) (places p j) first) u y.first (let e = y.last in omega arith) in
+    let first = all-range-out (λ s. All (IsTrueOn t) (apart_at_place p i j s)) 1 (place_count (object_of p i)) (all-flat-out (IsTrueOn t) (apart_at_place p i j) (places p i) h) s x.first (let e = x.last in omega arith) in
+    let second = all-range-out (λ u. All (IsTrueOn t) (apart_at_places p i s j u)) 1 (place_count (object_of p j)) (all-flat-out (IsTrueOn t) (apart_at_places p i s j) (places p j) first) u y.first (let e = y.last in omega arith) in
     let boxes = all-flat-out (IsTrueOn t) (apart_from_box p i s j u) (boxes_at p i s) second m (record { offsets = []; sizes = [] }) l in
     mapped (apart_condition p i s j u (box_at (boxes_at p i s) m)) (boxes_at p j u) n k boxes
   where
@@ -134,8 +135,8 @@ of-out p t i s j u x y h m n l k =
 pub of-in : (p : ProblemData) (t : Tuple) (i j : ℕ) → i < length p.objects → j < length p.objects
     → ((s u : ℕ) → IsPlace p i s → IsPlace p j u → All (λ a. All (λ b. IsTrueOn t (apart_condition p i s j u a b)) (boxes_at p j u)) (boxes_at p i s)) → All (IsTrueOn t) (apart_of p i j)
 of-in p t i j x y f =
-    all-flat-in (IsTrueOn t) (apart_at_place p i j) (places p i) (all-range-in (λ s. All (IsTrueOn t) (apart_at_place p i j s)) 1 (length (object_of p i).shapes) (λ s l m.
-    all-flat-in (IsTrueOn t) (apart_at_places p i s j) (places p j) (all-range-in (λ u. All (IsTrueOn t) (apart_at_places p i s j u)) 1 (length (object_of p j).shapes) (λ u k n.
+    all-flat-in (IsTrueOn t) (apart_at_place p i j) (places p i) (all-range-in (λ s. All (IsTrueOn t) (apart_at_place p i j s)) 1 (place_count (object_of p i)) (λ s l m.
+    all-flat-in (IsTrueOn t) (apart_at_places p i s j) (places p j) (all-range-in (λ u. All (IsTrueOn t) (apart_at_places p i s j u)) 1 (place_count (object_of p j)) (λ u k n.
     all-flat-in (IsTrueOn t) (apart_from_box p i s j u) (boxes_at p i s) (λ q d r.
     All-map (IsTrueOn t) (apart_condition p i s j u (get_or (boxes_at p i s) q d)) (boxes_at p j u)
     (f s u (record { object = x; first = l; last = omega arith }) (record { object = y; first = k; last = omega arith }) q d r))))))

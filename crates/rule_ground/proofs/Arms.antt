@@ -1,12 +1,15 @@
 -- What the arms of grounding give.
-use Rattle.std.proofs.Common.{◌≡◌, ℕ, zero, suc, ◌+◌, ◌<◌, ◌≤◌, get_or, drop, Bool, List, [], ◌∷◌, ◌++◌, length, map, pos, sym, ap, ◌∙◌, refl, arith, subst}
-use Rattle.std.specs.Prelude.{Result, MatchResult, slice_index_or, ⊤}
+use Rattle.std.proofs.Common.{◌≡◌, ℕ, zero, suc, ◌+◌, ◌<◌, ◌≤◌, get_or, drop, Bool, true, false, ◌&&◌, cond, List, [], ◌∷◌, ◌++◌, length, map, pos, sym, ap, ◌∙◌, refl, arith, subst}
+use Rattle.std.specs.Prelude.{None, Some, Result, Ok, Err, MatchResult, slice_index_or, ⊤}
+use Rattle.std.specs.List.{range_with_len}
 use Rattle.std.proofs.lemmas.List.{drop_more, length-map}
 use Rattle.std.proofs.lemmas.List.FromFn.{length-range_with_len, get_or-range_with_len}
 use Rattle.std.proofs.Math.ListN.{drop_of_length-le}
 use Rattle.geo_conditions.specs.declared.cond.Cond.{Cond}
+use Rattle.geo_conditions.specs.declared.object.ObjId.{ObjId}
 use Rattle.rule_syntax.specs.declared.tree.QuantKind.{QuantKind}
 use Rattle.problem_data.specs.Problem.{BoxData, ProblemData}
+use Rattle.problem_data.specs.Places.{absent_place}
 use Rattle.problem_data.specs.Tuple.{object_of}
 use Rattle.problem_data.specs.Value.{Thing, Number, Part}
 use Rattle.rule_expand.specs.declared.plain.Subject.TheVariants as subjects
@@ -15,18 +18,16 @@ use Rattle.rule_expand.specs.PlainTruth.{PlainEnv, set_variable}
 use Rattle.rule_expand.specs.PlainView.{plain_formula_view, plain_formulas_view}
 use Rattle.rule_expand.specs.Counts.{nodes, nodes_in}
 use Rattle.rule_expand.specs.declared.plain.PlainFormula.{PlainFormula}
-use Rattle.linear_conditions.specs.CondTree.{CondTree, cond_view}
+use Rattle.linear_conditions.specs.CondTree.{CondTree, shape_is, cond_view}
 use Rattle.linear_conditions.specs.Fixings.{Fixing}
-use Rattle.linear_conditions.specs.Counts.{Counts, Outcome, Fault, Done, and_then, visit}
+use Rattle.linear_conditions.specs.Counts.{Counts, Outcome, Done, and_then, within_limits, one_leaf, visit}
 use Rattle.linear_conditions.specs.Faults.{IsFault}
 use Rattle.linear_conditions.specs.declared.fault.GroundFault.{GroundFault}
 use Rattle.linear_conditions.specs.declared.fault.GroundFault.TheVariants.{Memory}
 use Rattle.rule_ground.specs.declared.quantifiers.Manner.{Manner}
-use Rattle.rule_ground.specs.declared.quantifiers.Manner.TheVariants as ways
-use Rattle.rule_ground.specs.Shapes.{places}
 use Rattle.rule_ground.specs.Answers.{Gives, Appends}
-use Rattle.rule_ground.specs.Grounding.{Element, whole, alone, ground, needs, manner, body_sign, quantifier_node, grouped, things_of, element_of, elements_of, ground_elements}
-use Rattle.rule_ground.proofs.Behind.{then-done, then-made, then-fault, free, both_ways, appended}
+use Rattle.rule_ground.specs.Grounding.{absent_truth, add_absence, Element, whole, alone, ground, needs, manner, body_sign, quantifier_node, things_of, element_of, elements_of, ground_elements}
+use Rattle.rule_ground.proofs.Behind.{then-done, then-made, then-fault, alone-fault, free, both_ways, appended}
 
 -- a result that is made of another one
 pub gives-made : (A : Type 0) (o : Outcome A) (f : A → CondTree) (a : A) (j : Counts) (r : Result Cond GroundFault) → o ≡ Done a j → MatchResult r (λ c. cond_view c ≡ f a) (λ e. e ≡ Memory) →
@@ -89,51 +90,53 @@ pub elements-over : (f : Thing → Element) (ts : List Thing) (i : ℕ) → leng
 elements-over f ts i h = ap (map f) (drop_of_length-le ts h)
 
 -- the place behind the first i
-pub place-at : (p : ProblemData) (o i n : ℕ) → n ≡ length (object_of p o).shapes → i < n → drop i (places p o) ≡ (i + 1) ∷ drop (i + 1) (places p o)
-place-at p o i n e h =
-    let m = length (object_of p o).shapes in
+pub place-at : (i n m : ℕ) → n ≡ m → i < n → drop i (range_with_len 1 m) ≡ (i + 1) ∷ drop (i + 1) (range_with_len 1 m)
+place-at i n m e h =
     let l : i < m = omega arith in
-    drop_more (places p o) i 0 (let s = length-range_with_len 1 m in omega (arith, s, l))
-    ∙ (λ j. (get_or-range_with_len 1 m i 0 l ∙ (let q : 1 + i ≡ i + 1 = omega arith in q)) j ∷ drop (i + 1) (places p o))
+    drop_more (range_with_len 1 m) i 0 (let s = length-range_with_len 1 m in omega (arith, s, l))
+    ∙ (λ j. (get_or-range_with_len 1 m i 0 l ∙ (let q : 1 + i ≡ i + 1 = omega arith in q)) j ∷ drop (i + 1) (range_with_len 1 m))
 
-pub places-over : (p : ProblemData) (o i n : ℕ) → n ≡ length (object_of p o).shapes → n ≤ i → drop i (places p o) ≡ []
-places-over p o i n e h = drop_of_length-le (places p o) (let s = length-range_with_len 1 (length (object_of p o).shapes) in omega (arith, s, e, h))
+pub places-over : (i n m : ℕ) → n ≡ m → n ≤ i → drop i (range_with_len 1 m) ≡ []
+places-over i n m e h = drop_of_length-le (range_with_len 1 m) (let s = length-range_with_len 1 m in omega (arith, s, e, h))
 
--- a single child behind a step that was counted
-pub alone-then : (o : Outcome Counts) (go : Counts → Counts → Outcome CondTree) → alone (and_then Counts CondTree o go) ≡ and_then Counts (List CondTree) o (λ k same. alone (go k same))
-unfolding and_then
-alone-then (Fault w) go = refl
-alone-then (Done k j) go = refl
+-- one child more, where there is one
+pub appends-child : (old new : List Cond) (o : Outcome CondTree) (j : Counts) (a : Result Cond GroundFault) (r : Result ⊤ GroundFault) → Gives o j a →
+    MatchResult a (λ c. MatchResult r (λ u. new ≡ old ++ c ∷ []) (λ e. e ≡ Memory)) (λ e. r ≡ Err e) → Appends (alone o) old new j r
+appends-child old new o j (Ok c) r h m = appends-one old new o c j r h m
+appends-child old new o j (Err e) r h m = subst (Appends (alone o) old new j) (sym m) (alone-fault o e h)
 
--- the group of a split as the child of a count
-pub alone-grouped : (o : Outcome (List CondTree)) (f : List CondTree → CondTree) → alone (and_then (List CondTree) CondTree o (λ cs k. Done (f cs) k)) ≡ and_then (List CondTree) (List CondTree) o (λ cs k. Done (f cs ∷ []) k)
-unfolding and_then
-alone-grouped (Fault w) f = refl
-alone-grouped (Done cs k) f = refl
+-- a part more before the conditions come together
+pub gathered : (o : Outcome (List CondTree)) (more : List CondTree → Counts → Outcome (List CondTree)) (f : List CondTree → CondTree) (cs ds : List CondTree) (i j : Counts) (r : Result Cond GroundFault) →
+    o ≡ Done cs i → more cs i ≡ Done ds j → MatchResult r (λ c. cond_view c ≡ f ds) (λ e. e ≡ Memory) →
+    Gives (and_then (List CondTree) CondTree o (λ x k. and_then (List CondTree) CondTree (more x k) (λ y l. Done (f y) l))) j r
+gathered o more f cs ds i j r e g h =
+    subst (λ u. Gives u j r) (sym (then-done (List CondTree) CondTree o (λ x k. and_then (List CondTree) CondTree (more x k) (λ y l. Done (f y) l)) cs i e)) (gives-made (List CondTree) (more cs i) f ds j r g h)
 
-same-children : (o : Outcome (List CondTree)) → o ≡ and_then (List CondTree) (List CondTree) o (λ cs k. Done cs k)
-unfolding and_then
-same-children (Fault w) = refl
-same-children (Done cs k) = refl
+pub gathered-fault : (o : Outcome (List CondTree)) (more : List CondTree → Counts → Outcome (List CondTree)) (f : List CondTree → CondTree) (cs : List CondTree) (i : Counts) (e : GroundFault) →
+    o ≡ Done cs i → IsFault (List CondTree) (more cs i) e →
+    IsFault CondTree (and_then (List CondTree) CondTree o (λ x k. and_then (List CondTree) CondTree (more x k) (λ y l. Done (f y) l))) e
+gathered-fault o more f cs i e h g =
+    subst (λ u. IsFault CondTree u e) (sym (then-done (List CondTree) CondTree o (λ x k. and_then (List CondTree) CondTree (more x k) (λ y l. Done (f y) l)) cs i h)) (then-fault (List CondTree) CondTree (more cs i) _ e g)
 
--- the children of a split that is not counted
-pub ungrouped : (m : Manner) (o : Outcome (List CondTree)) → (m ≡ ways.Counted → ⊥) → o ≡ and_then (List CondTree) (List CondTree) o (λ cs k. Done (grouped m cs) k)
-ungrouped ways.All o h = same-children o
-ungrouped ways.One o h = same-children o
-ungrouped ways.Counted o h = absurd (h refl)
+-- an object that is given exactly where it is open
+pub open-none : (b : Bool) (o : ℕ) → (let x : ObjId = record { 0 = o } in None ≡ cond b (Some x) None) → b ≡ false
+open-none true o e = cc
+open-none false o e = refl
 
-joined-one : (o : Outcome CondTree) (f : List CondTree → CondTree) → and_then (List CondTree) CondTree (alone o) (λ cs j. Done (f cs) j) ≡ and_then CondTree CondTree o (λ c j. Done (f (c ∷ [])) j)
-unfolding and_then
-joined-one (Fault w) f = refl
-joined-one (Done c j) f = refl
+pub open-some : (b : Bool) (o : ℕ) (y : ObjId) → (let x : ObjId = record { 0 = o } in Some y ≡ cond b (Some x) None) → (b ≡ true) × (y.0 ≡ o)
+open-some true o y e = (refl, let f : y ≡ record { 0 = o } = cc in ap (λ (z : ObjId). z.0) f)
+open-some false o y e = cc
 
--- the only child of a node
-pub joined-alone : (o : Outcome Counts) (go : Counts → Outcome CondTree) (f : List CondTree → CondTree) →
-    and_then (List CondTree) CondTree (and_then Counts (List CondTree) o (λ k same. alone (go k))) (λ cs j. Done (f cs) j) ≡ and_then Counts CondTree o (λ k same. and_then CondTree CondTree (go k) (λ c j. Done (f (c ∷ [])) j))
-unfolding and_then
-joined-alone (Fault w) go f = refl
-joined-alone (Done k j) go f = joined-one (go k) f
+-- the absence of an object as one part more
+module _ (p : ProblemData) (m : Manner) (o : ℕ) (cs : List CondTree) (k : Counts) (a : absent_truth m ≡ true) (b : (object_of p o).may_be_absent ≡ true) where
+  abbrev one-more : Counts → Counts → Outcome (List CondTree)
+  one-more j same = Done (cs ++ (shape_is o (absent_place (object_of p o)) ∷ [])) j
 
-pub joined-same : (o : Outcome (List CondTree)) (f : List CondTree → CondTree) →
-    and_then (List CondTree) CondTree (and_then (List CondTree) (List CondTree) o (λ cs j. Done cs j)) (λ cs j. Done (f cs) j) ≡ and_then (List CondTree) CondTree o (λ cs j. Done (f cs) j)
-joined-same o f = ap (λ u. and_then (List CondTree) CondTree u (λ cs j. Done (f cs) j)) (sym (same-children o))
+  absence-is : add_absence p m o cs k ≡ and_then Counts (List CondTree) (within_limits (one_leaf k)) one-more
+  absence-is = (λ i. cond (a i && b i) (and_then Counts (List CondTree) (within_limits (one_leaf k)) one-more) (Done cs k))
+
+  pub absence-made : (ds : List CondTree) (j : Counts) → within_limits (one_leaf k) ≡ Done j j → ds ≡ cs ++ (shape_is o (absent_place (object_of p o)) ∷ []) → add_absence p m o cs k ≡ Done ds j
+  absence-made ds j w e = absence-is ∙ then-done Counts (List CondTree) (within_limits (one_leaf k)) one-more j j w ∙ ap (λ l. Done l j) (sym e)
+
+  pub absence-fault : (e : GroundFault) → IsFault Counts (within_limits (one_leaf k)) e → IsFault (List CondTree) (add_absence p m o cs k) e
+  absence-fault e h = subst (λ u. IsFault (List CondTree) u e) (sym absence-is) (then-fault Counts (List CondTree) (within_limits (one_leaf k)) one-more e h)

@@ -1,8 +1,9 @@
 -- Where a formula has a condition, its evaluation is calm on each tuple.
-use Rattle.std.proofs.Common.{◌≡◌, ◌⊎◌, inl, inr, ℕ, zero, suc, ◌+◌, ◌<◌, ◌≤◌, eqb, ◌&&◌, Bool, true, false, cond, not, List, [], ◌∷◌, map, length, sym, ap, ◌∙◌, refl, arith, subst, tests}
+use Rattle.std.proofs.Common.{◌≡◌, ◌⊎◌, inl, inr, ℕ, zero, suc, ◌+◌, ◌<◌, ◌≤◌, eqb, leb, ◌&&◌, Bool, true, false, cond, not, List, [], ◌∷◌, map, length, sym, ap, ◌∙◌, refl, arith, subst, tests}
 use Rattle.std.specs.List.{range_with_len, list_all}
 use Rattle.std.proofs.Math.Logic.{⊎_elim}
 use Rattle.std.proofs.lemmas.Bool.{false≢true}
+use Rattle.std.proofs.lemmas.Bool.Decides.{nat_tests}
 use Rattle.geo_base.specs.Tuple.{Tuple, spot}
 use Rattle.rule_syntax.specs.declared.tree.Rel.{Rel}
 use Rattle.problem_data.specs.Problem.{ProblemData}
@@ -13,7 +14,7 @@ use Rattle.problem_data.specs.WellFormed.{IsWellFormed}
 use Rattle.rule_expand.specs.declared.plain.Subject.{Subject}
 use Rattle.rule_expand.specs.declared.plain.Subject.TheVariants as subjects
 use Rattle.rule_expand.specs.Plain.{PlainExprTree, PlainCollTree, PlainFormulaTree, truth, falsehood, negation, all_of, any_of, implication, equivalence, comparison, quantified, PlainFormulas, no_formulas, a_formula}
-use Rattle.rule_expand.specs.PlainTruth.{PlainEnv, set_variable, plain_holds, plain_elements}
+use Rattle.rule_expand.specs.PlainTruth.{PlainEnv, set_variable, plain_candidates, plain_holds}
 use Rattle.rule_expand.specs.Counts.{expr_nodes, nodes, nodes_in}
 use Rattle.rule_expand.specs.Degree.{expr_breaks, formula_breaks, formulas_break}
 use Rattle.rule_values.specs.Calm.{IsTame, IsCalm, AllCalm, SomeCalm}
@@ -22,19 +23,21 @@ use Rattle.linear_conditions.specs.CondTree.{CondTree, true_on}
 use Rattle.linear_conditions.specs.Fixings.{Fixing}
 use Rattle.linear_conditions.specs.Settled.{Agrees, IsCovered, signed, expr_needs}
 use Rattle.linear_conditions.specs.Leaves.{under, difference, leaves_of, leaf_fits}
-use Rattle.linear_conditions.specs.Folding.{decides}
+use Rattle.linear_conditions.specs.Folding.{joined, decides}
 use Rattle.linear_conditions.specs.Forms.{sum_of_expr, fits_expr, fits_sum}
-use Rattle.linear_conditions.specs.Counts.{Counts, Outcome, OnDone}
+use Rattle.linear_conditions.specs.Counts.{Counts, Outcome, Done, OnDone, and_then, visit}
 use Rattle.linear_conditions.specs.Compare.{ground_compare}
 use Rattle.linear_conditions.proofs.Junctions.{junction, decided}
 use Rattle.linear_conditions.proofs.Outcomes.{on_done, on_then, on_any, on_either, on_allowed}
 use Rattle.linear_conditions.proofs.Tame.{both, expr-tame}
-use Rattle.rule_ground.specs.Shapes.{places}
-use Rattle.rule_ground.specs.Grounding.{coll_needs, needs, some_needs, Element, whole, split, is_open, things_of, element_of, elements_of, alone, in_turn, manner, body_sign, Body, ground_place, ground_places, ground_element, ground_elements, ground, ground_operands, named_objects, ground_named}
+use Rattle.problem_data.specs.Places.{place_count}
+use Rattle.problem_data.specs.Truth.{is_there}
+use Rattle.rule_ground.specs.Shapes.{places, shape_places}
+use Rattle.rule_ground.specs.Grounding.{coll_needs, needs, some_needs, Element, whole, split, optional, gone, is_open, is_gone, may_go, things_of, element_of, elements_of, alone, in_turn, manner, is_counted, body_sign, Body, ground_place, ground_places, ground_group, ground_element, ground_elements, ground, ground_operands, named_objects, ground_named}
 use Rattle.rule_ground.specs.declared.quantifiers.Manner.{Manner}
 use Rattle.rule_ground.specs.declared.quantifiers.Manner.TheVariants.{All}
-use Rattle.rule_ground.proofs.Settled.{narrowed, first-place, last-place, several-there, closed-settled, fixed, here, agrees-more, covered-more, covered-bound}
-use Rattle.rule_ground.proofs.Sound.{Each, each-map, each-of, gather-on, thing_of, elements-same, in_turn-on, ground-sound, neither, left_of, right_of}
+use Rattle.rule_ground.proofs.Settled.{narrowed, closed-settled, gone-absent, fixed, here, agrees-more, covered-more, covered-bound}
+use Rattle.rule_ground.proofs.Sound.{Each, each-map, each-of, gather-on, thing_of, shape-there, both-true-of, open-places, settled-or-unasked, candidates-same, in_turn-on, ground-sound, neither, left_of, right_of}
 use Rattle.rule_ground.proofs.NamedSound.{IsOwed, owed-whole, owed-split, all-settled, there}
 
 -- two facts of one result
@@ -46,12 +49,14 @@ eased A o P Q h f = record { get = λ a k e. h a (f.get a k e) }
 
 -- ---- elements
 
--- what is known of the body at an element: at a split with the tuple's own place
+-- what is known of an element, and of the body at it: at a split with the tuple's own place
 abbrev CalmAt : ProblemData → Tuple → (Thing → Type 0) → List Fixing → Body → Element → Type 0
 CalmAt p t C fix body (whole x) = (k : Counts) → OnDone CondTree (body x fix k) (λ c. C x)
 CalmAt p t C fix body (split o) =
-    (1 ≤ (spot t o).place) × ((spot t o).place ≤ length (object_of p o).shapes)
+    (1 ≤ (spot t o).place) × ((spot t o).place ≤ place_count (object_of p o))
     × ((s : ℕ) → (spot t o).place ≡ s → (k : Counts) → OnDone CondTree (body (Object o) (fixed o s fix) k) (λ c. C (Object o)))
+CalmAt p t C fix body (optional o) = (k : Counts) → OnDone CondTree (body (Object o) fix k) (λ c. C (Object o))
+CalmAt p t C fix body (gone o) = is_there p t (Object o) ≡ false
 
 abbrev Among : ℕ → List ℕ → Type 0
 Among n [] = ⊥
@@ -68,6 +73,14 @@ among-range n a (suc count) h l = ⊎_elim (λ e. inl e) (λ d. inr (among-range
         split_at true e = inl (grind (arith, tests))
         split_at false e = inr (let d : m ≡ b → ⊥ = grind (arith, tests) in omega arith)
 
+-- a place of the object's shapes, where it is there
+shape-place : (p : ProblemData) (t : Tuple) (o : ℕ) → (spot t o).place ≤ place_count (object_of p o) → is_there p t (Object o) ≡ true → (spot t o).place ≤ length (object_of p o).shapes
+shape-place p t o h e =
+    let may = (object_of p o).may_be_absent in
+    let n = length (object_of p o).shapes in
+    let l : leb (spot t o).place n ≡ true = shape-there may (spot t o).place n h ∙ e in
+    grind (arith, nat_tests)
+
 module _ (p : ProblemData) (t : Tuple) (m : Manner) (C : Thing → Type 0) (fix : List Fixing) (body : Body) where
   place-calm : (o s : ℕ) → CalmAt p t C fix body (split o) → (spot t o).place ≡ s → (k : Counts) → OnDone (List CondTree) (alone (ground_place body m fix o s k)) (λ cs. C (Object o))
   place-calm o s g e k =
@@ -75,26 +88,42 @@ module _ (p : ProblemData) (t : Tuple) (m : Manner) (C : Thing → Type 0) (fix 
       (on_any Counts CondTree _ _ _ (λ k' j. on_then CondTree CondTree _ _ (λ c. C (Object o)) _ (g.2 s e k') (λ c i q. on_done CondTree _ i _ q)))
       (λ c i q. on_done (List CondTree) (c ∷ []) i _ q)
 
-  places-calm : (o : ℕ) → CalmAt p t C fix body (split o) → (k : Counts) → OnDone (List CondTree) (ground_places p body m fix o k) (λ cs. C (Object o))
-  places-calm o g k =
+  -- the first n places, of which one is the tuple's
+  places-calm : (o n : ℕ) → CalmAt p t C fix body (split o) → (k : Counts) → OnDone (List CondTree) (ground_places body m fix o (range_with_len 1 n) k) (λ cs. (spot t o).place ≤ n → C (Object o))
+  places-calm o n g k =
       let place = (spot t o).place in
-      let w : OnDone (List CondTree) (ground_places p body m fix o k) (λ cs. Among place (places p o) → C (Object o)) =
+      let w : OnDone (List CondTree) (ground_places body m fix o (range_with_len 1 n) k) (λ cs. Among place (range_with_len 1 n) → C (Object o)) =
       gather-on (λ s j. alone (ground_place body m fix o s j)) (λ ss cs. Among place ss → C (Object o)) (λ s cs. place ≡ s → C (Object o)) (λ n. absurd n)
       (λ s ss bs cs q r a. ⊎_elim q r a)
-      (places p o) (each-of (λ s. (j : Counts) → OnDone (List CondTree) (alone (ground_place body m fix o s j)) (λ cs. place ≡ s → C (Object o))) (places p o)
+      (range_with_len 1 n) (each-of (λ s. (j : Counts) → OnDone (List CondTree) (alone (ground_place body m fix o s j)) (λ cs. place ≡ s → C (Object o))) (range_with_len 1 n)
       (λ s j. record { get = λ cs i h e. (place-calm o s g e j).get cs i h })) k in
-      record { get = λ cs j e. w.get cs j e (among-range place 1 (length (object_of p o).shapes) g.0 (let a = g.1 in omega arith)) }
+      record { get = λ cs j e l. w.get cs j e (among-range place 1 n g.0 (omega (arith, l))) }
 
-  element-calm : (x : Element) → CalmAt p t C fix body x → (k : Counts) → OnDone (List CondTree) (ground_element p body m fix x k) (λ cs. C (thing_of x))
+  group-calm : (o : ℕ) → CalmAt p t C fix body (split o) → (k : Counts) → OnDone CondTree (ground_group p body m fix o k) (λ c. is_there p t (Object o) ≡ true → C (Object o))
+  group-calm o g k =
+      on_then (List CondTree) CondTree _ _ (λ cs. (spot t o).place ≤ length (object_of p o).shapes → C (Object o)) _ (places-calm o (length (object_of p o).shapes) g k) (λ cs j q.
+      on_any (List CondTree) CondTree _ _ _ (λ ds i. on_done CondTree _ i _ (λ e. q (shape-place p t o g.1 e))))
+
+  split-by : (o : ℕ) (b : Bool) → CalmAt p t C fix body (split o) → (k : Counts) →
+      OnDone (List CondTree) (cond b (alone (ground_group p body m fix o k)) (ground_places body m fix o (shape_places p o) k)) (λ cs. is_there p t (Object o) ≡ true → C (Object o))
+  split-by o true g k = on_then CondTree (List CondTree) _ _ (λ c. is_there p t (Object o) ≡ true → C (Object o)) _ (group-calm o g k) (λ c i q. on_done (List CondTree) (c ∷ []) i _ q)
+  split-by o false g k = eased (List CondTree) _ _ _ (λ cs q e. q (shape-place p t o g.1 e)) (places-calm o (length (object_of p o).shapes) g k)
+
+  element-calm : (x : Element) → CalmAt p t C fix body x → (k : Counts) → OnDone (List CondTree) (ground_element p body m fix x k) (λ cs. is_there p t (thing_of x) ≡ true → C (thing_of x))
   element-calm (whole x) g k =
-      on_any Counts (List CondTree) _ _ _ (λ k' j. on_then CondTree (List CondTree) _ _ (λ c. C x) _ (g k') (λ c i q. on_done (List CondTree) (c ∷ []) i _ q))
-  element-calm (split o) g k =
-      on_then (List CondTree) (List CondTree) _ _ (λ cs. C (Object o)) _ (places-calm o g k) (λ cs i q. on_done (List CondTree) _ i _ q)
+      on_then CondTree (List CondTree) _ _ (λ c. C x) _ (on_any Counts CondTree _ _ _ (λ k' j. g k')) (λ c i q. on_done (List CondTree) (c ∷ []) i _ (λ e. q))
+  element-calm (split o) g k = split-by o (is_counted m) g k
+  element-calm (optional o) g k =
+      on_then CondTree (List CondTree) _ _ (λ c. C (Object o)) _
+      (on_any Counts CondTree _ _ _ (λ k' j. on_then CondTree CondTree _ _ (λ c. C (Object o)) _ (g k') (λ c i q. on_done CondTree _ i _ q)))
+      (λ c i q. on_done (List CondTree) (c ∷ []) i _ (λ e. q))
+  element-calm (gone o) g k = record { get = λ cs j h e. absurd (false≢true (sym g ∙ e)) }
 
-  elements-calm : (xs : List Element) → Each (CalmAt p t C fix body) xs → (k : Counts) → OnDone (List CondTree) (ground_elements p body m fix xs k) (λ cs. Each (λ x. C (thing_of x)) xs)
-  elements-calm xs g k = gather-on (ground_element p body m fix) (λ ys cs. Each (λ x. C (thing_of x)) ys) (λ x cs. C (thing_of x)) tt (λ x ys bs cs q r. (q, r)) xs (each-goes xs g) k
+  elements-calm : (xs : List Element) → Each (CalmAt p t C fix body) xs → (k : Counts) → OnDone (List CondTree) (ground_elements p body m fix xs k) (λ cs. Each (λ x. is_there p t (thing_of x) ≡ true → C (thing_of x)) xs)
+  elements-calm xs g k =
+      gather-on (ground_element p body m fix) (λ ys cs. Each (λ x. is_there p t (thing_of x) ≡ true → C (thing_of x)) ys) (λ x cs. is_there p t (thing_of x) ≡ true → C (thing_of x)) tt (λ x ys bs cs q r. (q, r)) xs (each-goes xs g) k
     where
-      each-goes : (ys : List Element) → Each (CalmAt p t C fix body) ys → Each (λ x. (j : Counts) → OnDone (List CondTree) (ground_element p body m fix x j) (λ cs. C (thing_of x))) ys
+      each-goes : (ys : List Element) → Each (CalmAt p t C fix body) ys → Each (λ x. (j : Counts) → OnDone (List CondTree) (ground_element p body m fix x j) (λ cs. is_there p t (thing_of x) ≡ true → C (thing_of x))) ys
       each-goes [] d = tt
       each-goes (y ∷ ys) d = ((λ j. element-calm y d.0 j), each-goes ys d.1)
 
@@ -102,23 +131,23 @@ module _ (p : ProblemData) (t : Tuple) (m : Manner) (C : Thing → Type 0) (fix 
 abbrev IsCalmBody : ProblemData → Tuple → PlainEnv → ℕ → (Subject → Bool) → (Thing → Type 0) → Body → Type 0
 IsCalmBody p t env v asks C body = (x : Thing) (more : List Fixing) (k : Counts) → Agrees t more → IsCovered p t more (set_variable v x env) asks → OnDone CondTree (body x more k) (λ c. C x)
 
-object-calm : (p : ProblemData) (t : Tuple) (fix : List Fixing) (env : PlainEnv) (v : ℕ) (asks : Subject → Bool) (C : Thing → Type 0) (body : Body) (o : ℕ) (asked several : Bool) →
-    asks (subjects.Variable v) ≡ asked → is_open p fix o ≡ several → IsTuple p t → Agrees t fix → IsCovered p t fix env asks → IsCalmBody p t env v asks C body →
-    CalmAt p t C fix body (cond (asked && several) (split o) (whole (Object o)))
-object-calm p t fix env v asks C body o true true a e w g c b =
-    let l = several-there p o (first_of _ _ e) in (
-      first-place p t o w l,
-      last-place p t o w l,
-      (λ s f k. b (Object o) (fixed o s fix) k (agrees-more t fix o s f g)
-          (covered-bound p t (fixed o s fix) env v (Object o) asks (λ q. here p t fix o s f (subst (λ n. 1 ≤ n) f (first-place p t o w l)))
-          (covered-more p t fix env o s asks f (subst (λ n. 1 ≤ n) f (first-place p t o w l)) c))),
+object-calm : (p : ProblemData) (t : Tuple) (fix : List Fixing) (env : PlainEnv) (v : ℕ) (asks : Subject → Bool) (C : Thing → Type 0) (body : Body) (o : ℕ) (left asked split_it may : Bool) →
+    is_gone p fix o ≡ left → asks (subjects.Variable v) ≡ asked → (asked && is_open p fix o) ≡ split_it →
+    IsTuple p t → Agrees t fix → IsCovered p t fix env asks → IsCalmBody p t env v asks C body →
+    CalmAt p t C fix body (cond left (gone o) (cond split_it (split o) (cond may (optional o) (whole (Object o)))))
+object-calm p t fix env v asks C body o true asked split_it may l a s w g c b = gone-absent p t fix o g l
+object-calm p t fix env v asks C body o false asked true may l a s w g c b =
+    let places = open-places p t fix o w (both-true-of asked (is_open p fix o) s).1 in (
+      places.0,
+      places.1,
+      (λ q f k. b (Object o) (fixed o q fix) k (agrees-more t fix o q f g)
+          (covered-bound p t (fixed o q fix) env v (Object o) asks (λ z. here p t fix o q f (subst (λ n. 1 ≤ n) f places.0))
+          (covered-more p t fix env o q asks f (subst (λ n. 1 ≤ n) f places.0) c))),
     )
-  where
-    first_of : (a b : Bool) → (a && b) ≡ true → a ≡ true
-    first_of true b h = refl
-    first_of false b h = h
-object-calm p t fix env v asks C body o true false a e w g c b = λ k. b (Object o) fix k g (covered-bound p t fix env v (Object o) asks (λ q. closed-settled p t fix o w g e) c)
-object-calm p t fix env v asks C body o false several a e w g c b = λ k. b (Object o) fix k g (covered-bound p t fix env v (Object o) asks (λ q. absurd (false≢true (sym a ∙ q))) c)
+object-calm p t fix env v asks C body o false asked false true l a s w g c b =
+    λ k. b (Object o) fix k g (covered-bound p t fix env v (Object o) asks (λ q. settled-or-unasked p t fix o asked (is_open p fix o) s refl w g (sym a ∙ q)) c)
+object-calm p t fix env v asks C body o false asked false false l a s w g c b =
+    λ k. b (Object o) fix k g (covered-bound p t fix env v (Object o) asks (λ q. settled-or-unasked p t fix o asked (is_open p fix o) s refl w g (sym a ∙ q)) c)
 
 each-calm : (p : ProblemData) (t : Tuple) (coll : PlainCollTree) (fix : List Fixing) (env : PlainEnv) (v : ℕ) (asks : Subject → Bool) (C : Thing → Type 0) (body : Body) →
     IsTuple p t → Agrees t fix → IsCovered p t fix env asks → IsCalmBody p t env v asks C body → Each (CalmAt p t C fix body) (elements_of p (asks (subjects.Variable v)) coll env fix)
@@ -126,7 +155,7 @@ each-calm p t coll fix env v asks C body w g c b = each (things_of p coll env fi
   where
     one : (x : Thing) → CalmAt p t C fix body (element_of p (asks (subjects.Variable v)) fix x)
     one (Number z) = λ k. b (Number z) fix k g (covered-bound p t fix env v (Number z) asks (λ q. tt) c)
-    one (Object o) = object-calm p t fix env v asks C body o (asks (subjects.Variable v)) (is_open p fix o) refl refl w g c b
+    one (Object o) = object-calm p t fix env v asks C body o (is_gone p fix o) (asks (subjects.Variable v)) (asks (subjects.Variable v) && is_open p fix o) (may_go p fix o) refl refl refl w g c b
     one (Part x) = λ k. b (Part x) fix k g (covered-bound p t fix env v (Part x) asks (λ q. tt) c)
 
     each : (xs : List Thing) → Each (CalmAt p t C fix body) (map (element_of p (asks (subjects.Variable v)) fix) xs)
@@ -231,15 +260,16 @@ module _ (p : ProblemData) (t : Tuple) (well : IsWellFormed p) (w : IsTuple p t)
         let xs = elements_of p (needs (subjects.Variable v) f) coll env fix in
         let body : Body = λ x more j. ground p f (body_sign kind sign) (set_variable v x env) more j in
         on_any Counts CondTree _ _ _ (λ k' j.
-        on_then (List CondTree) CondTree _ _ (λ cs. Each (λ x. C (thing_of x)) xs) _
+        on_then (List CondTree) CondTree _ _ (λ cs. Each (λ x. is_there p t (thing_of x) ≡ true → C (thing_of x)) xs) _
         (elements-calm p t (manner kind sign) C fix body xs
         (each-calm p t coll fix env v (λ s. needs s f) C body w a
         (narrowed p t fix env _ _ (λ s e. right_of (coll_needs s coll) (needs s f) e) c)
         (λ x more i g d. ground-calm f (body_sign kind sign) (set_variable v x env) more i b g d (omega arith)))
         k')
         (λ cs k'' q. on_done CondTree _ k'' _
-        (each-at C (plain_elements p t coll env)
-        (subst (Each C) (elements-same p t (needs (subjects.Variable v) f) coll env fix (narrowed p t fix env _ _ (λ s i. left_of (coll_needs s coll) (needs s f) i) c)) (each-map thing_of C xs q)))))
+        (each-at (λ x. is_there p t x ≡ true → C x) (plain_candidates p t coll env)
+        (subst (Each (λ x. is_there p t x ≡ true → C x)) (candidates-same p t (needs (subjects.Variable v) f) coll env fix (narrowed p t fix env _ _ (λ s i. left_of (coll_needs s coll) (needs s f) i) c))
+        (each-map thing_of (λ x. is_there p t x ≡ true → C x) xs q)))))
 
     all-calm : (fs : PlainFormulas) (sign : Bool) (env : PlainEnv) (fix : List Fixing) (k : Counts) → formulas_break fs ≡ false → Agrees t fix → IsCovered p t fix env (λ s. some_needs s fs) → nodes_in fs ≤ 20000 →
         OnDone (List CondTree) (ground_operands p fs sign sign env fix k) (λ cs. AllCalm p t fs env)
@@ -274,24 +304,28 @@ module _ (p : ProblemData) (t : Tuple) (well : IsWellFormed p) (w : IsTuple p t)
   abbrev Rest : List ℕ → PlainFormulaTree → Type 0
   Rest rest f = (fix : List Fixing) (k : Counts) → Agrees t fix → IsOwed p t fix rest f → OnDone CondTree (ground_named p rest f fix k) (λ c. IsCalm p t f [])
 
-  named-at : (o : ℕ) (rest : List ℕ) (f : PlainFormulaTree) (fix : List Fixing) (several : Bool) → is_open p fix o ≡ several → Agrees t fix → IsOwed p t fix (o ∷ rest) f → Rest rest f →
-      CalmAt p t (λ x. IsCalm p t f []) fix (λ x more j. ground_named p rest f more j) (cond several (split o) (whole (Object o)))
-  named-at o rest f fix true e a i r =
-      let l = several-there p o (both _ _ e).0 in (
-        first-place p t o w l,
-        last-place p t o w l,
-        (λ s g k. r (fixed o s fix) k (agrees-more t fix o s g a) (owed-split p t fix o s rest f g (subst (λ n. 1 ≤ n) g (first-place p t o w l)) i)),
-      )
-  named-at o rest f fix false e a i r = λ k. r fix k a (owed-whole p t fix o rest f (closed-settled p t fix o w a e) i)
+  object-named : (o : ℕ) (rest : List ℕ) (f : PlainFormulaTree) (fix : List Fixing) (k : Counts) (several : Bool) → is_open p fix o ≡ several → Agrees t fix → IsOwed p t fix (o ∷ rest) f → Rest rest f →
+      let body : Body = λ x more j. ground_named p rest f more j in
+      OnDone CondTree
+      (cond several
+      (and_then (List CondTree) CondTree (ground_places body All fix o (places p o) k) (λ cs k'. Done (joined true cs) k'))
+      (and_then Counts CondTree (visit k) (λ k' same. and_then CondTree CondTree (body (Object o) fix k') (λ c j. Done (joined true (c ∷ [])) j))))
+      (λ c. IsCalm p t f [])
+  object-named o rest f fix k true e a i r =
+      let body : Body = λ x more j. ground_named p rest f more j in
+      let own = open-places p t fix o w e in
+      on_then (List CondTree) CondTree _ _ (λ cs. (spot t o).place ≤ place_count (object_of p o) → IsCalm p t f []) _
+      (places-calm p t All (λ x. IsCalm p t f []) fix body o (place_count (object_of p o))
+      (own.0, own.1, (λ s g j. r (fixed o s fix) j (agrees-more t fix o s g a) (owed-split p t fix o s rest f g (subst (λ n. 1 ≤ n) g own.0) i))) k)
+      (λ cs j q. on_done CondTree _ j _ (q own.1))
+  object-named o rest f fix k false e a i r =
+      on_any Counts CondTree _ _ _ (λ k' j.
+      on_then CondTree CondTree _ _ (λ c. IsCalm p t f []) _ (r fix k' a (owed-whole p t fix o rest f (closed-settled p t fix o w a e) i)) (λ c i' q. on_done CondTree _ i' _ q))
 
   named-calm : (names : List ℕ) (f : PlainFormulaTree) → formula_breaks f ≡ false → nodes f ≤ 20000 → Rest names f
   named-calm [] f b l fix k a i = ground-calm f true [] fix k b a (record { at = λ s e. all-settled p t fix s (i.at s e) }) l
   named-calm (o ∷ rest) f b l fix k a i =
-      on_any Counts CondTree _ _ _ (λ k' j.
-      on_then (List CondTree) CondTree _ _ (λ cs. IsCalm p t f []) _
-      (eased (List CondTree) _ _ _ (λ cs q. q) (element-calm p t All (λ x. IsCalm p t f []) fix (λ x more j. ground_named p rest f more j) (element_of p true fix (Object o))
-      (named-at o rest f fix (is_open p fix o) refl a i (named-calm rest f b l)) k'))
-      (λ cs k'' q. on_done CondTree _ k'' _ q))
+      on_any Counts CondTree _ _ _ (λ k' j. object-named o rest f fix k' (is_open p fix o) refl a i (named-calm rest f b l))
 
   -- on every tuple the evaluation of a formula that has a condition is calm
   pub formula-calm : (f : PlainFormulaTree) (k : Counts) → formula_breaks f ≡ false → nodes f ≤ 20000 → OnDone CondTree (ground_named p (named_objects p f) f [] k) (λ c. IsCalm p t f [])

@@ -1,7 +1,7 @@
 -- How many conditions the rules of a problem give: none without a leaf that was counted, but for one a rule.
-use Rattle.std.proofs.Common.{◌≡◌, ℕ, ◌+◌, ◌-◌, ◌≤◌, ◌<◌, Bool, true, false, not, cond, List, [], ◌∷◌, ◌++◌, map, length, ℤ, pos, ◌-ℤ◌, ◌+ℤ◌, sym, ap, ◌∙◌, refl, arith, subst, length-append}
+use Rattle.std.proofs.Common.{◌≡◌, ℕ, ◌+◌, ◌-◌, ◌≤◌, ◌<◌, ◌&&◌, Bool, true, false, not, cond, List, [], ◌∷◌, ◌++◌, map, length, ℤ, pos, ◌-ℤ◌, ◌+ℤ◌, sym, ap, ◌∙◌, refl, arith, subst, length-append}
 use Rattle.std.specs.Prelude.{Result, Ok, Err, int_lt}
-use Rattle.std.specs.List.{range_with_len}
+use Rattle.std.specs.List.{flat_map, range_with_len}
 use Rattle.std.proofs.lemmas.List.{length-map}
 use Rattle.std.proofs.lemmas.List.FromFn.{length-range_with_len}
 use Rattle.std.proofs.lemmas.Bool.Decides.{nat_tests}
@@ -32,12 +32,13 @@ use Rattle.linear_conditions.specs.Leaves.{Leaves, under, difference, leaves_of}
 use Rattle.linear_conditions.specs.Folding.{always, never, certain, verdict, fold_linear, count_holding, still_open, one_or_node, fold_count, joined, decides}
 use Rattle.linear_conditions.specs.Counts.{Counts, Outcome, Fault, Done, and_then, allowed, either_way, are_within, within_limits, one_visit, one_leaf, visit, count_sum, count_sums}
 use Rattle.linear_conditions.specs.Compare.{ground_leaves}
-use Rattle.rule_ground.specs.Shapes.{places}
+use Rattle.problem_data.specs.Places.{absent_place}
+use Rattle.rule_ground.specs.Shapes.{places, shape_places}
 use Rattle.rule_ground.specs.Ground.{most_conditions}
-use Rattle.rule_ground.specs.Own.{hole_behind, holes_at, own_of, own_conditions}
+use Rattle.rule_ground.specs.Own.{hole_behind, holes_at, origin_condition, origins_of, own_of, own_conditions}
 use Rattle.rule_ground.specs.Apart.{apart_conditions}
 use Rattle.rule_ground.specs.Within.{within_conditions}
-use Rattle.rule_ground.specs.Grounding.{needs, Element, whole, split, element_of, elements_of, gather, alone, in_turn, manner, body_sign, quantifier_node, Body, shape_child, ground_place, grouped, ground_element, ground, ground_operands, named_objects, ground_named}
+use Rattle.rule_ground.specs.Grounding.{needs, Element, whole, split, optional, gone, is_open, elements_of, gather, alone, in_turn, manner, is_counted, body_sign, quantifier_node, Body, absent_truth, shape_child, optional_child, ground_place, ground_places, ground_group, ground_whole, ground_optional, ground_gone, ground_element, ground, ground_operands, named_objects, ground_named}
 use Rattle.rule_ground.specs.declared.quantifiers.Manner.{Manner}
 use Rattle.rule_ground.specs.declared.quantifiers.Manner.TheVariants as ways
 use Rattle.rule_ground.specs.Rules.{tree_length, is_count, conds_of, conds_of_each, as_leaves, ground_demand, ground_rules, grounded, no_counts, before, before_rest}
@@ -286,33 +287,77 @@ module _ (p : ProblemData) where
   child-light : (m : Manner) (o s : ℕ) (c : CondTree) → IsFolded c → IsLight (1 + load c) (shape_child m o s c)
   child-light ways.All o s c h = let i = count-light (pos 1) (shape_is_not o s ∷ (c ∷ [])) (tt, (h, tt)) in (i.0, let l = i.1 in omega (arith, l))
   child-light ways.One o s c h = let i = count-light (pos 2) (shape_is o s ∷ (c ∷ [])) (tt, (h, tt)) in (i.0, let l = i.1 in omega (arith, l))
-  child-light ways.Counted o s c h = let i = count-light (pos 2) (shape_is o s ∷ (c ∷ [])) (tt, (h, tt)) in (i.0, let l = i.1 in omega (arith, l))
+  child-light ways.Holding o s c h = let i = count-light (pos 2) (shape_is o s ∷ (c ∷ [])) (tt, (h, tt)) in (i.0, let l = i.1 in omega (arith, l))
+  child-light ways.Failing o s c h = let i = count-light (pos 2) (shape_is o s ∷ (c ∷ [])) (tt, (h, tt)) in (i.0, let l = i.1 in omega (arith, l))
 
-  place-pays : (body : Body) (m : Manner) (fix : List Fixing) (o s : ℕ) (k : Counts) → IsPaying body → PaysOne k.leaves (ground_place body m fix o s k)
-  place-pays body m fix o s k g =
+  optional-by : (a : Bool) (o s : ℕ) (c : CondTree) → IsFolded c → IsLight (1 + load c) (cond a (fold_count (pos 1) (shape_is o s ∷ (c ∷ []))) (fold_count (pos 2) (shape_is_not o s ∷ (c ∷ []))))
+  optional-by true o s c h = let i = count-light (pos 1) (shape_is o s ∷ (c ∷ [])) (tt, (h, tt)) in (i.0, let l = i.1 in omega (arith, l))
+  optional-by false o s c h = let i = count-light (pos 2) (shape_is_not o s ∷ (c ∷ [])) (tt, (h, tt)) in (i.0, let l = i.1 in omega (arith, l))
+
+  -- a leaf, a visit, and then a body whose condition has one leaf more
+  leaf-pays : (x : Thing) (more : List Fixing) (child : CondTree → CondTree) (body : Body) (k : Counts) → IsPaying body → ((c : CondTree) → IsFolded c → IsLight (1 + load c) (child c)) →
+      PaysOne k.leaves (and_then Counts CondTree (within_limits (one_leaf (one_visit k))) (λ k' same. and_then CondTree CondTree (body x more k') (λ c j. Done (child c) j)))
+  leaf-pays x more child body k g light =
       let counted : Counts = one_leaf (one_visit k) in
       pays_step CondTree counted _ IsFolded load k.leaves k.leaves (omega arith) (λ d.
-      pays_then CondTree CondTree _ _ _ _ _ _ _ _ (g (Object o) (record { object = o; place = s } ∷ fix) counted) (λ c j q e.
-      one_done k.leaves (1 + load c) (shape_child m o s c) j (child-light m o s c q)
+      pays_then CondTree CondTree _ _ _ _ _ _ _ _ (g x more counted) (λ c j q e.
+      one_done k.leaves (1 + load c) (child c) j (light c q)
       (costs-less k.leaves ((counted.leaves - k.leaves) + load c) (1 + load c) j.leaves (costs-more k.leaves (counted.leaves - k.leaves) counted.leaves (load c) j.leaves d e) (omega arith))))
 
-  grouped-folded : (m : Manner) (cs : List CondTree) → AllFolded cs → AllFolded (grouped m cs) × (loads (grouped m cs) ≤ loads cs)
-  grouped-folded ways.All cs h = (h, omega arith)
-  grouped-folded ways.One cs h = (h, omega arith)
-  grouped-folded ways.Counted cs h = let i = joined-light false cs h in ((i.0, tt), let l = i.1 in omega (arith, l))
+  place-pays : (body : Body) (m : Manner) (fix : List Fixing) (o s : ℕ) (k : Counts) → IsPaying body → PaysOne k.leaves (ground_place body m fix o s k)
+  place-pays body m fix o s k g = leaf-pays (Object o) (record { object = o; place = s } ∷ fix) (shape_child m o s) body k g (child-light m o s)
+
+  places-pay : (body : Body) (m : Manner) (fix : List Fixing) (o : ℕ) (ss : List ℕ) (k : Counts) → IsPaying body → PaysAll k.leaves (ground_places body m fix o ss k)
+  places-pay body m fix o ss k g = pays_gather (λ s j. alone (ground_place body m fix o s j)) ss (λ s j. pays_alone j.leaves (ground_place body m fix o s j) (place-pays body m fix o s j g)) k
 
   visit-costs : (k : Counts) (m j : ℕ) → Costs k.leaves ((one_visit k).leaves - k.leaves) (one_visit k).leaves → Costs (one_visit k).leaves m j → Costs k.leaves m j
   visit-costs k m j d e = costs-less k.leaves (((one_visit k).leaves - k.leaves) + m) m j (costs-more k.leaves ((one_visit k).leaves - k.leaves) (one_visit k).leaves m j d e) (omega arith)
 
+  -- the children of shapes, to which one that is counted may be added
+  absence-pays : (o n : ℕ) (cs : List CondTree) (k : Counts) (b : Bool) → AllFolded cs → Costs n (loads cs) k.leaves →
+      PaysAll n (cond b (and_then Counts (List CondTree) (within_limits (one_leaf k)) (λ k' same. Done (cs ++ (shape_is o (absent_place (object_of p o)) ∷ [])) k')) (Done cs k))
+  absence-pays o n cs k true q d =
+      let part : List CondTree = shape_is o (absent_place (object_of p o)) ∷ [] in
+      let counted : Counts = one_leaf k in
+      pays_step (List CondTree) counted _ AllFolded loads k.leaves n (omega arith) (λ e.
+      all_done n (cs ++ part) counted (both-folded cs part q (tt, tt))
+      (costs-less n (loads cs + (counted.leaves - k.leaves)) (loads (cs ++ part)) counted.leaves (costs-more n (loads cs) k.leaves (counted.leaves - k.leaves) counted.leaves d e) (let l = both-loads cs part in omega (arith, l))))
+  absence-pays o n cs k false q d = all_done n cs k q d
+
+  group-pays : (body : Body) (m : Manner) (fix : List Fixing) (o : ℕ) (k : Counts) → IsPaying body → PaysOne k.leaves (ground_group p body m fix o k)
+  group-pays body m fix o k g =
+      pays_then (List CondTree) CondTree _ _ _ _ _ _ _ _ (places-pay body m fix o (shape_places p o) k g) (λ cs j q d.
+      pays_then (List CondTree) CondTree _ _ _ _ _ _ _ _ (absence-pays o k.leaves cs j (absent_truth m && (object_of p o).may_be_absent) q d) (λ ds i r e.
+      one_done k.leaves (loads ds) (joined false ds) i (joined-light false ds r) e))
+
+  split-by : (body : Body) (m : Manner) (fix : List Fixing) (o : ℕ) (k : Counts) (b : Bool) → IsPaying body →
+      PaysAll k.leaves (cond b (alone (ground_group p body m fix o k)) (ground_places body m fix o (shape_places p o) k))
+  split-by body m fix o k true g = pays_alone k.leaves (ground_group p body m fix o k) (group-pays body m fix o k g)
+  split-by body m fix o k false g = places-pay body m fix o (shape_places p o) k g
+
+  -- a visit, and then a body
+  whole-pays : (x : Thing) (more : List Fixing) (child : CondTree → CondTree) (body : Body) (k : Counts) → IsPaying body → ((c : CondTree) → IsFolded c → IsLight (load c) (child c)) →
+      PaysOne k.leaves (and_then Counts CondTree (visit k) (λ k' same. and_then CondTree CondTree (body x more k') (λ c j. Done (child c) j)))
+  whole-pays x more child body k g light =
+      pays_step CondTree (one_visit k) _ IsFolded load k.leaves k.leaves (omega arith) (λ d.
+      pays_then CondTree CondTree _ _ _ _ _ _ _ _ (g x more (one_visit k)) (λ c j q e.
+      one_done k.leaves (load c) (child c) j (light c q) (visit-costs k (load c) j.leaves d e)))
+
+  certain-pays : (b : Bool) (k : Counts) → PaysOne k.leaves (and_then Counts CondTree (visit k) (λ k' same. Done (certain b) k'))
+  certain-pays b k =
+      pays_step CondTree (one_visit k) _ IsFolded load k.leaves k.leaves (omega arith) (λ d.
+      one_done k.leaves 0 (certain b) (one_visit k) (certain-light 0 b) (visit-costs k 0 (one_visit k).leaves d (costs-none (one_visit k).leaves)))
+
   element-pays : (body : Body) (m : Manner) (fix : List Fixing) (x : Element) (k : Counts) → IsPaying body → PaysAll k.leaves (ground_element p body m fix x k)
   element-pays body m fix (whole x) k g =
-      pays_step (List CondTree) (one_visit k) _ AllFolded loads k.leaves k.leaves (omega arith) (λ d.
-      pays_then CondTree (List CondTree) _ _ _ _ _ _ _ _ (g x fix (one_visit k)) (λ c j q e.
-      all_done k.leaves (c ∷ []) j (q, tt) (single-costs k.leaves c j.leaves (visit-costs k (load c) j.leaves d e))))
-  element-pays body m fix (split o) k g =
-      pays_then (List CondTree) (List CondTree) _ _ _ _ _ _ _ _
-      (pays_gather (λ s j. alone (ground_place body m fix o s j)) (places p o) (λ s j. pays_alone j.leaves (ground_place body m fix o s j) (place-pays body m fix o s j g)) k)
-      (λ cs j q d. let i = grouped-folded m cs q in all_done k.leaves (grouped m cs) j i.0 (costs-less k.leaves (loads cs) (loads (grouped m cs)) j.leaves d i.1))
+      pays_alone k.leaves (ground_whole body fix x k)
+      (pays_step CondTree (one_visit k) _ IsFolded load k.leaves k.leaves (omega arith) (λ d.
+      record { get = λ c j e. let h = (g x fix (one_visit k)).get c j e in (h.0, visit-costs k (load c) j.leaves d h.1) }))
+  element-pays body m fix (split o) k g = split-by body m fix o k (is_counted m) g
+  element-pays body m fix (optional o) k g =
+      pays_alone k.leaves (ground_optional p body m fix o k)
+      (leaf-pays (Object o) fix (optional_child m o (absent_place (object_of p o))) body k g (optional-by (absent_truth m) o (absent_place (object_of p o))))
+  element-pays body m fix (gone o) k g = pays_alone k.leaves (ground_gone m k) (certain-pays (absent_truth m) k)
 
   quantifier-light : (kind : QuantKind) (sign : Bool) (n : ℕ) (cs : List CondTree) → AllFolded cs → IsLight (loads cs) (quantifier_node kind sign n cs)
   quantifier-light ForAll sign n cs h = joined-light sign cs h
@@ -322,12 +367,10 @@ module _ (p : ProblemData) where
   quantifier-light (AtMost m) true n cs h = count-light (pos n -ℤ pos m) cs h
   quantifier-light (AtMost m) false n cs h = count-light (pos (m + 1)) cs h
 
-  -- ---- formulas
+  single-light : (c : CondTree) → IsFolded c → IsLight (load c) (joined true (c ∷ []))
+  single-light c h = let i = joined-light true (c ∷ []) (h, tt) in (i.0, let l = i.1 in omega (arith, l))
 
-  certain-pays : (b : Bool) (k : Counts) → PaysOne k.leaves (and_then Counts CondTree (visit k) (λ k' same. Done (certain b) k'))
-  certain-pays b k =
-      pays_step CondTree (one_visit k) _ IsFolded load k.leaves k.leaves (omega arith) (λ d.
-      one_done k.leaves 0 (certain b) (one_visit k) (certain-light 0 b) (visit-costs k 0 (one_visit k).leaves d (costs-none (one_visit k).leaves)))
+  -- ---- formulas
 
   mutual
     ground-pays : (f : PlainFormulaTree) (sign : Bool) (env : PlainEnv) (fix : List Fixing) (k : Counts) → PaysOne k.leaves (ground p f sign env fix k)
@@ -364,13 +407,24 @@ module _ (p : ProblemData) where
         (pays_then (List CondTree) (List CondTree) _ _ _ _ _ _ _ _ (operands-pay rest all sign env fix i) (λ cs j r e.
         all_done k.leaves (c ∷ cs) j (q, r) (costs-more k.leaves (load c) i.leaves (loads cs) j.leaves d e))))
 
+  object-pays : (body : Body) (fix : List Fixing) (o : ℕ) (k : Counts) (b : Bool) → IsPaying body → PaysOne k.leaves
+      (cond b
+      (and_then (List CondTree) CondTree (ground_places body ways.All fix o (places p o) k) (λ cs k'. Done (joined true cs) k'))
+      (and_then Counts CondTree (visit k) (λ k' same. and_then CondTree CondTree (body (Object o) fix k') (λ c j. Done (joined true (c ∷ [])) j))))
+  object-pays body fix o k true g =
+      pays_then (List CondTree) CondTree _ _ _ _ _ _ _ _ (places-pay body ways.All fix o (places p o) k g)
+      (λ cs j q e. one_done k.leaves (loads cs) (joined true cs) j (joined-light true cs q) e)
+  object-pays body fix o k false g = whole-pays (Object o) fix (λ c. joined true (c ∷ [])) body k g single-light
+
   named-pays : (names : List ℕ) (f : PlainFormulaTree) (fix : List Fixing) (k : Counts) → PaysOne k.leaves (ground_named p names f fix k)
   named-pays [] f fix k = ground-pays f true [] fix k
   named-pays (o ∷ rest) f fix k =
       pays_step CondTree (one_visit k) _ IsFolded load k.leaves k.leaves (omega arith) (λ d.
-      pays_then (List CondTree) CondTree _ _ _ _ _ _ _ _
-      (element-pays (λ x more j. ground_named p rest f more j) ways.All fix (element_of p true fix (Object o)) (one_visit k) (λ x more j. named-pays rest f more j))
-      (λ cs j q e. one_done k.leaves (loads cs) (joined true cs) j (joined-light true cs q) (visit-costs k (loads cs) j.leaves d e)))
+      record {
+        get = λ c j e.
+            let h = (object-pays (λ x more i. ground_named p rest f more i) fix o (one_visit k) (is_open p fix o) (λ x more i. named-pays rest f more i)).get c j e in
+            (h.0, visit-costs k (load c) j.leaves d h.1);
+      })
 
   -- ---- the conditions of a condition
 
@@ -461,18 +515,28 @@ module _ (p : ProblemData) where
       let f = (are-pieces p w o d h l).few in
       omega (arith, a, b, f)
 
-  of-object-few : (o : ℕ) → IsWellFormed p → o < length p.objects → length (own_of p o) ≤ 42
+  origins-by : (o : ℕ) (b : Bool) → IsWellFormed p → length (cond b (map (origin_condition p o) (range_with_len 0 p.dims)) []) ≤ 6
+  origins-by o true w =
+      let a = length-map (range_with_len 0 p.dims) (origin_condition p o) in
+      let n = length-range_with_len 0 p.dims in
+      let k = w.dimensions in
+      omega (arith, a, n, k)
+  origins-by o false w = omega arith
+
+  of-object-few : (o : ℕ) → IsWellFormed p → o < length p.objects → length (own_of p o) ≤ 48
   of-object-few o w h =
       let each = all-range-in (λ d. length (holes_at p o d) ≤ 7) 0 p.dims (λ d z l. holes-few o d w h (omega (arith, l))) in
       let f = flat-most 7 (holes_at p o) (range_with_len 0 p.dims) each in
       let n = length-range_with_len 0 p.dims in
       let k = w.dimensions in
-      omega (arith, f, n, k)
+      let a = length-append (flat_map (holes_at p o) (range_with_len 0 p.dims)) (origins_of p o) in
+      let g = origins-by o (object_of p o).may_be_absent w in
+      omega (arith, f, n, k, a, g)
 
-  own-few : IsWellFormed p → length (own_conditions p) ≤ 8400
+  own-few : IsWellFormed p → length (own_conditions p) ≤ 9600
   own-few w =
-      let each = all-range-in (λ o. length (own_of p o) ≤ 42) 0 (length p.objects) (λ o z l. of-object-few o w (omega (arith, l))) in
-      let f = flat-most 42 (own_of p) (range_with_len 0 (length p.objects)) each in
+      let each = all-range-in (λ o. length (own_of p o) ≤ 48) 0 (length p.objects) (λ o z l. of-object-few o w (omega (arith, l))) in
+      let f = flat-most 48 (own_of p) (range_with_len 0 (length p.objects)) each in
       let n = length-range_with_len 0 (length p.objects) in
       let k = w.few in
       omega (arith, f, n, k)

@@ -12,7 +12,7 @@ use Rattle.geo_conditions.specs.Reach.{Exists, dims}
 use Rattle.geo_conditions.specs.Conditions.{FitsIn, AllFitIn, AllFit}
 use Rattle.rule_syntax.specs.declared.tree.QuantKind.{QuantKind}
 use Rattle.rule_syntax.specs.declared.tree.QuantKind.TheVariants.{ForAll, Exists as SomeOf, AtLeast, AtMost}
-use Rattle.problem_data.specs.Problem.{BoxData, RangeData, no_object, ProblemData}
+use Rattle.problem_data.specs.Problem.{BoxData, RangeData, no_object, ProblemData, runs_down}
 use Rattle.problem_data.specs.Pieces.{range_at, pieces_at, hull, hulls}
 use Rattle.problem_data.specs.Tuple.{object_of}
 use Rattle.problem_data.specs.Value.{Thing, Number, Object, Part}
@@ -23,25 +23,26 @@ use Rattle.rule_expand.specs.PlainTruth.{PlainEnv, set_variable}
 use Rattle.rule_expand.specs.Rules.{PlainDemand, apart, within, plain, PlainRuleData, rules_expanded}
 use Rattle.linear_conditions.specs.CondTree.{CondTree, CondTrees, linear, shape_is, shape_is_not, at_least, no_conds, a_cond, conds, cond_view, row_view}
 use Rattle.linear_conditions.specs.Fixings.{Fixing, fixed_place}
-use Rattle.linear_conditions.specs.Folding.{certain, joined, decides}
+use Rattle.linear_conditions.specs.Folding.{certain, fold_count, joined, decides}
 use Rattle.linear_conditions.specs.Leaves.{under}
-use Rattle.linear_conditions.specs.Counts.{Counts, Outcome, Fault, Done, OnDone}
+use Rattle.linear_conditions.specs.Counts.{Counts, Outcome, Fault, Done, OnDone, and_then, within_limits, one_leaf, visit}
 use Rattle.linear_conditions.proofs.Outcomes.{on_done, on_then, on_any, on_either}
 use Rattle.linear_conditions.proofs.Placed.{AreBelow}
 use Rattle.linear_conditions.proofs.Inside.{IsInside, AreInside, AllInside, conds-inside, both-inside, certain-inside, count-inside, joined-inside, compare-inside}
-use Rattle.rule_ground.specs.Shapes.{places, has_several, other_shape, term}
+use Rattle.problem_data.specs.Places.{absent_place, side_at, first_value}
+use Rattle.rule_ground.specs.Shapes.{places, shape_places, has_several, other_shape, term}
 use Rattle.rule_values.specs.Shapes.{boxes_at}
 use Rattle.rule_ground.specs.Start.{first_state, whole_reach}
-use Rattle.rule_ground.specs.Own.{hole_condition, hole_behind, holes_in, holes_at, own_of, own_conditions}
+use Rattle.rule_ground.specs.Own.{up_to, from, hole_condition, hole_behind, holes_in, holes_at, origin_condition, origins_of, own_of, own_conditions}
 use Rattle.rule_ground.specs.Apart.{parted_in, apart_condition, apart_from_box, apart_at_places, apart_at_place, apart_of, apart_behind, apart_conditions}
 use Rattle.rule_ground.specs.Within.{unless_other, from_low, to_high, within_in, within_of_box, within_at_place, within_of, within_conditions}
-use Rattle.rule_ground.specs.Grounding.{needs, Element, whole, split, is_open, element_of, elements_of, things_of, alone, in_turn, manner, body_sign, quantifier_node, Body, shape_child, ground_place, ground_places, grouped, ground_element, ground_elements, ground, ground_operands, named_objects, ground_named}
+use Rattle.rule_ground.specs.Grounding.{needs, Element, whole, split, optional, gone, is_open, is_gone, may_go, element_of, elements_of, things_of, alone, in_turn, manner, is_counted, body_sign, quantifier_node, Body, absent_truth, shape_child, optional_child, ground_place, ground_places, ground_group, ground_whole, ground_optional, ground_gone, ground_element, ground_elements, ground, ground_operands, named_objects, ground_named}
 use Rattle.rule_ground.specs.declared.quantifiers.Manner.{Manner}
 use Rattle.rule_ground.specs.declared.quantifiers.Manner.TheVariants as ways
 use Rattle.rule_ground.specs.Rules.{tree_length, is_count, conds_of, conds_of_each, ground_demand, ground_rules, grounded, no_counts, before, before_rest}
 use Rattle.rule_ground.proofs.RuleSteps.{before-parts}
-use Rattle.rule_ground.proofs.Settled.{several-there}
-use Rattle.rule_ground.proofs.Sound.{Each, each-of, gather-on}
+use Rattle.rule_ground.proofs.Settled.{several-there, may-there}
+use Rattle.rule_ground.proofs.Sound.{Each, each-of, gather-on, both-true-of}
 use Rattle.rule_ground.proofs.Starts.{reach-at}
 use Rattle.rule_ground.proofs.Truths.{all-flat-in, all-range-in}
 
@@ -62,18 +63,25 @@ module _ (p : ProblemData) where
       (λ e. on_then CondTree CondTree _ _ _ _ (g k') (λ d k'' l.
       on_done CondTree (joined all (c ∷ (d ∷ []))) k'' _ (joined-inside p all (c ∷ (d ∷ [])) (h, (l, tt))))))
 
-  -- an element that splits is an object of the problem
+  -- an object of which a condition speaks is one of the problem
   abbrev IsThere : Element → Type 0
   IsThere (whole x) = Unit {0}
   IsThere (split o) = o < length p.objects
+  IsThere (optional o) = o < length p.objects
+  IsThere (gone o) = Unit {0}
 
-  there-by : (o : ℕ) (b : Bool) → (b ≡ true → o < length p.objects) → IsThere (cond b (split o) (whole (Object o)))
-  there-by o true h = h refl
-  there-by o false h = tt
+  there-by : (o : ℕ) (a b c : Bool) → (b ≡ true → o < length p.objects) → (c ≡ true → o < length p.objects) → IsThere (cond a (gone o) (cond b (split o) (cond c (optional o) (whole (Object o)))))
+  there-by o true b c h l = tt
+  there-by o false true c h l = h refl
+  there-by o false false true h l = l refl
+  there-by o false false false h l = tt
 
   element-there : (asked : Bool) (fix : List Fixing) (x : Thing) → IsThere (element_of p asked fix x)
   element-there asked fix (Number z) = tt
-  element-there asked fix (Object o) = there-by o (asked && is_open p fix o) (λ h. several-there p o (middle asked (has_several p o) (fixed_place fix o == 0) h))
+  element-there asked fix (Object o) =
+      there-by o (is_gone p fix o) (asked && is_open p fix o) (may_go p fix o)
+      (λ h. several-there p o (middle asked (has_several p o) (fixed_place fix o == 0) h))
+      (λ h. may-there p o (both-true-of (object_of p o).may_be_absent (fixed_place fix o == 0) h).0)
   element-there asked fix (Part b) = tt
 
   -- grounding of a body gives such conditions
@@ -83,31 +91,55 @@ module _ (p : ProblemData) where
   child-inside : (m : Manner) (o s : ℕ) (c : CondTree) → o < length p.objects → IsInside p c → IsInside p (shape_child m o s c)
   child-inside ways.All o s c h l = count-inside p (pos 1) (shape_is_not o s ∷ (c ∷ [])) (h, (l, tt))
   child-inside ways.One o s c h l = count-inside p (pos 2) (shape_is o s ∷ (c ∷ [])) (h, (l, tt))
-  child-inside ways.Counted o s c h l = count-inside p (pos 2) (shape_is o s ∷ (c ∷ [])) (h, (l, tt))
+  child-inside ways.Holding o s c h l = count-inside p (pos 2) (shape_is o s ∷ (c ∷ [])) (h, (l, tt))
+  child-inside ways.Failing o s c h l = count-inside p (pos 2) (shape_is o s ∷ (c ∷ [])) (h, (l, tt))
+
+  optional-by : (a : Bool) (o s : ℕ) (c : CondTree) → o < length p.objects → IsInside p c → IsInside p (cond a (fold_count (pos 1) (shape_is o s ∷ (c ∷ []))) (fold_count (pos 2) (shape_is_not o s ∷ (c ∷ []))))
+  optional-by true o s c h l = count-inside p (pos 1) (shape_is o s ∷ (c ∷ [])) (h, (l, tt))
+  optional-by false o s c h l = count-inside p (pos 2) (shape_is_not o s ∷ (c ∷ [])) (h, (l, tt))
+
+  alone-inside : (o : Outcome CondTree) → OnDone CondTree o (IsInside p) → OnDone (List CondTree) (alone o) (AllInside p)
+  alone-inside o h = on_then CondTree (List CondTree) _ _ _ _ h (λ c i l. on_done (List CondTree) (c ∷ []) i _ (l, tt))
 
   place-inside : (body : Body) (m : Manner) (fix : List Fixing) (o s : ℕ) (k : Counts) → IsGood body → o < length p.objects → OnDone (List CondTree) (alone (ground_place body m fix o s k)) (AllInside p)
   place-inside body m fix o s k g h =
-      on_then CondTree (List CondTree) _ _ _ _
+      alone-inside (ground_place body m fix o s k)
       (on_any Counts CondTree _ _ (IsInside p) (λ k' same.
       on_then CondTree CondTree _ _ _ _ (g (Object o) (record { object = o; place = s } ∷ fix) k') (λ c k'' l. on_done CondTree (shape_child m o s c) k'' _ (child-inside m o s c h l))))
-      (λ c i l. on_done (List CondTree) (c ∷ []) i _ (l, tt))
 
-  places-inside : (body : Body) (m : Manner) (fix : List Fixing) (o : ℕ) (k : Counts) → IsGood body → o < length p.objects → OnDone (List CondTree) (ground_places p body m fix o k) (AllInside p)
-  places-inside body m fix o k g h =
-      gather-on (λ s j. alone (ground_place body m fix o s j)) (λ xs bs. AllInside p bs) (λ s bs. AllInside p bs) tt (λ x xs bs cs q r. both-inside p bs cs q r) (places p o)
-      (each-of _ (places p o) (λ s j. place-inside body m fix o s j g h)) k
+  places-inside : (body : Body) (m : Manner) (fix : List Fixing) (o : ℕ) (ss : List ℕ) (k : Counts) → IsGood body → o < length p.objects → OnDone (List CondTree) (ground_places body m fix o ss k) (AllInside p)
+  places-inside body m fix o ss k g h =
+      gather-on (λ s j. alone (ground_place body m fix o s j)) (λ xs bs. AllInside p bs) (λ s bs. AllInside p bs) tt (λ x xs bs cs q r. both-inside p bs cs q r) ss
+      (each-of _ ss (λ s j. place-inside body m fix o s j g h)) k
 
-  grouped-inside : (m : Manner) (cs : List CondTree) → AllInside p cs → AllInside p (grouped m cs)
-  grouped-inside ways.All cs h = h
-  grouped-inside ways.One cs h = h
-  grouped-inside ways.Counted cs h = (joined-inside p false cs h, tt)
+  absence-inside : (o : ℕ) (cs : List CondTree) (k : Counts) (b : Bool) → o < length p.objects → AllInside p cs →
+      OnDone (List CondTree) (cond b (and_then Counts (List CondTree) (within_limits (one_leaf k)) (λ k' same. Done (cs ++ (shape_is o (absent_place (object_of p o)) ∷ [])) k')) (Done cs k)) (AllInside p)
+  absence-inside o cs k true h l =
+      let part : List CondTree = shape_is o (absent_place (object_of p o)) ∷ [] in
+      on_any Counts (List CondTree) _ _ (AllInside p) (λ k' same. on_done (List CondTree) (cs ++ part) k' _ (both-inside p cs part l (h, tt)))
+  absence-inside o cs k false h l = on_done (List CondTree) cs k _ l
+
+  group-inside : (body : Body) (m : Manner) (fix : List Fixing) (o : ℕ) (k : Counts) → IsGood body → o < length p.objects → OnDone CondTree (ground_group p body m fix o k) (IsInside p)
+  group-inside body m fix o k g h =
+      on_then (List CondTree) CondTree _ _ _ _ (places-inside body m fix o (shape_places p o) k g h) (λ cs j l.
+      on_then (List CondTree) CondTree _ _ _ _ (absence-inside o cs j (absent_truth m && (object_of p o).may_be_absent) h l) (λ ds i q.
+      on_done CondTree (joined false ds) i _ (joined-inside p false ds q)))
+
+  split-by : (body : Body) (m : Manner) (fix : List Fixing) (o : ℕ) (k : Counts) (b : Bool) → IsGood body → o < length p.objects →
+      OnDone (List CondTree) (cond b (alone (ground_group p body m fix o k)) (ground_places body m fix o (shape_places p o) k)) (AllInside p)
+  split-by body m fix o k true g h = alone-inside (ground_group p body m fix o k) (group-inside body m fix o k g h)
+  split-by body m fix o k false g h = places-inside body m fix o (shape_places p o) k g h
 
   element-inside : (body : Body) (m : Manner) (fix : List Fixing) (x : Element) (k : Counts) → IsGood body → IsThere x → OnDone (List CondTree) (ground_element p body m fix x k) (AllInside p)
-  element-inside body m fix (whole x) k g h =
-      on_any Counts (List CondTree) _ _ _ (λ k' j.
-      on_then CondTree (List CondTree) _ _ _ _ (g x fix k') (λ c i l. on_done (List CondTree) (c ∷ []) i _ (l, tt)))
-  element-inside body m fix (split o) k g h =
-      on_then (List CondTree) (List CondTree) _ _ _ _ (places-inside body m fix o k g h) (λ cs i l. on_done (List CondTree) (grouped m cs) i _ (grouped-inside m cs l))
+  element-inside body m fix (whole x) k g h = alone-inside (ground_whole body fix x k) (on_any Counts CondTree _ _ (IsInside p) (λ k' j. g x fix k'))
+  element-inside body m fix (split o) k g h = split-by body m fix o k (is_counted m) g h
+  element-inside body m fix (optional o) k g h =
+      let s = absent_place (object_of p o) in
+      alone-inside (ground_optional p body m fix o k)
+      (on_any Counts CondTree _ _ (IsInside p) (λ k' same.
+      on_then CondTree CondTree _ _ _ _ (g (Object o) fix k') (λ c j l. on_done CondTree (optional_child m o s c) j _ (optional-by (absent_truth m) o s c h l))))
+  element-inside body m fix (gone o) k g h =
+      alone-inside (ground_gone m k) (on_any Counts CondTree _ _ (IsInside p) (λ k' same. on_done CondTree (certain (absent_truth m)) k' _ (certain-inside p (absent_truth m))))
 
   elements-inside : (body : Body) (m : Manner) (fix : List Fixing) (asked : Bool) (xs : List Thing) (k : Counts) → IsGood body → OnDone (List CondTree) (ground_elements p body m fix (map (element_of p asked fix) xs) k) (AllInside p)
   elements-inside body m fix asked xs k g =
@@ -160,13 +192,23 @@ module _ (p : ProblemData) where
         (λ e. on_done (List CondTree) (d ∷ []) _ _ (h, tt))
         (λ e. on_then (List CondTree) (List CondTree) _ _ _ _ (operands-inside rest all sign env fix k') (λ ds k'' l. on_done (List CondTree) (d ∷ ds) _ _ (h, l))))
 
+  object-inside : (body : Body) (fix : List Fixing) (o : ℕ) (k : Counts) (b : Bool) → is_open p fix o ≡ b → IsGood body → OnDone CondTree
+      (cond b
+      (and_then (List CondTree) CondTree (ground_places body ways.All fix o (places p o) k) (λ cs k'. Done (joined true cs) k'))
+      (and_then Counts CondTree (visit k) (λ k' same. and_then CondTree CondTree (body (Object o) fix k') (λ c j. Done (joined true (c ∷ [])) j))))
+      (IsInside p)
+  object-inside body fix o k true e g =
+      on_then (List CondTree) CondTree _ _ _ _
+      (places-inside body ways.All fix o (places p o) k g (several-there p o (both-true-of (has_several p o) (fixed_place fix o == 0) e).0))
+      (λ cs j h. on_done CondTree (joined true cs) j _ (joined-inside p true cs h))
+  object-inside body fix o k false e g =
+      on_any Counts CondTree _ _ (IsInside p) (λ k' same.
+      on_then CondTree CondTree _ _ _ _ (g (Object o) fix k') (λ c j h. on_done CondTree (joined true (c ∷ [])) j _ (joined-inside p true (c ∷ []) (h, tt))))
+
   named-inside : (names : List ℕ) (f : PlainFormulaTree) (fix : List Fixing) (k : Counts) → OnDone CondTree (ground_named p names f fix k) (IsInside p)
   named-inside [] f fix k = ground-inside f true [] fix k
   named-inside (o ∷ rest) f fix k =
-      on_any Counts CondTree _ _ _ (λ k' same.
-      on_then (List CondTree) CondTree _ _ _ _
-      (element-inside (λ x more j. ground_named p rest f more j) ways.All fix (element_of p true fix (Object o)) k' (λ x more j. named-inside rest f more j) (element-there true fix (Object o)))
-      (λ cs k'' h. on_done CondTree (joined true cs) _ _ (joined-inside p true cs h)))
+      on_any Counts CondTree _ _ (IsInside p) (λ k' same. object-inside (λ x more j. ground_named p rest f more j) fix o k' (is_open p fix o) refl (λ x more j. named-inside rest f more j))
 
   -- ---- the conditions of a condition
 
@@ -254,11 +296,26 @@ module _ (p : ProblemData) where
       All-map (IsInside p) (hole_behind o d rs) (range_with_len 0 (length rs - 1))
       (all-range-in (λ n. IsInside p (hole_behind o d rs n)) 0 (length rs - 1) (λ n k m. hole-inside o d (range_at rs n) (range_at rs (n + 1)) h l))
 
+  first-by : (o d : ℕ) (v : ℤ) (b : Bool) → o < length p.objects → d < p.dims → IsInside p (cond b (from o d v) (up_to o d v))
+  first-by o d v true h l = ((h, l), tt)
+  first-by o d v false h l = ((h, l), tt)
+
+  origin-inside : (o d : ℕ) → o < length p.objects → d < p.dims → IsInside p (origin_condition p o d)
+  origin-inside o d h l = (h, (first-by o d (first_value p (object_of p o) d) (runs_down (side_at p d)) h l, tt))
+
+  origins-by : (o : ℕ) (b : Bool) → o < length p.objects → All (IsInside p) (cond b (map (origin_condition p o) (range_with_len 0 p.dims)) [])
+  origins-by o true h =
+      All-map (IsInside p) (origin_condition p o) (range_with_len 0 p.dims) (all-range-in (λ d. IsInside p (origin_condition p o d)) 0 p.dims (λ d z l. origin-inside o d h (omega (arith, l))))
+  origins-by o false h = All-nil (IsInside p)
+
   own-inside : All (IsInside p) (own_conditions p)
   own-inside =
       all-flat-in (IsInside p) (own_of p) (range_with_len 0 (length p.objects)) (all-range-in (λ o. All (IsInside p) (own_of p o)) 0 (length p.objects) (λ o z h.
-      all-flat-in (IsInside p) (holes_at p o) (range_with_len 0 p.dims) (all-range-in (λ d. All (IsInside p) (holes_at p o d)) 0 p.dims (λ d y l.
-      holes-inside o d (pieces_at (object_of p o) d) (omega (arith, h)) (omega (arith, l))))))
+      let i : o < length p.objects = omega (arith, h) in
+      All-append (IsInside p) (flat_map (holes_at p o) (range_with_len 0 p.dims)) (origins_of p o)
+      (all-flat-in (IsInside p) (holes_at p o) (range_with_len 0 p.dims) (all-range-in (λ d. All (IsInside p) (holes_at p o d)) 0 p.dims (λ d y l.
+      holes-inside o d (pieces_at (object_of p o) d) i (omega (arith, l)))))
+      (origins-by o (object_of p o).may_be_absent i)))
 
   -- ---- rules
 

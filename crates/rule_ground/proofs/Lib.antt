@@ -9,6 +9,7 @@ pub mod NamedSound
 pub mod Numbers
 pub mod Placing
 pub mod Settled
+pub mod Present
 pub mod Sound
 pub mod Starts
 pub mod Truths

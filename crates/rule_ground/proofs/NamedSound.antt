@@ -1,10 +1,12 @@
 -- A formula that names objects itself: as if a quantifier over each of them stood before it.
-use Rattle.std.proofs.Common.{◌≡◌, ◌⊎◌, inl, inr, ℕ, zero, suc, ◌+◌, ◌<◌, ◌≤◌, eqb, ◌&&◌, Bool, true, false, cond, List, [], ◌∷◌, length, sym, ap, ◌∙◌, refl, arith, subst, tests}
+use Rattle.std.proofs.Common.{◌≡◌, ◌⊎◌, inl, inr, ℕ, zero, suc, ◌+◌, ◌<◌, ◌≤◌, eqb, leb, Bool, true, false, cond, List, [], ◌∷◌, length, sym, ap, ◌∙◌, refl, arith, subst, tests}
 use Rattle.std.specs.List.{filter, range_with_len}
 use Rattle.std.proofs.Math.Logic.{⊎_elim}
 use Rattle.std.proofs.lemmas.Bool.{cases_lt}
+use Rattle.std.proofs.lemmas.Bool.Decides.{nat_tests}
 use Rattle.geo_base.specs.Tuple.{Tuple, spot}
 use Rattle.problem_data.specs.Problem.{ProblemData}
+use Rattle.problem_data.specs.Tuple.{object_of}
 use Rattle.problem_data.specs.Value.{Object}
 use Rattle.problem_data.specs.Cells.{IsTuple}
 use Rattle.rule_expand.specs.declared.plain.Subject.{Subject}
@@ -16,13 +18,15 @@ use Rattle.linear_conditions.specs.CondTree.{CondTree, true_on}
 use Rattle.linear_conditions.specs.Fixings.{Fixing}
 use Rattle.linear_conditions.specs.Settled.{Agrees, IsSettled}
 use Rattle.linear_conditions.specs.Folding.{joined}
-use Rattle.linear_conditions.specs.Counts.{Counts, OnDone}
+use Rattle.linear_conditions.specs.Counts.{Counts, Done, OnDone, and_then, visit}
 use Rattle.linear_conditions.proofs.Junctions.{joined-true}
 use Rattle.linear_conditions.proofs.Outcomes.{on_done, on_then, on_any}
-use Rattle.rule_ground.specs.Grounding.{whole, split, needs, is_open, element_of, named_objects, ground_named}
+use Rattle.problem_data.specs.Places.{place_count}
+use Rattle.rule_ground.specs.Shapes.{places}
+use Rattle.rule_ground.specs.Grounding.{needs, is_open, Body, ground_places, named_objects, ground_named}
 use Rattle.rule_ground.specs.declared.quantifiers.Manner.TheVariants.{All}
-use Rattle.rule_ground.proofs.Settled.{first-place, last-place, several-there, closed-settled, absent-settled, fixed, here, settled-more, agrees-more}
-use Rattle.rule_ground.proofs.Sound.{Goes, element-stands, ground-sound}
+use Rattle.rule_ground.proofs.Settled.{closed-settled, missing-settled, fixed, here, settled-more, agrees-more}
+use Rattle.rule_ground.proofs.Sound.{places-at, open-places, junction-all, ground-sound}
 
 -- a subject is one of these objects
 abbrev pub IsNamed : Subject → List ℕ → Type 0
@@ -55,19 +59,27 @@ owed-split p t fix o place rest f e l w = owed-whole p t (fixed o place fix) o r
 abbrev Rest : ProblemData → Tuple → List ℕ → PlainFormulaTree → Type 0
 Rest p t rest f = (fix : List Fixing) (k : Counts) → Agrees t fix → IsOwed p t fix rest f → OnDone CondTree (ground_named p rest f fix k) (λ c. true_on t c ≡ plain_holds p t f [])
 
-object-goes : (p : ProblemData) (t : Tuple) (o : ℕ) (rest : List ℕ) (f : PlainFormulaTree) (fix : List Fixing) (several : Bool) → is_open p fix o ≡ several → IsTuple p t → Agrees t fix → IsOwed p t fix (o ∷ rest) f → Rest p t rest f →
-    Goes p t (λ x. plain_holds p t f []) fix (λ x more j. ground_named p rest f more j) (cond several (split o) (whole (Object o)))
-object-goes p t o rest f fix true e w a i r =
-    let l = several-there p o (first_of _ _ e) in (
-      first-place p t o w l,
-      last-place p t o w l,
-      (λ s g k. r (fixed o s fix) k (agrees-more t fix o s g a) (owed-split p t fix o s rest f g (subst (λ n. 1 ≤ n) g (first-place p t o w l)) i)),
-    )
-  where
-    first_of : (a b : Bool) → (a && b) ≡ true → a ≡ true
-    first_of true b h = refl
-    first_of false b h = h
-object-goes p t o rest f fix false e w a i r = λ k. r fix k a (owed-whole p t fix o rest f (closed-settled p t fix o w a e) i)
+-- one object, with each of its places where its place is open
+object-sound : (p : ProblemData) (t : Tuple) (o : ℕ) (rest : List ℕ) (f : PlainFormulaTree) (fix : List Fixing) (k : Counts) (several : Bool) → is_open p fix o ≡ several → IsTuple p t → Agrees t fix → IsOwed p t fix (o ∷ rest) f → Rest p t rest f →
+    let body : Body = λ x more j. ground_named p rest f more j in
+    OnDone CondTree
+    (cond several
+    (and_then (List CondTree) CondTree (ground_places body All fix o (places p o) k) (λ cs k'. Done (joined true cs) k'))
+    (and_then Counts CondTree (visit k) (λ k' same. and_then CondTree CondTree (body (Object o) fix k') (λ c j. Done (joined true (c ∷ [])) j))))
+    (λ c. true_on t c ≡ plain_holds p t f [])
+object-sound p t o rest f fix k true e w a i r =
+    let body : Body = λ x more j. ground_named p rest f more j in
+    let places = open-places p t fix o w e in
+    let n = place_count (object_of p o) in
+    let q : leb (spot t o).place n ≡ true = (let l = places.1 in grind (arith, nat_tests)) in
+    on_then (List CondTree) CondTree _ _ _ _
+    (places-at All t fix body o n (plain_holds p t f []) places.0
+    (λ s g j. r (fixed o s fix) j (agrees-more t fix o s g a) (owed-split p t fix o s rest f g (subst (λ m. 1 ≤ m) g places.0) i)) k)
+    (λ cs j h. on_done CondTree (joined true cs) j _ (joined-true true t cs ∙ h ∙ ap (λ x. cond x (plain_holds p t f []) true) q))
+object-sound p t o rest f fix k false e w a i r =
+    on_any Counts CondTree _ _ _ (λ k' same.
+    on_then CondTree CondTree _ _ _ _ (r fix k' a (owed-whole p t fix o rest f (closed-settled p t fix o w a e) i)) (λ c j h.
+    on_done CondTree (joined true (c ∷ [])) j _ (joined-true true t (c ∷ []) ∙ junction-all true (true_on t c) ∙ h)))
 
 pub all-settled : (p : ProblemData) (t : Tuple) (fix : List Fixing) (s : Subject) → IsSettled p t fix (subject_in s []) ⊎ IsNamed s [] → IsSettled p t fix (subject_in s [])
 all-settled p t fix s (inl h) = h
@@ -77,11 +89,7 @@ all-settled p t fix s (inr n) = absurd n
 pub named-sound : (p : ProblemData) (t : Tuple) (names : List ℕ) (f : PlainFormulaTree) → IsTuple p t → formula_breaks f ≡ false → Rest p t names f
 named-sound p t [] f w b fix k a i = ground-sound p t f true [] fix k w b a (record { at = λ s e. all-settled p t fix s (i.at s e) })
 named-sound p t (o ∷ rest) f w b fix k a i =
-    on_any Counts CondTree _ _ _ (λ k' j.
-    on_then (List CondTree) CondTree _ _ _ _
-    (element-stands p All t (λ x. plain_holds p t f []) fix (λ x more j. ground_named p rest f more j) (element_of p true fix (Object o))
-    (object-goes p t o rest f fix (is_open p fix o) refl w a i (named-sound p t rest f w b)) k')
-    (λ cs k'' e. on_done CondTree (joined true cs) _ _ (joined-true true t cs ∙ e)))
+    on_any Counts CondTree _ _ _ (λ k' j. object-sound p t o rest f fix k' (is_open p fix o) refl w a i (named-sound p t rest f w b))
 
 -- ---- all objects that a formula names
 
@@ -106,7 +114,7 @@ pub there : (p : ProblemData) (t : Tuple) (f : PlainFormulaTree) (s : Subject) �
 there p t f (subjects.Variable v) e = inl tt
 there p t f (subjects.Object o) e = ⊎_elim
     (λ l. inr (named-there (λ u. needs (subjects.Object u) f) 0 (length p.objects) o (eqb o 0) refl (omega arith) (omega arith) e))
-    (λ l. inl (absent-settled p t [] o l))
+    (λ l. inl (missing-settled p t [] o l))
     (cases_lt o (length p.objects))
 
 pub named-true : (p : ProblemData) (t : Tuple) (f : PlainFormulaTree) (k : Counts) → IsTuple p t → formula_breaks f ≡ false →

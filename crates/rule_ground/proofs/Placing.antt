@@ -9,6 +9,7 @@ use Rattle.problem_data.specs.Problem.{BoxData, ProblemData}
 use Rattle.problem_data.specs.Tuple.{object_of, boxes_in}
 use Rattle.problem_data.specs.Cells.{IsShaped}
 use Rattle.linear_conditions.specs.CondTree.{shape_is_not, true_on}
+use Rattle.problem_data.specs.Places.{place_count}
 use Rattle.rule_ground.specs.Shapes.{IsPlace, has_several, other_shape, IsSmallBox, HasSmallShapes}
 use Rattle.rule_values.specs.Shapes.{boxes_at}
 use Rattle.rule_values.proofs.Boxes.{boxes-all}
@@ -34,7 +35,7 @@ other-true p t o s h i = by_test (has_several p o) refl
     by_test true e = or-false (not ((spot t o).place == s))
     by_test false e =
         let f = h.each o i.object in
-        only-one (length (object_of p o).shapes) (spot t o).place s f.first f.last i.first i.last (ltb-false 1 (length (object_of p o).shapes) e)
+        only-one (place_count (object_of p o)) (spot t o).place s f.first f.last i.first i.last (ltb-false 1 (place_count (object_of p o)) e)
 
 -- a box of a list of an object's boxes
 pub box-small-at : (p : ProblemData) (o s : ℕ) (xs : List BoxData) (i : ℕ) (x : BoxData) → HasSmallShapes p → xs ≡ boxes_at p o s → x ≡ get_or xs i x → i < length xs → IsSmallBox x

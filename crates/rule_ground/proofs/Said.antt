@@ -1,15 +1,15 @@
--- A problem has few rules and few objects, and each of these few shapes.
-use Rattle.std.proofs.Common.{◌≡◌, ℕ, ◌<◌, ◌≤◌, true, length, ap, arith}
+-- A problem has few rules and few objects, and each of these few places.
+use Rattle.std.proofs.Common.{◌≡◌, ℕ, ◌<◌, ◌≤◌, true, length, arith}
 use Rattle.std.proofs.Math.Logic.{⊎_elim}
 use Rattle.std.proofs.lemmas.Bool.{cases_lt}
 use Rattle.std.proofs.lemmas.Bool.Decides.{nat_tests}
-use Rattle.std.proofs.lemmas.List.{get_or_past}
-use Rattle.problem_data.specs.Problem.{ObjectData, no_object, ProblemData}
+use Rattle.problem_data.specs.Problem.{no_object, ProblemData}
 use Rattle.problem_data.specs.Tuple.{object_of}
 use Rattle.problem_data.specs.Accepted.{IsSaid}
 use Rattle.problem_data.specs.WellFormed.{IsWellFormed}
 use Rattle.rule_ground.specs.Shapes.{has_several, HasSmallShapes}
-use Rattle.rule_ground.proofs.Settled.{several-there}
+use Rattle.problem_data.specs.Places.{place_count}
+use Rattle.rule_ground.proofs.Settled.{no-places, several-there}
 use Rattle.rule_ground.proofs.Accepted.{accepted-small, accepted-rules}
 
 pub said-small : (p : ProblemData) → IsSaid p → HasSmallShapes p
@@ -18,14 +18,14 @@ said-small p s = accepted-small s.text p s.accepts
 pub said-rules : (p : ProblemData) → IsSaid p → length p.rules ≤ 100
 said-rules p s = accepted-rules s.text p s.accepts
 
-pub few-shapes : (p : ProblemData) (o : ℕ) → IsWellFormed p → length (object_of p o).shapes ≤ 16
-few-shapes p o w = ⊎_elim
+pub few-places : (p : ProblemData) (o : ℕ) → IsWellFormed p → place_count (object_of p o) ≤ 16
+few-places p o w = ⊎_elim
     (λ l. (w.objects o no_object l).few)
-    (λ l. let e : length (object_of p o).shapes ≡ 0 = ap (λ (b : ObjectData). length b.shapes) (get_or_past p.objects o no_object l) in omega arith)
+    (λ l. let e = no-places p o l in omega (arith, e))
     (cases_lt o (length p.objects))
 
-pub small-object : (p : ProblemData) (o n : ℕ) → IsWellFormed p → n ≡ length (object_of p o).shapes → 1 < n → o < 200
+pub small-object : (p : ProblemData) (o n : ℕ) → IsWellFormed p → n ≡ place_count (object_of p o) → 1 < n → o < 200
 small-object p o n w e h =
-    let several : has_several p o ≡ true = (let i : 1 < length (object_of p o).shapes = omega (arith, e, h) in grind (arith, nat_tests)) in
+    let several : has_several p o ≡ true = (let i : 1 < place_count (object_of p o) = omega (arith, e, h) in grind (arith, nat_tests)) in
     let l = several-there p o several in
     omega (arith, l, w.few)

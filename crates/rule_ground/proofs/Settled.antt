@@ -1,9 +1,9 @@
 -- Which shapes are settled where an element is grounded.
-use Rattle.std.proofs.Common.{◌≡◌, ◌≢◌, ℕ, ◌-◌, ◌==◌, ◌<◌, ◌≤◌, eqb, ltb, ◌&&◌, Bool, true, false, cond, List, [], ◌∷◌, length, sym, ap, ◌∙◌, refl, arith, subst, tests}
+use Rattle.std.proofs.Common.{◌≡◌, ◌≢◌, ℕ, ◌-◌, ◌==◌, ◌<◌, ◌≤◌, eqb, ltb, ◌&&◌, ◌+◌, Bool, true, false, not, cond, List, [], ◌∷◌, length, sym, ap, ◌∙◌, refl, arith, subst, tests}
 use Rattle.std.specs.Prelude.{slice_get, None, if◌then◌else◌}
 use Rattle.std.proofs.Math.Logic.{⊎_elim}
 use Rattle.std.proofs.lemmas.Bool.Decides.{nat_tests}
-use Rattle.std.proofs.lemmas.Bool.{cases_lt}
+use Rattle.std.proofs.lemmas.Bool.{cases_lt, false≢true}
 use Rattle.std.proofs.lemmas.List.{get_or_past}
 use Rattle.geo_base.specs.Tuple.{Tuple, spot}
 use Rattle.problem_data.specs.Problem.{ObjectData, no_object, ProblemData}
@@ -17,7 +17,9 @@ use Rattle.linear_conditions.specs.Fixings.{Fixing, fixed_place, place_of}
 use Rattle.rule_values.specs.Shapes.{shape_at}
 use Rattle.linear_conditions.specs.Settled.{Agrees, IsSettled, IsCovered}
 use Rattle.rule_ground.specs.Shapes.{has_several}
-use Rattle.rule_ground.specs.Grounding.{is_open}
+use Rattle.rule_ground.specs.Grounding.{is_open, is_gone, may_go}
+use Rattle.problem_data.specs.Places.{place_count}
+use Rattle.problem_data.specs.Truth.{is_there}
 
 pub left_or : (a b : Bool) → a ≡ true → (cond a true b) ≡ true
 left_or a b h = ap (λ x. cond x true b) h
@@ -30,7 +32,7 @@ narrowed p t fix env asks more h c = record { at = λ s e. c.at s (h s e) }
 pub first-place : (p : ProblemData) (t : Tuple) (o : ℕ) → IsTuple p t → o < length p.objects → 1 ≤ (spot t o).place
 first-place p t o h l = (h.each o l).form.first
 
-pub last-place : (p : ProblemData) (t : Tuple) (o : ℕ) → IsTuple p t → o < length p.objects → (spot t o).place ≤ length (object_of p o).shapes
+pub last-place : (p : ProblemData) (t : Tuple) (o : ℕ) → IsTuple p t → o < length p.objects → (spot t o).place ≤ place_count (object_of p o)
 last-place p t o h l = (h.each o l).form.last
 
 -- an object that is not there has no shape
@@ -41,16 +43,27 @@ none-at : (b : Bool) (xs : List ℕ) (n : ℕ) → xs ≡ [] → (if b then None
 none-at true xs n e = refl
 none-at false xs n e = ap (λ (ys : List ℕ). slice_get ys n) e
 
-pub absent-settled : (p : ProblemData) (t : Tuple) (fix : List Fixing) (o : ℕ) → length p.objects ≤ o → IsSettled p t fix (Object o)
-absent-settled p t fix o h =
+pub missing-settled : (p : ProblemData) (t : Tuple) (fix : List Fixing) (o : ℕ) → length p.objects ≤ o → IsSettled p t fix (Object o)
+missing-settled p t fix o h =
     none-at ((spot t o).place == 0) (object_of p o).shapes ((spot t o).place - 1) (no-shapes p o h)
     ∙ sym (none-at (place_of fix o == 0) (object_of p o).shapes (place_of fix o - 1) (no-shapes p o h))
 
--- an object with several shapes is there
+-- an object that is not there has no place
+pub no-places : (p : ProblemData) (o : ℕ) → length p.objects ≤ o → place_count (object_of p o) ≡ 0
+no-places p o h = ap place_count (get_or_past p.objects o no_object h)
+
+-- an object with several places is there
 pub several-there : (p : ProblemData) (o : ℕ) → has_several p o ≡ true → o < length p.objects
 several-there p o h = ⊎_elim
     (λ l. l)
-    (λ l. absurd (let e : length (object_of p o).shapes ≡ 0 = ap length (no-shapes p o l) in let m : 1 < length (object_of p o).shapes = grind (arith, nat_tests) in omega arith))
+    (λ l. absurd (let e = no-places p o l in let m : 1 < place_count (object_of p o) = grind (arith, nat_tests) in omega (arith, e, m)))
+    (cases_lt o (length p.objects))
+
+-- and so is one that may be absent
+pub may-there : (p : ProblemData) (o : ℕ) → (object_of p o).may_be_absent ≡ true → o < length p.objects
+may-there p o h = ⊎_elim
+    (λ l. l)
+    (λ l. absurd (false≢true (sym (ap (λ (b : ObjectData). b.may_be_absent) (get_or_past p.objects o no_object l)) ∙ h)))
     (cases_lt o (length p.objects))
 
 unsplit-place : (place count fixed : ℕ) (b : Bool) → eqb fixed 0 ≡ b → (ltb 1 count && b) ≡ false → 1 ≤ place → place ≤ count → (fixed ≢ 0 → place ≡ fixed) → place ≡ cond b 1 fixed
@@ -63,9 +76,33 @@ placed-settled p t fix o e = ap (shape_at p o) e
 -- the shape of an object that is not open is settled
 pub closed-settled : (p : ProblemData) (t : Tuple) (fix : List Fixing) (o : ℕ) → IsTuple p t → Agrees t fix → is_open p fix o ≡ false → IsSettled p t fix (Object o)
 closed-settled p t fix o h a e = ⊎_elim
-    (λ l. placed-settled p t fix o (unsplit-place (spot t o).place (length (object_of p o).shapes) (fixed_place fix o) (eqb (fixed_place fix o) 0) refl e (first-place p t o h l) (last-place p t o h l) (a.at o)))
-    (λ l. absent-settled p t fix o l)
+    (λ l. placed-settled p t fix o (unsplit-place (spot t o).place (place_count (object_of p o)) (fixed_place fix o) (eqb (fixed_place fix o) 0) refl e (first-place p t o h l) (last-place p t o h l) (a.at o)))
+    (λ l. missing-settled p t fix o l)
     (cases_lt o (length p.objects))
+
+-- ---- objects that may be absent
+
+absent-by : (may : Bool) (place fixed n : ℕ) → (may && eqb fixed (n + 1)) ≡ true → (fixed ≢ 0 → place ≡ fixed) → not (may && eqb place (n + 1)) ≡ false
+absent-by true place fixed n h a =
+    let f : fixed ≡ n + 1 = grind (arith, tests) in
+    let g : place ≡ n + 1 = a (λ e. absurd (omega (arith, e, f))) ∙ f in
+    ap not (let k : eqb place (n + 1) ≡ true = grind (arith, nat_tests) in k)
+absent-by false place fixed n h a = cc
+
+-- where an object is fixed as absent, it is absent
+pub gone-absent : (p : ProblemData) (t : Tuple) (fix : List Fixing) (o : ℕ) → Agrees t fix → is_gone p fix o ≡ true → is_there p t (Object o) ≡ false
+gone-absent p t fix o a h = absent-by (object_of p o).may_be_absent (spot t o).place (fixed_place fix o) (length (object_of p o).shapes) h (a.at o)
+
+there-by : (may : Bool) (place fixed n : ℕ) (b : Bool) → eqb fixed 0 ≡ b → (may && eqb fixed (n + 1)) ≡ false → (may && b) ≡ false → (fixed ≢ 0 → place ≡ fixed) → not (may && eqb place (n + 1)) ≡ true
+there-by true place fixed n true e h i a = cc
+there-by true place fixed n false e h i a =
+    let f : place ≡ fixed = a (grind (arith, tests)) in
+    ap not (ap (λ m. eqb m (n + 1)) f ∙ h)
+there-by false place fixed n b e h i a = refl
+
+-- where it is not, and cannot be absent any more, it is there
+pub whole-there : (p : ProblemData) (t : Tuple) (fix : List Fixing) (o : ℕ) → Agrees t fix → is_gone p fix o ≡ false → may_go p fix o ≡ false → is_there p t (Object o) ≡ true
+whole-there p t fix o a h i = there-by (object_of p o).may_be_absent (spot t o).place (fixed_place fix o) (length (object_of p o).shapes) (eqb (fixed_place fix o) 0) refl h i (a.at o)
 
 -- ---- one more shape fixed
 

@@ -1,10 +1,8 @@
 -- On every tuple the condition that a formula grounds to is true exactly where the formula holds.
 use Rattle.std.proofs.Common.{◌≡◌, ℕ, zero, suc, ◌+◌, ◌==◌, ◌<◌, ◌≤◌, eqb, leb, ◌&&◌, ◌||◌, Bool, true, false, cond, not, List, [], ◌∷◌, ◌++◌, map, length, pos, ◌+ℤ◌, ◌-ℤ◌, sym, ap, ◌∙◌, refl, arith, subst, tests}
-use Rattle.std.specs.List.{list_all, list_any, count_by, range_with_len}
+use Rattle.std.specs.List.{filter, list_all, list_any, count_by, range_with_len}
 use Rattle.std.proofs.lemmas.Bool.Decides.{nat_tests}
-use Rattle.std.proofs.lemmas.Bool.{false≢true}
 use Rattle.std.proofs.lemmas.Int.{ints}
-use Rattle.std.proofs.lemmas.List.Sums.{sum_by-cons}
 use Rattle.std.specs.Option.{option_map_or}
 use lib.Signed.{le_z}
 use Rattle.geo_base.specs.Tuple.{Tuple, spot}
@@ -22,22 +20,26 @@ use Rattle.rule_expand.specs.Plain.{PlainCollTree, all_objects, listed, boxes_of
 use Rattle.rule_expand.specs.PlainTruth.{PlainEnv, set_variable, subject_in, plain_value, plain_holds, plain_all, plain_some, plain_elements}
 use Rattle.rule_expand.specs.Degree.{expr_breaks, formula_breaks, formulas_break}
 use Rattle.linear_conditions.specs.CondTree.{CondTree, shape_is, shape_is_not, true_on}
-use Rattle.linear_conditions.specs.Fixings.{Fixing, place_of}
+use Rattle.linear_conditions.specs.Fixings.{Fixing, fixed_place, place_of}
 use Rattle.linear_conditions.specs.Settled.{Agrees, IsSettled, IsCovered, signed, same_subject, expr_needs}
 use Rattle.linear_conditions.specs.Leaves.{under}
-use Rattle.linear_conditions.specs.Folding.{certain, joined, decides}
-use Rattle.linear_conditions.specs.Counts.{Counts, Outcome, OnDone}
+use Rattle.linear_conditions.specs.Folding.{certain, fold_count, joined, decides}
+use Rattle.linear_conditions.specs.Counts.{Counts, Outcome, Done, OnDone, and_then, within_limits, one_leaf}
 use Rattle.linear_conditions.proofs.Counting.{counted, fold-count, certain-true}
 use Rattle.linear_conditions.proofs.Junctions.{junction, joint, joined-true, decided, junction-decided, junction-unit, junction_join}
 use Rattle.linear_conditions.proofs.Outcomes.{on_done, on_then, on_any, on_either}
 use Rattle.linear_conditions.proofs.Compared.{compare-true, under-compare}
-use Rattle.rule_ground.specs.Shapes.{places}
-use Rattle.rule_ground.specs.Grounding.{coll_needs, needs, some_needs, Element, whole, split, is_open, things_of, element_of, elements_of, gather, alone, in_turn, manner, body_sign, quantifier_node, Body, shape_child, ground_place, ground_places, grouped, ground_element, ground_elements, ground, ground_operands}
+use Rattle.problem_data.specs.Places.{place_count, absent_place}
+use Rattle.problem_data.specs.Truth.{is_there}
+use Rattle.rule_expand.specs.PlainTruth.{plain_candidates}
+use Rattle.rule_ground.specs.Shapes.{has_several}
+use Rattle.rule_ground.specs.Grounding.{coll_needs, needs, some_needs, Element, whole, split, optional, gone, is_open, is_gone, may_go, things_of, element_of, elements_of, gather, alone, in_turn, manner, body_sign, quantifier_node, Body, absent_truth, shape_child, optional_child, ground_place, ground_places, ground_group, ground_split, ground_element, ground_elements, ground, ground_operands}
 use Rattle.rule_ground.specs.declared.quantifiers.Manner.{Manner}
-use Rattle.rule_ground.specs.declared.quantifiers.Manner.TheVariants.{All, One, Counted}
+use Rattle.rule_ground.specs.declared.quantifiers.Manner.TheVariants.{All, One, Holding, Failing}
 use Rattle.rule_values.specs.Elements.{object_in}
 use Rattle.rule_values.specs.Shapes.{boxes_at}
-use Rattle.rule_ground.proofs.Settled.{narrowed, first-place, last-place, several-there, closed-settled, fixed, here, agrees-more, covered-more, covered-bound}
+use Rattle.rule_ground.proofs.Settled.{narrowed, first-place, last-place, several-there, closed-settled, gone-absent, whole-there, fixed, here, agrees-more, covered-more, covered-bound}
+use Rattle.rule_ground.proofs.Present.{due, count-more, all-present, some-present, holding-present, failing-present}
 
 -- ---- several steps one after another
 
@@ -69,7 +71,7 @@ junction-assoc true false b c = refl
 junction-assoc false true b c = refl
 junction-assoc false false b c = refl
 
-junction-all : (all a : Bool) → junction all a all ≡ a
+pub junction-all : (all a : Bool) → junction all a all ≡ a
 junction-all true true = refl
 junction-all true false = refl
 junction-all false true = refl
@@ -89,7 +91,8 @@ counted-append t (b ∷ bs) cs = omega (arith, counted-append t bs cs)
 abbrev all_in : Manner → Bool
 all_in All = true
 all_in One = false
-all_in Counted = false
+all_in Holding = false
+all_in Failing = false
 
 two_some : (b c : Bool) → leb 1 (count b + (count c + 0)) ≡ (b || c)
 two_some true true = refl
@@ -111,10 +114,14 @@ along : (e b : Bool) → (e && b) ≡ cond e b false
 along true b = refl
 along false b = refl
 
+both-true : (t : Tuple) (o s : ℕ) (c : CondTree) → true_on t (fold_count (pos 2) (shape_is o s ∷ (c ∷ []))) ≡ cond ((spot t o).place == s) (true_on t c) false
+both-true t o s c = fold-count t (pos 2) (shape_is o s ∷ (c ∷ [])) ∙ two_both ((spot t o).place == s) (true_on t c) ∙ along ((spot t o).place == s) (true_on t c)
+
 child-true : (m : Manner) (t : Tuple) (o s : ℕ) (c : CondTree) → true_on t (shape_child m o s c) ≡ cond ((spot t o).place == s) (true_on t c) (all_in m)
 child-true All t o s c = fold-count t (pos 1) (shape_is_not o s ∷ (c ∷ [])) ∙ two_some (not ((spot t o).place == s)) (true_on t c) ∙ unless ((spot t o).place == s) (true_on t c)
-child-true One t o s c = fold-count t (pos 2) (shape_is o s ∷ (c ∷ [])) ∙ two_both ((spot t o).place == s) (true_on t c) ∙ along ((spot t o).place == s) (true_on t c)
-child-true Counted t o s c = fold-count t (pos 2) (shape_is o s ∷ (c ∷ [])) ∙ two_both ((spot t o).place == s) (true_on t c) ∙ along ((spot t o).place == s) (true_on t c)
+child-true One t o s c = both-true t o s c
+child-true Holding t o s c = both-true t o s c
+child-true Failing t o s c = both-true t o s c
 
 -- the children of some places together, where the body's truth is b
 abbrev meant_at : Bool → Bool → ℕ → List ℕ → Bool
@@ -127,6 +134,12 @@ place-below all b place a (suc n) h =
     let e : eqb place a ≡ false = grind (arith, nat_tests) in
     junction_join all _ _ _ _ (ap (λ x. cond x b all) e) (place-below all b place (a + 1) n (omega arith)) ∙ junction-all all all
 
+place-past : (all b : Bool) (place a n : ℕ) → a + n ≤ place → meant_at all b place (range_with_len a n) ≡ all
+place-past all b place a zero h = refl
+place-past all b place a (suc n) h =
+    let e : eqb place a ≡ false = grind (arith, nat_tests) in
+    junction_join all _ _ _ _ (ap (λ x. cond x b all) e) (place-past all b place (a + 1) n (omega (arith, h))) ∙ junction-all all all
+
 place-among : (all b : Bool) (place a n : ℕ) (e : Bool) → eqb place a ≡ e → a ≤ place → place < a + n → meant_at all b place (range_with_len a n) ≡ b
 place-among all b place a zero e k h i = absurd (omega arith)
 place-among all b place a (suc n) true k h i =
@@ -136,101 +149,210 @@ place-among all b place a (suc n) false k h i =
     let f : a < place = (let g : place ≡ a → ⊥ = grind (arith, tests) in omega arith) in
     junction_join all _ _ _ _ (ap (λ x. cond x b all) k) (place-among all b place (a + 1) n (eqb place (a + 1)) refl (omega arith) (omega arith)) ∙ junction-unit all b
 
+-- the first n places: they are as the body where the tuple's place is one of them
+places-meant : (all b : Bool) (place n : ℕ) (e : Bool) → leb place n ≡ e → 1 ≤ place → meant_at all b place (range_with_len 1 n) ≡ cond e b all
+places-meant all b place n true e h = place-among all b place 1 n (eqb place 1) refl h (let l : place ≤ n = grind (arith, nat_tests) in omega (arith, l))
+places-meant all b place n false e h = place-past all b place 1 n (let l : n < place = grind (arith, nat_tests) in omega (arith, l))
+
 -- ---- elements
 
 abbrev pub thing_of : Element → Thing
 thing_of (whole x) = x
 thing_of (split o) = Object o
+thing_of (optional o) = Object o
+thing_of (gone o) = Object o
 
--- what is known of the body at an element: at a split with the tuple's own place
+-- the body at the tuple's own place of an object
+abbrev pub GoesAt : Tuple → List Fixing → Body → ℕ → Bool → Type 0
+GoesAt t fix body o b = (s : ℕ) → (spot t o).place ≡ s → (k : Counts) → OnDone CondTree (body (Object o) (fixed o s fix) k) (λ c. true_on t c ≡ b)
+
+-- what is known of an element, and of the body at it
 abbrev pub Goes : ProblemData → Tuple → (Thing → Bool) → List Fixing → Body → Element → Type 0
-Goes p t h fix body (whole x) = (k : Counts) → OnDone CondTree (body x fix k) (λ c. true_on t c ≡ h x)
-Goes p t h fix body (split o) =
-    (1 ≤ (spot t o).place) × ((spot t o).place ≤ length (object_of p o).shapes)
-    × ((s : ℕ) → (spot t o).place ≡ s → (k : Counts) → OnDone CondTree (body (Object o) (fixed o s fix) k) (λ c. true_on t c ≡ h (Object o)))
+Goes p t h fix body (whole x) = (is_there p t x ≡ true) × ((k : Counts) → OnDone CondTree (body x fix k) (λ c. true_on t c ≡ h x))
+Goes p t h fix body (split o) = (1 ≤ (spot t o).place) × ((spot t o).place ≤ place_count (object_of p o)) × GoesAt t fix body o (h (Object o))
+Goes p t h fix body (optional o) = ((object_of p o).may_be_absent ≡ true) × ((k : Counts) → OnDone CondTree (body (Object o) fix k) (λ c. true_on t c ≡ h (Object o)))
+Goes p t h fix body (gone o) = is_there p t (Object o) ≡ false
 
--- what the children of an element say, where the body's truth is b
+-- what the children of an element say, where they have to be b
 abbrev pub Stands : Manner → Tuple → Bool → List CondTree → Type 0
 Stands All t b cs = joint true t cs ≡ b
 Stands One t b cs = joint false t cs ≡ b
-Stands Counted t b cs = counted t cs ≡ count b
+Stands Holding t b cs = counted t cs ≡ count b
+Stands Failing t b cs = counted t cs ≡ count b
 
 -- what the children of all elements say
 abbrev pub AllStand : Manner → Tuple → (Thing → Bool) → List Element → List CondTree → Type 0
 AllStand All t h xs cs = joint true t cs ≡ list_all h (map thing_of xs)
 AllStand One t h xs cs = joint false t cs ≡ list_any h (map thing_of xs)
-AllStand Counted t h xs cs = counted t cs ≡ count_by h (map thing_of xs)
+AllStand Holding t h xs cs = counted t cs ≡ count_by h (map thing_of xs)
+AllStand Failing t h xs cs = counted t cs ≡ count_by h (map thing_of xs)
 
-place-at : (p : ProblemData) (m : Manner) (t : Tuple) (h : Thing → Bool) (fix : List Fixing) (body : Body) (o s : ℕ) (e : Bool) → eqb (spot t o).place s ≡ e →
-    Goes p t h fix body (split o) → (k : Counts) →
-    OnDone CondTree (ground_place body m fix o s k) (λ c. true_on t c ≡ cond e (h (Object o)) (all_in m))
-place-at p m t h fix body o s true e g k =
+place-at : (m : Manner) (t : Tuple) (fix : List Fixing) (body : Body) (o s : ℕ) (b e : Bool) → eqb (spot t o).place s ≡ e → GoesAt t fix body o b → (k : Counts) →
+    OnDone CondTree (ground_place body m fix o s k) (λ c. true_on t c ≡ cond e b (all_in m))
+place-at m t fix body o s b true e g k =
     on_any Counts CondTree _ _ _ (λ k' j.
-    on_then CondTree CondTree _ _ _ _ (g.2 s (grind (arith, tests)) k') (λ c i q.
-    on_done CondTree (shape_child m o s c) _ _ (child-true m t o s c ∙ ap (λ b. cond b (true_on t c) (all_in m)) e ∙ q)))
-place-at p m t h fix body o s false e g k =
+    on_then CondTree CondTree _ _ _ _ (g s (grind (arith, tests)) k') (λ c i q.
+    on_done CondTree (shape_child m o s c) _ _ (child-true m t o s c ∙ ap (λ x. cond x (true_on t c) (all_in m)) e ∙ q)))
+place-at m t fix body o s b false e g k =
     on_any Counts CondTree _ _ _ (λ k' j.
     on_any CondTree CondTree _ _ _ (λ c i.
-    on_done CondTree (shape_child m o s c) _ _ (child-true m t o s c ∙ ap (λ b. cond b (true_on t c) (all_in m)) e)))
+    on_done CondTree (shape_child m o s c) _ _ (child-true m t o s c ∙ ap (λ x. cond x (true_on t c) (all_in m)) e)))
 
-place-alone : (p : ProblemData) (m : Manner) (t : Tuple) (h : Thing → Bool) (fix : List Fixing) (body : Body) (o s : ℕ) → Goes p t h fix body (split o) → (k : Counts) →
-    OnDone (List CondTree) (alone (ground_place body m fix o s k)) (λ cs. joint (all_in m) t cs ≡ cond ((spot t o).place == s) (h (Object o)) (all_in m))
-place-alone p m t h fix body o s g k =
-    on_then CondTree (List CondTree) _ _ _ _ (place-at p m t h fix body o s (eqb (spot t o).place s) refl g k) (λ c i q.
+place-alone : (m : Manner) (t : Tuple) (fix : List Fixing) (body : Body) (o s : ℕ) (b : Bool) → GoesAt t fix body o b → (k : Counts) →
+    OnDone (List CondTree) (alone (ground_place body m fix o s k)) (λ cs. joint (all_in m) t cs ≡ cond ((spot t o).place == s) b (all_in m))
+place-alone m t fix body o s b g k =
+    on_then CondTree (List CondTree) _ _ _ _ (place-at m t fix body o s b (eqb (spot t o).place s) refl g k) (λ c i q.
     on_done (List CondTree) (c ∷ []) i _ (junction-all (all_in m) (true_on t c) ∙ q))
 
--- all places of an object
-split-at : (p : ProblemData) (m : Manner) (t : Tuple) (h : Thing → Bool) (fix : List Fixing) (body : Body) (o : ℕ) → Goes p t h fix body (split o) → (k : Counts) →
-    OnDone (List CondTree) (ground_places p body m fix o k) (λ cs. joint (all_in m) t cs ≡ h (Object o))
-split-at p m t h fix body o g k =
+-- the first n places of an object
+pub places-at : (m : Manner) (t : Tuple) (fix : List Fixing) (body : Body) (o n : ℕ) (b : Bool) → 1 ≤ (spot t o).place → GoesAt t fix body o b → (k : Counts) →
+    OnDone (List CondTree) (ground_places body m fix o (range_with_len 1 n) k) (λ cs. joint (all_in m) t cs ≡ cond (leb (spot t o).place n) b (all_in m))
+places-at m t fix body o n b first g k =
     let place = (spot t o).place in
-    let w : OnDone (List CondTree) (ground_places p body m fix o k) (λ cs. joint (all_in m) t cs ≡ meant_at (all_in m) (h (Object o)) place (places p o)) =
-    gather-on (λ s j. alone (ground_place body m fix o s j)) (λ ss cs. joint (all_in m) t cs ≡ meant_at (all_in m) (h (Object o)) place ss) (λ s cs. joint (all_in m) t cs ≡ cond (place == s) (h (Object o)) (all_in m)) refl
+    let w : OnDone (List CondTree) (ground_places body m fix o (range_with_len 1 n) k) (λ cs. joint (all_in m) t cs ≡ meant_at (all_in m) b place (range_with_len 1 n)) =
+    gather-on (λ s j. alone (ground_place body m fix o s j)) (λ ss cs. joint (all_in m) t cs ≡ meant_at (all_in m) b place ss) (λ s cs. joint (all_in m) t cs ≡ cond (place == s) b (all_in m)) refl
     (λ s ss bs cs q r. joint-append (all_in m) t bs cs ∙ junction_join (all_in m) _ _ _ _ q r)
-    (places p o) (each-of (λ s. (j : Counts) → OnDone (List CondTree) (alone (ground_place body m fix o s j)) (λ cs. joint (all_in m) t cs ≡ cond (place == s) (h (Object o)) (all_in m))) (places p o) (λ s j. place-alone p m t h fix body o s g j)) k in
-    record { get = λ cs j e. w.get cs j e ∙ place-among (all_in m) (h (Object o)) place 1 (length (object_of p o).shapes) (eqb place 1) refl g.0 (let a = g.1 in omega arith) }
+    (range_with_len 1 n) (each-of (λ s. (j : Counts) → OnDone (List CondTree) (alone (ground_place body m fix o s j)) (λ cs. joint (all_in m) t cs ≡ cond (place == s) b (all_in m))) (range_with_len 1 n) (λ s j. place-alone m t fix body o s b g j)) k in
+    record { get = λ cs j e. w.get cs j e ∙ places-meant (all_in m) b place n (leb place n) refl first }
 
 one-stands : (m : Manner) (t : Tuple) (b : Bool) (c : CondTree) → true_on t c ≡ b → Stands m t b (c ∷ [])
 one-stands All t b c e = junction-all true (true_on t c) ∙ e
 one-stands One t b c e = junction-all false (true_on t c) ∙ e
-one-stands Counted t b c e = let f = ap count e in omega (arith, f)
+one-stands Holding t b c e = let f = ap count e in omega (arith, f)
+one-stands Failing t b c e = let f = ap count e in omega (arith, f)
 
-grouped-stands : (m : Manner) (t : Tuple) (b : Bool) (cs : List CondTree) → joint (all_in m) t cs ≡ b → Stands m t b (grouped m cs)
-grouped-stands All t b cs e = e
-grouped-stands One t b cs e = e
-grouped-stands Counted t b cs e = one-stands Counted t b (joined false cs) (joined-true false t cs ∙ e)
+alone-stands : (m : Manner) (t : Tuple) (b : Bool) (o : Outcome CondTree) → OnDone CondTree o (λ c. true_on t c ≡ b) → OnDone (List CondTree) (alone o) (Stands m t b)
+alone-stands m t b o h = on_then CondTree (List CondTree) _ _ _ _ h (λ c i q. on_done (List CondTree) (c ∷ []) i _ (one-stands m t b c q))
+
+weaker : (t : Tuple) (o : Outcome CondTree) (a b : Bool) → a ≡ b → OnDone CondTree o (λ c. true_on t c ≡ a) → OnDone CondTree o (λ c. true_on t c ≡ b)
+weaker t o a b e h = record { get = λ c k i. h.get c k i ∙ e }
+
+-- ---- an object that may be absent
+
+optional-true : (m : Manner) (t : Tuple) (o s : ℕ) (c : CondTree) → true_on t (optional_child m o s c) ≡ cond ((spot t o).place == s) (absent_truth m) (true_on t c)
+optional-true m t o s c = by_truth (absent_truth m)
+  where
+    either : (e b : Bool) → (e || b) ≡ cond e true b
+    either true b = refl
+    either false b = refl
+
+    neither_one : (e b : Bool) → (not e && b) ≡ cond e false b
+    neither_one true b = refl
+    neither_one false b = refl
+
+    by_truth : (a : Bool) → true_on t (cond a (fold_count (pos 1) (shape_is o s ∷ (c ∷ []))) (fold_count (pos 2) (shape_is_not o s ∷ (c ∷ [])))) ≡ cond ((spot t o).place == s) a (true_on t c)
+    by_truth true = fold-count t (pos 1) (shape_is o s ∷ (c ∷ [])) ∙ two_some ((spot t o).place == s) (true_on t c) ∙ either ((spot t o).place == s) (true_on t c)
+    by_truth false = fold-count t (pos 2) (shape_is_not o s ∷ (c ∷ [])) ∙ two_both (not ((spot t o).place == s)) (true_on t c) ∙ neither_one ((spot t o).place == s) (true_on t c)
+
+-- what its child has to be, where it may be absent
+optional-due : (may e a b : Bool) → may ≡ true → cond e a b ≡ cond (not (may && e)) b a
+optional-due true true a b h = refl
+optional-due true false a b h = refl
+optional-due false e a b h = cc
+
+-- of its shapes one is the tuple's, or it is absent
+pub shape-there : (may : Bool) (place n : ℕ) → place ≤ n + cond may 1 0 → leb place n ≡ not (may && eqb place (n + 1))
+shape-there true place n h = grind (arith, nat_tests)
+shape-there false place n h = grind (arith, nat_tests)
+
+or-false : (x : Bool) → (x || false) ≡ x
+or-false true = refl
+or-false false = refl
+
+-- the shapes together, and the absence, where that counts
+group-due : (may a b : Bool) (place n : ℕ) (e : Bool) → leb place n ≡ e → place ≤ n + cond may 1 0 → (cond e b false || ((a && may) && eqb place (n + 1))) ≡ cond e b a
+group-due may a b place n true e h =
+    let f : eqb place (n + 1) ≡ false = grind (arith, nat_tests) in
+    ap (λ x. b || ((a && may) && x)) f ∙ ap (λ x. b || x) (none (a && may)) ∙ or-false b
+  where
+    none : (x : Bool) → (x && false) ≡ false
+    none true = refl
+    none false = refl
+group-due true a b place n false e h =
+    let f : eqb place (n + 1) ≡ true = grind (arith, nat_tests) in
+    ap (λ x. (a && true) && x) f ∙ all (a && true) ∙ all a
+  where
+    all : (x : Bool) → (x && true) ≡ x
+    all true = refl
+    all false = refl
+group-due false a b place n false e h = absurd (let f : n < place = grind (arith, nat_tests) in omega (arith, f, h))
+
+absence-on : (p : ProblemData) (t : Tuple) (o : ℕ) (cs : List CondTree) (k : Counts) (b : Bool) → let s = absent_place (object_of p o) in
+    OnDone (List CondTree) (cond b (and_then Counts (List CondTree) (within_limits (one_leaf k)) (λ k' same. Done (cs ++ (shape_is o s ∷ [])) k')) (Done cs k))
+    (λ ds. joint false t ds ≡ (joint false t cs || (b && eqb (spot t o).place s)))
+absence-on p t o cs k true =
+    let s = absent_place (object_of p o) in
+    on_any Counts (List CondTree) _ _ _ (λ k' j. on_done (List CondTree) (cs ++ (shape_is o s ∷ [])) _ _
+    (joint-append false t cs (shape_is o s ∷ []) ∙ ap (λ x. joint false t cs || x) (or-false (eqb (spot t o).place s))))
+absence-on p t o cs k false = on_done (List CondTree) cs k _ (sym (or-false (joint false t cs)))
+
+module _ (p : ProblemData) (t : Tuple) (h : Thing → Bool) (fix : List Fixing) (body : Body) (o : ℕ) (g : Goes p t h fix body (split o)) where
+  -- what the children of an absent object, or of one that is there, have to be
+  wanted : Manner → Bool
+  wanted m = due (is_there p t) (absent_truth m) h (Object o)
+
+  group-true : (m : Manner) → all_in m ≡ false → (k : Counts) → OnDone CondTree (ground_group p body m fix o k) (λ c. true_on t c ≡ due (is_there p t) (absent_truth m) h (Object o))
+  group-true m none k =
+      let place = (spot t o).place in
+      let n = length (object_of p o).shapes in
+      let may = (object_of p o).may_be_absent in
+      on_then (List CondTree) CondTree _ _ _ _ (places-at m t fix body o n (h (Object o)) g.0 g.2 k) (λ cs j q.
+      on_then (List CondTree) CondTree _ _ _ _ (absence-on p t o cs j (absent_truth m && may)) (λ ds i r.
+      on_done CondTree (joined false ds) i _
+      (joined-true false t ds ∙ r ∙ ap (λ x. x || ((absent_truth m && may) && eqb place (n + 1))) (subst (λ (a : Bool). joint a t cs ≡ cond (leb place n) (h (Object o)) a) none q)
+      ∙ group-due may (absent_truth m) (h (Object o)) place n (leb place n) refl g.1
+      ∙ ap (λ x. cond x (h (Object o)) (absent_truth m)) (shape-there may place n g.1))))
+
+  split-stands : (m : Manner) (k : Counts) → OnDone (List CondTree) (ground_split p body m fix o k) (Stands m t (due (is_there p t) (absent_truth m) h (Object o)))
+  split-stands All k =
+      let w = places-at All t fix body o (length (object_of p o).shapes) (h (Object o)) g.0 g.2 k in
+      record { get = λ cs j e. w.get cs j e ∙ ap (λ x. cond x (h (Object o)) true) (shape-there (object_of p o).may_be_absent (spot t o).place (length (object_of p o).shapes) g.1) }
+  split-stands One k =
+      let w = places-at One t fix body o (length (object_of p o).shapes) (h (Object o)) g.0 g.2 k in
+      record { get = λ cs j e. w.get cs j e ∙ ap (λ x. cond x (h (Object o)) false) (shape-there (object_of p o).may_be_absent (spot t o).place (length (object_of p o).shapes) g.1) }
+  split-stands Holding k = alone-stands Holding t _ _ (group-true Holding refl k)
+  split-stands Failing k = alone-stands Failing t _ _ (group-true Failing refl k)
 
 pub element-stands : (p : ProblemData) (m : Manner) (t : Tuple) (h : Thing → Bool) (fix : List Fixing) (body : Body) (x : Element) → Goes p t h fix body x → (k : Counts) →
-    OnDone (List CondTree) (ground_element p body m fix x k) (Stands m t (h (thing_of x)))
+    OnDone (List CondTree) (ground_element p body m fix x k) (Stands m t (due (is_there p t) (absent_truth m) h (thing_of x)))
 element-stands p m t h fix body (whole x) g k =
-    on_any Counts (List CondTree) _ _ _ (λ k' j.
-    on_then CondTree (List CondTree) _ _ _ _ (g k') (λ c i q. on_done (List CondTree) (c ∷ []) i _ (one-stands m t (h x) c q)))
-element-stands p m t h fix body (split o) g k =
-    on_then (List CondTree) (List CondTree) _ _ _ _ (split-at p m t h fix body o g k) (λ cs i q. on_done (List CondTree) (grouped m cs) i _ (grouped-stands m t (h (Object o)) cs q))
-
-count-more : (h : Thing → Bool) (x : Thing) (xs : List Thing) → count_by h (x ∷ xs) ≡ count (h x) + count_by h xs
-count-more h x xs = sum_by-cons (λ y. cond (h y) 1 0) x xs ∙ ap (λ n. n + count_by h xs) (as-count (h x))
-  where
-    as-count : (b : Bool) → cond b 1 0 ≡ count b
-    as-count true = refl
-    as-count false = refl
+    alone-stands m t _ _ (on_any Counts CondTree _ _ _ (λ k' j. weaker t (body x fix k') _ _ (sym (ap (λ b. cond b (h x) (absent_truth m)) g.0)) (g.1 k')))
+element-stands p m t h fix body (split o) g k = split-stands p t h fix body o g m k
+element-stands p m t h fix body (optional o) g k =
+    let s = absent_place (object_of p o) in
+    alone-stands m t _ _
+    (on_any Counts CondTree _ _ _ (λ k' j.
+    on_then CondTree CondTree _ _ _ _ (g.1 k') (λ c i q.
+    on_done CondTree (optional_child m o s c) _ _
+    (optional-true m t o s c ∙ ap (λ x. cond (eqb (spot t o).place s) (absent_truth m) x) q
+    ∙ optional-due (object_of p o).may_be_absent (eqb (spot t o).place s) (absent_truth m) (h (Object o)) g.0))))
+element-stands p m t h fix body (gone o) g k =
+    alone-stands m t _ _
+    (on_any Counts CondTree _ _ _ (λ k' j.
+    on_done CondTree (certain (absent_truth m)) _ _ (certain-true t (absent_truth m) ∙ sym (ap (λ b. cond b (h (Object o)) (absent_truth m)) g))))
 
 stands-none : (m : Manner) (t : Tuple) (h : Thing → Bool) → AllStand m t h [] []
 stands-none All t h = refl
 stands-none One t h = refl
-stands-none Counted t h = refl
+stands-none Holding t h = refl
+stands-none Failing t h = refl
+
+counts-more : (t : Tuple) (h : Thing → Bool) (x : Element) (xs : List Element) (bs cs : List CondTree) → counted t bs ≡ count (h (thing_of x)) → counted t cs ≡ count_by h (map thing_of xs) → counted t (bs ++ cs) ≡ count_by h (map thing_of (x ∷ xs))
+counts-more t h x xs bs cs q r = counted-append t bs cs ∙ ap (λ n. n + counted t cs) q ∙ ap (λ n. count (h (thing_of x)) + n) r ∙ sym (count-more h (thing_of x) (map thing_of xs))
 
 stands-more : (m : Manner) (t : Tuple) (h : Thing → Bool) (x : Element) (xs : List Element) (bs cs : List CondTree) → Stands m t (h (thing_of x)) bs → AllStand m t h xs cs → AllStand m t h (x ∷ xs) (bs ++ cs)
 stands-more All t h x xs bs cs q r = joint-append true t bs cs ∙ junction_join true _ _ _ _ q r
 stands-more One t h x xs bs cs q r = joint-append false t bs cs ∙ junction_join false _ _ _ _ q r
-stands-more Counted t h x xs bs cs q r = counted-append t bs cs ∙ ap (λ n. n + counted t cs) q ∙ ap (λ n. count (h (thing_of x)) + n) r ∙ sym (count-more h (thing_of x) (map thing_of xs))
+stands-more Holding t h x xs bs cs q r = counts-more t h x xs bs cs q r
+stands-more Failing t h x xs bs cs q r = counts-more t h x xs bs cs q r
 
 pub elements-stand : (p : ProblemData) (m : Manner) (t : Tuple) (h : Thing → Bool) (fix : List Fixing) (body : Body) (xs : List Element) → Each (Goes p t h fix body) xs → (k : Counts) →
-    OnDone (List CondTree) (ground_elements p body m fix xs k) (AllStand m t h xs)
+    OnDone (List CondTree) (ground_elements p body m fix xs k) (AllStand m t (due (is_there p t) (absent_truth m) h) xs)
 elements-stand p m t h fix body xs g k =
-    gather-on (ground_element p body m fix) (AllStand m t h) (λ x. Stands m t (h (thing_of x))) (stands-none m t h) (stands-more m t h) xs (each-goes xs g) k
+    let d = due (is_there p t) (absent_truth m) h in
+    gather-on (ground_element p body m fix) (AllStand m t d) (λ x. Stands m t (d (thing_of x))) (stands-none m t d) (stands-more m t d) xs (each-goes xs g) k
   where
-    each-goes : (ys : List Element) → Each (Goes p t h fix body) ys → Each (λ x. (j : Counts) → OnDone (List CondTree) (ground_element p body m fix x j) (Stands m t (h (thing_of x)))) ys
+    each-goes : (ys : List Element) → Each (Goes p t h fix body) ys → Each (λ x. (j : Counts) → OnDone (List CondTree) (ground_element p body m fix x j) (Stands m t (due (is_there p t) (absent_truth m) h (thing_of x)))) ys
     each-goes [] d = tt
     each-goes (y ∷ ys) d = ((λ j. element-stands p m t h fix body y d.0 j), each-goes ys d.1)
 
@@ -252,17 +374,6 @@ not-any h (x ∷ xs) = ap (λ y. not (h x) && y) (not-any h xs) ∙ and_nots (h 
     and_nots true b = refl
     and_nots false b = refl
 
-one-more : (b : Bool) (n m l : ℕ) → n + m ≡ l → (count (not b) + n) + (count b + m) ≡ suc l
-one-more true n m l e = omega arith
-one-more false n m l e = omega arith
-
-count-rest : (h : Thing → Bool) (xs : List Thing) → count_by (λ x. not (h x)) xs + count_by h xs ≡ length xs
-count-rest h [] = refl
-count-rest h (x ∷ xs) =
-    ap (λ n. n + count_by h (x ∷ xs)) (count-more (λ y. not (h y)) x xs)
-    ∙ ap (λ n. (count (not (h x)) + count_by (λ y. not (h y)) xs) + n) (count-more h x xs)
-    ∙ one-more (h x) (count_by (λ y. not (h y)) xs) (count_by h xs) (length xs) (count-rest h xs)
-
 not-at_least : (m n r c : ℕ) → r + c ≡ m → le_z ((pos m -ℤ pos n) +ℤ pos 1) (pos r) ≡ not (leb n c)
 not-at_least m n r c e = grind (arith, nat_tests, ints)
 
@@ -276,30 +387,38 @@ map-length : (xs : List Element) → length xs ≡ length (map thing_of xs)
 map-length [] = refl
 map-length (x ∷ xs) = ap suc (map-length xs)
 
-pub quantifier-true : (kind : QuantKind) (sign : Bool) (t : Tuple) (h : Thing → Bool) (xs : List Element) (cs : List CondTree) → AllStand (manner kind sign) t (λ x. signed (body_sign kind sign) (h x)) xs cs →
-    true_on t (quantifier_node kind sign (length xs) cs) ≡ signed sign (quantify kind h (map thing_of xs))
-quantifier-true ForAll true t h xs cs e = joined-true true t cs ∙ e
-quantifier-true ForAll false t h xs cs e = joined-true false t cs ∙ e ∙ not-all h (map thing_of xs)
-quantifier-true Exists true t h xs cs e = joined-true false t cs ∙ e
-quantifier-true Exists false t h xs cs e = joined-true true t cs ∙ e ∙ not-any h (map thing_of xs)
-quantifier-true (AtLeast n) true t h xs cs e = fold-count t (pos n) cs ∙ ap (λ m. leb n m) e
-quantifier-true (AtLeast n) false t h xs cs e =
+pub quantifier-true : (kind : QuantKind) (sign : Bool) (p : ProblemData) (t : Tuple) (h : Thing → Bool) (xs : List Element) (cs : List CondTree) →
+    AllStand (manner kind sign) t (due (is_there p t) (absent_truth (manner kind sign)) (λ x. signed (body_sign kind sign) (h x))) xs cs →
+    true_on t (quantifier_node kind sign (length xs) cs) ≡ signed sign (quantify kind h (filter (is_there p t) (map thing_of xs)))
+quantifier-true ForAll true p t h xs cs e = joined-true true t cs ∙ e ∙ all-present (is_there p t) h (map thing_of xs)
+quantifier-true ForAll false p t h xs cs e =
+    joined-true false t cs ∙ e ∙ some-present (is_there p t) (λ x. not (h x)) (map thing_of xs) ∙ not-all h (filter (is_there p t) (map thing_of xs))
+quantifier-true Exists true p t h xs cs e = joined-true false t cs ∙ e ∙ some-present (is_there p t) h (map thing_of xs)
+quantifier-true Exists false p t h xs cs e =
+    joined-true true t cs ∙ e ∙ all-present (is_there p t) (λ x. not (h x)) (map thing_of xs) ∙ not-any h (filter (is_there p t) (map thing_of xs))
+quantifier-true (AtLeast n) true p t h xs cs e = fold-count t (pos n) cs ∙ ap (λ m. leb n m) (e ∙ holding-present (is_there p t) h (map thing_of xs))
+quantifier-true (AtLeast n) false p t h xs cs e =
+    let failing = count_by (due (is_there p t) true (λ x. not (h x))) (map thing_of xs) in
     fold-count t ((pos (length xs) -ℤ pos n) +ℤ pos 1) cs ∙ ap (λ m. le_z ((pos (length xs) -ℤ pos n) +ℤ pos 1) (pos m)) e
-    ∙ not-at_least (length xs) n (count_by (λ x. not (h x)) (map thing_of xs)) (count_by h (map thing_of xs)) (count-rest h (map thing_of xs) ∙ sym (map-length xs))
-quantifier-true (AtMost n) true t h xs cs e =
+    ∙ not-at_least (length xs) n failing (count_by h (filter (is_there p t) (map thing_of xs))) (failing-present (is_there p t) h (map thing_of xs) ∙ sym (map-length xs))
+quantifier-true (AtMost n) true p t h xs cs e =
+    let failing = count_by (due (is_there p t) true (λ x. not (h x))) (map thing_of xs) in
     fold-count t (pos (length xs) -ℤ pos n) cs ∙ ap (λ m. le_z (pos (length xs) -ℤ pos n) (pos m)) e
-    ∙ at_most (length xs) n (count_by (λ x. not (h x)) (map thing_of xs)) (count_by h (map thing_of xs)) (count-rest h (map thing_of xs) ∙ sym (map-length xs))
-quantifier-true (AtMost n) false t h xs cs e = fold-count t (pos (n + 1)) cs ∙ ap (λ m. leb (n + 1) m) e ∙ not-at_most n (count_by h (map thing_of xs))
+    ∙ at_most (length xs) n failing (count_by h (filter (is_there p t) (map thing_of xs))) (failing-present (is_there p t) h (map thing_of xs) ∙ sym (map-length xs))
+quantifier-true (AtMost n) false p t h xs cs e =
+    fold-count t (pos (n + 1)) cs ∙ ap (λ m. leb (n + 1) m) (e ∙ holding-present (is_there p t) h (map thing_of xs)) ∙ not-at_most n (count_by h (filter (is_there p t) (map thing_of xs)))
 
 -- ---- the elements of a collection are those of the meaning
 
-object-thing : (b : Bool) (o : ℕ) → thing_of (cond b (split o) (whole (Object o))) ≡ Object o
-object-thing true o = refl
-object-thing false o = refl
+object-thing : (o : ℕ) (a b c : Bool) → thing_of (cond a (gone o) (cond b (split o) (cond c (optional o) (whole (Object o))))) ≡ Object o
+object-thing o true b c = refl
+object-thing o false true c = refl
+object-thing o false false true = refl
+object-thing o false false false = refl
 
 element-thing : (p : ProblemData) (asked : Bool) (fix : List Fixing) (x : Thing) → thing_of (element_of p asked fix x) ≡ x
 element-thing p asked fix (Number z) = refl
-element-thing p asked fix (Object o) = object-thing (asked && is_open p fix o) o
+element-thing p asked fix (Object o) = object-thing o (is_gone p fix o) (asked && is_open p fix o) (may_go p fix o)
 element-thing p asked fix (Part b) = refl
 
 things-same : (p : ProblemData) (asked : Bool) (fix : List Fixing) (xs : List Thing) → map thing_of (map (element_of p asked fix) xs) ≡ xs
@@ -323,14 +442,18 @@ pub right_of : (a b : Bool) → b ≡ true → (a || b) ≡ true
 right_of true b h = refl
 right_of false b h = h
 
+things-are : (p : ProblemData) (t : Tuple) (coll : PlainCollTree) (env : PlainEnv) (fix : List Fixing) → IsCovered p t fix env (λ s. coll_needs s coll) → things_of p coll env fix ≡ plain_candidates p t coll env
+things-are p t all_objects env fix c = refl
+things-are p t (listed os) env fix c = refl
+things-are p t (boxes_of s) env fix c = boxes-same p t fix (subject_in s env) (c.at s (same_itself s))
+
+pub candidates-same : (p : ProblemData) (t : Tuple) (asked : Bool) (coll : PlainCollTree) (env : PlainEnv) (fix : List Fixing) → IsCovered p t fix env (λ s. coll_needs s coll) →
+    map thing_of (elements_of p asked coll env fix) ≡ plain_candidates p t coll env
+candidates-same p t asked coll env fix c = things-same p asked fix (things_of p coll env fix) ∙ things-are p t coll env fix c
+
 pub elements-same : (p : ProblemData) (t : Tuple) (asked : Bool) (coll : PlainCollTree) (env : PlainEnv) (fix : List Fixing) → IsCovered p t fix env (λ s. coll_needs s coll) →
-    map thing_of (elements_of p asked coll env fix) ≡ plain_elements p t coll env
-elements-same p t asked coll env fix c = things-same p asked fix (things_of p coll env fix) ∙ by_coll coll c
-  where
-    by_coll : (d : PlainCollTree) → IsCovered p t fix env (λ s. coll_needs s d) → things_of p d env fix ≡ plain_elements p t d env
-    by_coll all_objects i = refl
-    by_coll (listed os) i = refl
-    by_coll (boxes_of s) i = boxes-same p t fix (subject_in s env) (i.at s (same_itself s))
+    filter (is_there p t) (map thing_of (elements_of p asked coll env fix)) ≡ plain_elements p t coll env
+elements-same p t asked coll env fix c = ap (filter (is_there p t)) (candidates-same p t asked coll env fix c)
 
 -- ---- at each element the body may be grounded
 
@@ -339,36 +462,51 @@ abbrev pub IsSoundBody : ProblemData → Tuple → List Fixing → PlainEnv → 
 IsSoundBody p t fix env v asks h body =
     (x : Thing) (more : List Fixing) (k : Counts) → Agrees t more → IsCovered p t more (set_variable v x env) asks → OnDone CondTree (body x more k) (λ c. true_on t c ≡ h x)
 
-and-true : (a b : Bool) → (a && b) ≡ true → b ≡ true
-and-true true b h = h
-and-true false b h = cc
+pub both-true-of : (a b : Bool) → (a && b) ≡ true → (a ≡ true) × (b ≡ true)
+both-true-of true b h = (refl, h)
+both-true-of false b h = cc
 
-object-goes : (p : ProblemData) (t : Tuple) (fix : List Fixing) (env : PlainEnv) (v : ℕ) (asks : Subject → Bool) (h : Thing → Bool) (body : Body) (o : ℕ) (asked several : Bool) →
-    asks (subjects.Variable v) ≡ asked → is_open p fix o ≡ several → IsTuple p t → Agrees t fix → IsCovered p t fix env asks → IsSoundBody p t fix env v asks h body →
-    Goes p t h fix body (cond (asked && several) (split o) (whole (Object o)))
-object-goes p t fix env v asks h body o true true a e w g c b =
-    let l = several-there p o (first_of _ _ e) in (
-      first-place p t o w l,
-      last-place p t o w l,
-      (λ s f k. b (Object o) (fixed o s fix) k (agrees-more t fix o s f g)
-          (covered-bound p t (fixed o s fix) env v (Object o) asks (λ q. here p t fix o s f (subst (λ n. 1 ≤ n) f (first-place p t o w l)))
-          (covered-more p t fix env o s asks f (subst (λ n. 1 ≤ n) f (first-place p t o w l)) c))),
+-- an object that is open is there, and the tuple has a place of its list
+pub open-places : (p : ProblemData) (t : Tuple) (fix : List Fixing) (o : ℕ) → IsTuple p t → is_open p fix o ≡ true → (1 ≤ (spot t o).place) × ((spot t o).place ≤ place_count (object_of p o))
+open-places p t fix o w e =
+    let l = several-there p o (both-true-of (has_several p o) (eqb (fixed_place fix o) 0) e).0 in
+    (first-place p t o w l, last-place p t o w l)
+
+-- the shape of an object is settled, or it is not asked for
+pub settled-or-unasked : (p : ProblemData) (t : Tuple) (fix : List Fixing) (o : ℕ) (asked several : Bool) → (asked && several) ≡ false → is_open p fix o ≡ several → IsTuple p t → Agrees t fix → asked ≡ true → IsSettled p t fix (Object o)
+settled-or-unasked p t fix o true several n e w g a = closed-settled p t fix o w g (e ∙ n)
+settled-or-unasked p t fix o false several n e w g a = cc
+
+object-goes : (p : ProblemData) (t : Tuple) (fix : List Fixing) (env : PlainEnv) (v : ℕ) (asks : Subject → Bool) (h : Thing → Bool) (body : Body) (o : ℕ) (left asked split_it may : Bool) →
+    is_gone p fix o ≡ left → asks (subjects.Variable v) ≡ asked → (asked && is_open p fix o) ≡ split_it → may_go p fix o ≡ may →
+    IsTuple p t → Agrees t fix → IsCovered p t fix env asks → IsSoundBody p t fix env v asks h body →
+    Goes p t h fix body (cond left (gone o) (cond split_it (split o) (cond may (optional o) (whole (Object o)))))
+object-goes p t fix env v asks h body o true asked split_it may l a s m w g c b = gone-absent p t fix o g l
+object-goes p t fix env v asks h body o false asked true may l a s m w g c b =
+    let places = open-places p t fix o w (both-true-of asked (is_open p fix o) s).1 in (
+      places.0,
+      places.1,
+      (λ q f k. b (Object o) (fixed o q fix) k (agrees-more t fix o q f g)
+          (covered-bound p t (fixed o q fix) env v (Object o) asks (λ z. here p t fix o q f (subst (λ n. 1 ≤ n) f places.0))
+          (covered-more p t fix env o q asks f (subst (λ n. 1 ≤ n) f places.0) c))),
     )
-  where
-    first_of : (a b : Bool) → (a && b) ≡ true → a ≡ true
-    first_of true b h = refl
-    first_of false b h = h
-object-goes p t fix env v asks h body o true false a e w g c b = λ k. b (Object o) fix k g (covered-bound p t fix env v (Object o) asks (λ q. closed-settled p t fix o w g e) c)
-object-goes p t fix env v asks h body o false several a e w g c b = λ k. b (Object o) fix k g (covered-bound p t fix env v (Object o) asks (λ q. absurd (false≢true (sym a ∙ q))) c)
+object-goes p t fix env v asks h body o false asked false true l a s m w g c b = (
+  (both-true-of (object_of p o).may_be_absent (eqb (fixed_place fix o) 0) m).0,
+  (λ k. b (Object o) fix k g (covered-bound p t fix env v (Object o) asks (λ q. settled-or-unasked p t fix o asked (is_open p fix o) s refl w g (sym a ∙ q)) c)),
+)
+object-goes p t fix env v asks h body o false asked false false l a s m w g c b = (
+  whole-there p t fix o g l m,
+  (λ k. b (Object o) fix k g (covered-bound p t fix env v (Object o) asks (λ q. settled-or-unasked p t fix o asked (is_open p fix o) s refl w g (sym a ∙ q)) c)),
+)
 
 pub elements-go : (p : ProblemData) (t : Tuple) (coll : PlainCollTree) (fix : List Fixing) (env : PlainEnv) (v : ℕ) (asks : Subject → Bool) (h : Thing → Bool) (body : Body) →
     IsTuple p t → Agrees t fix → IsCovered p t fix env asks → IsSoundBody p t fix env v asks h body → Each (Goes p t h fix body) (elements_of p (asks (subjects.Variable v)) coll env fix)
 elements-go p t coll fix env v asks h body w g c b = each (things_of p coll env fix)
   where
     one : (x : Thing) → Goes p t h fix body (element_of p (asks (subjects.Variable v)) fix x)
-    one (Number z) = λ k. b (Number z) fix k g (covered-bound p t fix env v (Number z) asks (λ q. tt) c)
-    one (Object o) = object-goes p t fix env v asks h body o (asks (subjects.Variable v)) (is_open p fix o) refl refl w g c b
-    one (Part x) = λ k. b (Part x) fix k g (covered-bound p t fix env v (Part x) asks (λ q. tt) c)
+    one (Number z) = (refl, λ k. b (Number z) fix k g (covered-bound p t fix env v (Number z) asks (λ q. tt) c))
+    one (Object o) = object-goes p t fix env v asks h body o (is_gone p fix o) (asks (subjects.Variable v)) (asks (subjects.Variable v) && is_open p fix o) (may_go p fix o) refl refl refl refl w g c b
+    one (Part x) = (refl, λ k. b (Part x) fix k g (covered-bound p t fix env v (Part x) asks (λ q. tt) c))
 
     each : (xs : List Thing) → Each (Goes p t h fix body) (map (element_of p (asks (subjects.Variable v)) fix) xs)
     each [] = tt
@@ -444,9 +582,6 @@ pub neither : (a b : Bool) → (a || b) ≡ false → (a ≡ false) × (b ≡ fa
 neither true b h = cc
 neither false b h = (refl, h)
 
-weaker : (t : Tuple) (o : Outcome CondTree) (a b : Bool) → a ≡ b → OnDone CondTree o (λ c. true_on t c ≡ a) → OnDone CondTree o (λ c. true_on t c ≡ b)
-weaker t o a b e h = record { get = λ c k i. h.get c k i ∙ e }
-
 mutual
   pub ground-sound : (p : ProblemData) (t : Tuple) (f : PlainFormulaTree) (sign : Bool) (env : PlainEnv) (fix : List Fixing) (k : Counts) →
       IsTuple p t → formula_breaks f ≡ false → Agrees t fix → IsCovered p t fix env (λ s. needs s f) →
@@ -499,7 +634,7 @@ mutual
       (λ x more i g d. ground-sound p t f (body_sign kind sign) (set_variable v x env) more i w b g d))
       k')
       (λ cs k'' e. on_done CondTree (quantifier_node kind sign (length xs) cs) _ _
-      (quantifier-true kind sign t h xs cs e
+      (quantifier-true kind sign p t h xs cs e
       ∙ ap (λ l. signed sign (quantify kind h l)) (elements-same p t (needs (subjects.Variable v) f) coll env fix (narrowed p t fix env _ _ (λ s i. left_of (coll_needs s coll) (needs s f) i) c)))))
 
   operands-sound : (p : ProblemData) (t : Tuple) (fs : PlainFormulas) (all sign : Bool) (env : PlainEnv) (fix : List Fixing) (k : Counts) →

@@ -20,6 +20,7 @@ use Rattle.problem_data.specs.Problem.{RangeData, ObjectData, no_object, Problem
 use Rattle.problem_data.specs.Pieces.{hull, hulls}
 use Rattle.problem_data.specs.Tuple.{object_of}
 use Rattle.problem_data.specs.Cells.{range_at, IsInRanges, IsWideSpotOf, IsWideTuple}
+use Rattle.problem_data.specs.Places.{place_count}
 use Rattle.problem_data.specs.WellFormed.{IsRange, IsObject, IsWellFormed}
 use Rattle.rule_ground.specs.Order.{order_of}
 use Rattle.rule_ground.specs.Start.{whole_region, whole_reach, first_state, HasSmallEnds}
@@ -64,10 +65,10 @@ pub object-at : (p : ProblemData) (i : ℕ) (o : ObjectData) → IsWellFormed p 
 object-at p i o w is h = subst (IsObject p) (sym is) (w.objects i o h)
 
 pub state-more : (os : List ObjectData) (i : ℕ) (o : ObjectData) (S T : State) (r : Region) → i < length os → o ≡ get_or os i o
-    → S ≡ map whole_reach (take i os) → r ≡ whole_region o → T ≡ S ++ record { places = first_places (length o.shapes); region = r } ∷ [] → T ≡ map whole_reach (take (i + 1) os)
+    → S ≡ map whole_reach (take i os) → r ≡ whole_region o → T ≡ S ++ record { places = first_places (place_count o); region = r } ∷ [] → T ≡ map whole_reach (take (i + 1) os)
 state-more os i o S T r h is s e t =
     t
-    ∙ (λ j. s j ++ record { places = first_places (length o.shapes); region = e j } ∷ [])
+    ∙ (λ j. s j ++ record { places = first_places (place_count o); region = e j } ∷ [])
     ∙ ap (λ (x : ObjectData). map whole_reach (take i os) ++ whole_reach x ∷ []) is
     ∙ sym (map-append whole_reach (take i os) (get_or os i o ∷ []))
     ∙ ap (map whole_reach) (sym (take_more os i o h))
@@ -143,13 +144,13 @@ hulls-dims p o w = length-map o.pieces hull ∙ w.dimensions
 
 spot-out : (p : ProblemData) (o : ObjectData) (s : Spot) → IsObject p o → SpotIn s (whole_reach o) → IsWideSpotOf p o s
 spot-out p o s w i =
-    let place = (place-there (length o.shapes) s.place w.few).0 i.place in
+    let place = (place-there (place_count o) s.place w.few).0 i.place in
     let box = in-box-out (hulls o) s.origin i.origin in
     record { form = record { first = place.0; last = place.1; dimensions = box.0 ∙ hulls-dims p o w }; hulls = box.1 }
 
 spot-in : (p : ProblemData) (o : ObjectData) (s : Spot) → IsObject p o → IsWideSpotOf p o s → SpotIn s (whole_reach o)
 spot-in p o s w i = record {
-  place = (place-there (length o.shapes) s.place w.few).1 (i.form.first, i.form.last);
+  place = (place-there (place_count o) s.place w.few).1 (i.form.first, i.form.last);
   origin = in-box-in (hulls o) s.origin (i.form.dimensions ∙ sym (hulls-dims p o w)) i.hulls;
 }
 

@@ -14,6 +14,7 @@ use Rattle.geo_base.specs.Tuple.{Tuple, spot}
 use Rattle.problem_data.specs.Problem.{BoxData, RangeData, ProblemData}
 use Rattle.problem_data.specs.Tuple.{object_of}
 use Rattle.problem_data.specs.Cells.{BoxHas, box_at, range_at, IsInRanges, IsCellOf, IsWithin, IsShaped}
+use Rattle.problem_data.specs.Places.{place_count}
 use Rattle.problem_data.specs.WellFormed.{IsBox, IsWellFormed}
 use Rattle.linear_conditions.specs.CondTree.{CondTree, shape_is_not, at_least, conds, true_on}
 use Rattle.rule_ground.specs.Shapes.{places, IsPlace, has_several}
@@ -39,7 +40,7 @@ unless-is p t o s c h i = by_test (has_several p o) refl
     by_test true e = one-of t (shape_is_not o s ∷ (c ∷ [])) ∙ ap (λ (b : Bool). not ((spot t o).place == s) || b) (or-false (true_on t c))
     by_test false e =
         let f = h.each o i.object in
-        ap (λ (b : Bool). b || true_on t c) (only-one (length (object_of p o).shapes) (spot t o).place s f.first f.last i.first i.last (ltb-false 1 (length (object_of p o).shapes) e))
+        ap (λ (b : Bool). b || true_on t c) (only-one (place_count (object_of p o)) (spot t o).place s f.first f.last i.first i.last (ltb-false 1 (place_count (object_of p o)) e))
 
 unless-out : (p : ProblemData) (t : Tuple) (o s : ℕ) (c : CondTree) → IsShaped p t → IsPlace p o s → (spot t o).place ≡ s → IsTrueOn t (unless_other p o s c) → IsTrueOn t c
 unless-out p t o s c h i e f =
@@ -98,14 +99,14 @@ pub within-out : (p : ProblemData) (ranges : List RangeData) (t : Tuple) → IsS
 within-out p ranges t h n all o x c f =
     let i = place-of p t o h x in
     let first = all-range-out (λ o. All (IsTrueOn t) (within_of p ranges o)) 0 (length p.objects) (all-flat-out (IsTrueOn t) (within_of p ranges) (range_with_len 0 (length p.objects)) all) o (omega arith) (omega arith) in
-    let second = all-range-out (λ s. All (IsTrueOn t) (within_at_place p ranges o s)) 1 (length (object_of p o).shapes) (all-flat-out (IsTrueOn t) (within_at_place p ranges o) (places p o) first) (spot t o).place i.first (let e = i.last in omega arith) in
+    let second = all-range-out (λ s. All (IsTrueOn t) (within_at_place p ranges o s)) 1 (place_count (object_of p o)) (all-flat-out (IsTrueOn t) (within_at_place p ranges o) (places p o) first) (spot t o).place i.first (let e = i.last in omega arith) in
     box-out p ranges t o (spot t o).place _ h i n (all-flat-out (IsTrueOn t) (within_of_box p ranges o (spot t o).place) (boxes_at p o (spot t o).place) second f.0 (record { offsets = []; sizes = [] }) f.1) refl c f.2
 
 pub within-in : (p : ProblemData) (ranges : List RangeData) (t : Tuple) → IsWellFormed p → IsShaped p t → length ranges ≡ p.dims → IsWithin p ranges t → All (IsTrueOn t) (within_conditions p ranges)
 within-in p ranges t w h n f =
     all-flat-in (IsTrueOn t) (within_of p ranges) (range_with_len 0 (length p.objects)) (all-range-in (λ o. All (IsTrueOn t) (within_of p ranges o)) 0 (length p.objects) (λ o z l.
     let x : o < length p.objects = omega arith in
-    all-flat-in (IsTrueOn t) (within_at_place p ranges o) (places p o) (all-range-in (λ s. All (IsTrueOn t) (within_at_place p ranges o s)) 1 (length (object_of p o).shapes) (λ s m q.
+    all-flat-in (IsTrueOn t) (within_at_place p ranges o) (places p o) (all-range-in (λ s. All (IsTrueOn t) (within_at_place p ranges o s)) 1 (place_count (object_of p o)) (λ s m q.
     all-flat-in (IsTrueOn t) (within_of_box p ranges o s) (boxes_at p o s) (λ k d r.
     box-in p ranges t o s (get_or (boxes_at p o s) k d) h (record { object = x; first = m; last = omega arith }) n (boxes-good p o s w k d r)
     (λ e c a. f o x c (cell o s k d e r c a)))))))

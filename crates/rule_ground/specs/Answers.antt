@@ -14,11 +14,13 @@ use Rattle.rule_values.specs.View.{env_view, thing_view}
 use Rattle.rule_ground.specs.declared.elements.Element.{Element as ElementCode}
 use Rattle.rule_ground.specs.declared.elements.Element.TheVariants as elements
 use Rattle.rule_ground.specs.declared.formulas.Site.{Site}
-use Rattle.rule_ground.specs.Grounding.{Element, whole, split, Body, ground}
+use Rattle.rule_ground.specs.Grounding.{Element, whole, split, optional, gone, Body, ground}
 
 abbrev pub element_view : ElementCode → Element
 element_view (elements.Whole x) = whole (thing_view x)
 element_view (elements.Split o) = split o.0
+element_view (elements.Optional o) = optional o.0
+element_view (elements.Gone o) = gone o.0
 
 -- the grounding of a body at an element
 abbrev pub body_at : ProblemData → Site → Body
@@ -30,6 +32,10 @@ Gives o k r = MatchResult r (λ c. o ≡ Done (cond_view c) k) (λ e. IsFault Co
 
 abbrev pub GivesAll : Outcome (List CondTree) → Counts → Result (Vec Cond Global) GroundFault → Type 0
 GivesAll o k r = MatchResult r (λ v. o ≡ Done (map cond_view v.items) k) (λ e. IsFault (List CondTree) o e)
+
+-- a call that makes the outcome's conditions of a list
+abbrev pub Makes : Outcome (List CondTree) → List Cond → Counts → Result ⊤ GroundFault → Type 0
+Makes o new k r = MatchResult r (λ u. o ≡ Done (map cond_view new) k) (λ e. IsFault (List CondTree) o e)
 
 -- conditions before those of an outcome
 unfoldable pub behind : List CondTree → Outcome (List CondTree) → Outcome (List CondTree)

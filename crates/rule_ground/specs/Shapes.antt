@@ -1,27 +1,32 @@
--- The shapes that an object may have, by their places from 1 in its list.
+-- The places of an object, from 1: those of its shapes, and then that at which it is absent.
 use Rattle.std.specs.Prelude.{ℕ, ◌≤◌, ◌<◌, nat_lt, Bool, if◌then◌else◌, ℤ, List, [], ◌∷◌, length, All}
 use Rattle.std.specs.List.{range_with_len}
 use Rattle.geo_conditions.specs.declared.form.Term.{Term}
 use Rattle.problem_data.specs.Limits.{IsSmall, IsSize, most_boxes}
 use Rattle.problem_data.specs.Problem.{BoxData, ShapeData, ProblemData}
+use Rattle.problem_data.specs.Places.{place_count}
 use Rattle.problem_data.specs.Tuple.{object_of}
 use Rattle.linear_conditions.specs.CondTree.{CondTree, shape_is_not}
 
--- the places of the shapes of the object o
+-- the places of the object o
 abbrev pub places : ProblemData → ℕ → List ℕ
-places p o = range_with_len 1 (length (object_of p o).shapes)
+places p o = range_with_len 1 (place_count (object_of p o))
 
--- s is the place of a shape of the object o
+-- those of its shapes
+abbrev pub shape_places : ProblemData → ℕ → List ℕ
+shape_places p o = range_with_len 1 (length (object_of p o).shapes)
+
+-- s is a place of the object o
 pub record IsPlace (p : ProblemData) (o s : ℕ) : Type 0 where
   pub object : o < length p.objects
   pub first : 1 ≤ s
-  pub last : s ≤ length (object_of p o).shapes
+  pub last : s ≤ place_count (object_of p o)
 
--- the object has several shapes to choose from
+-- the object has several places to choose from
 abbrev pub has_several : ProblemData → ℕ → Bool
-has_several p o = nat_lt 1 (length (object_of p o).shapes)
+has_several p o = nat_lt 1 (place_count (object_of p o))
 
--- the object o has another shape than the one at the place s; nothing, where it has no other one
+-- the object o has another place than s; nothing, where it has no other one
 abbrev pub other_shape : ProblemData → ℕ → ℕ → List CondTree
 other_shape p o s = if has_several p o then shape_is_not o s ∷ [] else []
 

@@ -1,7 +1,8 @@
--- The state in which a search begins: all shapes and the hulls of all ranges.
-use Rattle.std.specs.Prelude.{◌≤ℤ◌, ℕ, pos, negsuc, map, length}
+-- The state in which a search begins: all places and the hulls of all ranges.
+use Rattle.std.specs.Prelude.{◌≤ℤ◌, ℕ, pos, negsuc, map}
 use Rattle.problem_data.specs.Problem.{RangeData, ObjectData, ProblemData}
 use Rattle.problem_data.specs.Pieces.{hulls}
+use Rattle.problem_data.specs.Places.{place_count}
 use Rattle.geo_conditions.specs.Reach.{State, Reach, Region, first_places, low, high}
 
 -- the points within the hulls of an object's ranges
@@ -10,9 +11,9 @@ whole_region o = record { lo = map (λ (r : RangeData). r.low) (hulls o); hi = m
 
 -- all that is open to an object
 abbrev pub whole_reach : ObjectData → Reach
-whole_reach o = record { places = first_places (length o.shapes); region = whole_region o }
+whole_reach o = record { places = first_places (place_count o); region = whole_region o }
 
--- for each object all its shapes and all its hulls
+-- for each object all its places and all its hulls
 abbrev pub first_state : ProblemData → State
 first_state p = map whole_reach p.objects
 

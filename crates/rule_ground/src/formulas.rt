@@ -1,6 +1,6 @@
 //! From a formula without macros to a condition.
 
-ghost use Rattle.std.specs.Prelude.{◌≡◌, ◌∷◌, ◌++◌, [], List, MatchResult, false, map};
+ghost use Rattle.std.specs.Prelude.{◌≡◌, ◌∷◌, ◌++◌, [], Err, MatchResult, map};
 ghost use Rattle.linear_conditions.specs.CondTree.{cond_view};
 ghost use Rattle.linear_conditions.specs.Counts.{Counts, Done, and_then, visit};
 ghost use Rattle.linear_conditions.specs.CondTree.{CondTree};
@@ -11,13 +11,14 @@ ghost use Rattle.linear_conditions.specs.declared.fault.GroundFault.TheVariants.
 ghost use Rattle.rule_expand.specs.Plain as plain;
 ghost use Rattle.rule_expand.specs.PlainView.{plain_coll_view, plain_formula_view, plain_formulas_view};
 ghost use Rattle.rule_ground.specs.Answers.{Appends, Gives, GivesAll, body_at, element_view};
-ghost use Rattle.rule_ground.specs.declared.quantifiers.Manner.TheVariants as ways;
-ghost use Rattle.rule_ground.specs.Grounding.{element_of, ground as grounded, ground_element, ground_elements, ground_operands, ground_place, ground_places, in_turn};
+ghost use Rattle.rule_ground.specs.Grounding.{element_of, ground as grounded, ground_element, ground_elements, ground_group, ground_operands, ground_optional, ground_place, ground_places, ground_split, ground_whole, in_turn};
+ghost use Rattle.rule_ground.specs.Shapes.{shape_places};
 ghost use Rattle.rule_values.specs.Elements.{elements_view};
 ghost use Rattle.rule_values.specs.View.{env_view, thing_view};
 
-use crate::elements::{Element, asks_shapes, element_of, place_count, things_of};
-use crate::quantifiers::{Manner, body_sign, manner_of, quantifier_node, shape_child};
+use crate::elements::{Element, asks_shapes, element_of, shape_count, things_of};
+use crate::optional::{absent_place, add_absence, ground_gone, optional_child};
+use crate::quantifiers::{Manner, body_sign, is_counted, manner_of, quantifier_node, shape_child};
 use geo_conditions::{Cond, ObjId};
 use linear_conditions::compare::compare;
 use linear_conditions::counter::Counter;
@@ -48,6 +49,18 @@ pub fn add_cond(parts: &mut Vec<Cond>, part: Cond) -> Result<(), GroundFault>
 {
     parts.push(part)?;
     Ok(())
+}
+
+// One child more, where there is one.
+fn add_child(parts: &mut Vec<Cond>, child: Result<Cond, GroundFault>) -> Result<(), GroundFault>
+    ensures { MatchResult child
+        (λ c. MatchResult result (λ _. parts.new.items ≡ parts.old.items ++ c ∷ []) (λ e. e
+        ≡ Memory)) (λ e. result ≡ Err e) }
+{
+    match child {
+        Ok(part) => add_cond(parts, part),
+        Err(e) => Err(e),
+    }
 }
 
 /// All or one of several conditions.
@@ -376,22 +389,17 @@ fn ground_element(
 {
     match element {
         Element::Whole(thing) => {
-            match ground_whole(alloc, problem, &*site, thing, &*fixings, counter) {
-                Ok(child) => add_cond(children, child),
-                Err(e) => Err(e),
-            }
+            let child = ground_whole(alloc, problem, &*site, thing, &*fixings, counter);
+            add_child(children, child)
         }
-        Element::Split(object) => match manner {
-            Manner::Counted => {
-                match ground_group(alloc, problem, &*site, object, &*fixings, counter) {
-                    Ok(child) => add_cond(children, child),
-                    Err(e) => Err(e),
-                }
-            }
-            _ => ground_places(
-                alloc, problem, &*site, manner, object, &*fixings, counter, children,
-            ),
-        },
+        Element::Split(object) => ground_split(
+            alloc, problem, &*site, manner, object, &*fixings, counter, children,
+        ),
+        Element::Optional(object) => {
+            let child = ground_optional(alloc, problem, &*site, manner, object, &*fixings, counter);
+            add_child(children, child)
+        }
+        Element::Gone(_object) => add_child(children, ground_gone(alloc, manner, counter)),
     }
 }
 
@@ -406,9 +414,8 @@ fn ground_whole(
     counter: &mut Counter,
 ) -> Result<Cond, GroundFault>
     ensures { Gives
-        (and_then Counts CondTree (visit counter.old)
-        (λ k same. body_at problem.now site.now (thing_view thing.entry)
-        (fixings_view fixings.now) k)) counter.new result }
+        (ground_whole (body_at problem.now site.now) (fixings_view fixings.now)
+        (thing_view thing.entry) counter.old) counter.new result }
 {
     if let Err(e) = counter.visit() {
         return Err(e);
@@ -425,34 +432,97 @@ fn ground_whole(
     )
 }
 
-// The child of a split in a count: its shapes together.
+// The child of an object that may be absent, and whose shape is not asked for: its visit and the
+// leaf of its absence, then the body.
 #[cycle(ground)]
-fn ground_group(
+fn ground_optional(
     alloc: Global,
     problem: &Problem,
     site: &Site,
+    manner: Manner,
     object: ObjId,
     fixings: &Fixings,
     counter: &mut Counter,
 ) -> Result<Cond, GroundFault>
     ensures { Gives
-        (and_then (List CondTree) CondTree
-        (ground_places problem.now (body_at problem.now site.now) ways.Counted
-        (fixings_view fixings.now) object.0 counter.old)
-        (λ cs k. Done (joined false cs) k)) counter.new result }
+        (ground_optional problem.now (body_at problem.now site.now) manner
+        (fixings_view fixings.now) object.0 counter.old) counter.new result }
+{
+    if let Err(e) = counter.visit_split() {
+        return Err(e);
+    }
+    let env = Env::More(&*site.env, site.variable, Thing::Object(object.0 as usize));
+    match ground(
+        alloc,
+        problem,
+        &*site.formula,
+        site.sign,
+        &env,
+        &*fixings,
+        counter,
+    ) {
+        Ok(body) => { optional_child(alloc, manner, object, absent_place(problem, object), body) }
+        Err(e) => Err(e),
+    }
+}
+
+// Appends the children of a split: one for each shape, and in a count all of these together.
+#[cycle(ground)]
+fn ground_split(
+    alloc: Global,
+    problem: &Problem,
+    site: &Site,
+    manner: Manner,
+    object: ObjId,
+    fixings: &Fixings,
+    counter: &mut Counter,
+    children: &mut Vec<Cond>,
+) -> Result<(), GroundFault>
+    ensures { Appends
+        (ground_split problem.now (body_at problem.now site.now) manner
+        (fixings_view fixings.now) object.0 counter.old) children.old.items children.new.items
+        counter.new result }
+{
+    if is_counted(manner) {
+        let child = ground_group(alloc, problem, &*site, manner, object, &*fixings, counter);
+        add_child(children, child)
+    } else {
+        ground_places(
+            alloc, problem, &*site, manner, object, &*fixings, counter, children,
+        )
+    }
+}
+
+// The child of a split in a count: its shapes together, and its absence, where that counts.
+#[cycle(ground)]
+fn ground_group(
+    alloc: Global,
+    problem: &Problem,
+    site: &Site,
+    manner: Manner,
+    object: ObjId,
+    fixings: &Fixings,
+    counter: &mut Counter,
+) -> Result<Cond, GroundFault>
+    ensures { Gives
+        (ground_group problem.now (body_at problem.now site.now) manner
+        (fixings_view fixings.now) object.0 counter.old) counter.new result }
 {
     let mut children = Vec::new(alloc);
     match ground_places(
         alloc,
         problem,
         &*site,
-        Manner::Counted,
+        manner,
         object,
         &*fixings,
         counter,
         &mut children,
     ) {
-        Ok(()) => join(alloc, false, children),
+        Ok(()) => match add_absence(problem, manner, object, counter, &mut children) {
+            Ok(()) => join(alloc, false, children),
+            Err(e) => Err(e),
+        },
         Err(e) => Err(e),
     }
 }
@@ -470,11 +540,11 @@ fn ground_places(
     children: &mut Vec<Cond>,
 ) -> Result<(), GroundFault>
     ensures { Appends
-        (ground_places problem.now (body_at problem.now site.now) manner
-        (fixings_view fixings.now) object.0 counter.old) children.old.items children.new.items
-        counter.new result }
+        (ground_places (body_at problem.now site.now) manner
+        (fixings_view fixings.now) object.0 (shape_places problem.now object.0) counter.old)
+        children.old.items children.new.items counter.new result }
 {
-    for before in 0..place_count(problem, object) {
+    for before in 0..shape_count(problem, object) {
         let child = ground_place(
             alloc,
             problem,

@@ -177,9 +177,10 @@ fn ground_each(
 
 /// All conditions of a problem; `rules` are its rules without macros, in file order.
 ///
-/// First come those of the objects by themselves, for each object in file order, the dimensions and
-/// each two neighbouring pieces of its range: the coordinate is not between them. They are not
-/// counted. Behind them come those of the rules, in file order. `apart` gives its conditions for
+/// First come those of the objects by themselves, for each object in file order: for the dimensions
+/// and each two neighbouring pieces of its range, that the coordinate is not between them; and then,
+/// where the object may be absent, that it is not, or has its first value in each dimension. They are
+/// not counted. Behind them come those of the rules, in file order. `apart` gives its conditions for
 /// each two objects in file order, their shapes and their boxes; `within` for each object, its
 /// shapes, their boxes and the dimensions, the low end first. A formula gives those of the tree that
 /// it is grounded to. The first rule with which a form is out of bounds is refused with `overflow`,

@@ -12,6 +12,7 @@ mod laws;
 mod literals;
 mod named;
 mod needs;
+mod optional;
 mod own;
 pub mod quantifiers;
 mod shapes;

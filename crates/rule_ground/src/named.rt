@@ -8,9 +8,10 @@ ghost use Rattle.linear_conditions.specs.Views.{fixings_view};
 ghost use Rattle.rule_expand.specs.PlainView.{plain_formula_view};
 ghost use Rattle.rule_ground.specs.Answers.{Gives};
 ghost use Rattle.rule_ground.specs.Grounding.{ground_named, ground_place, ground_places, named_objects};
+ghost use Rattle.rule_ground.specs.Shapes.{places};
 ghost use Rattle.rule_ground.specs.declared.quantifiers.Manner.TheVariants as ways;
 
-use crate::elements::{Element, element_of, place_count};
+use crate::elements::{open_object, place_count};
 use crate::formulas::{add_cond, ground, join, joined_one};
 use crate::needs::needs;
 use crate::quantifiers::{Manner, shape_child};
@@ -20,7 +21,7 @@ use linear_conditions::fault::GroundFault;
 use linear_conditions::fixings::Fixings;
 use problem_data::problem::Problem;
 use rule_expand::plain::{PlainFormula, Subject};
-use rule_values::env::{Env, Thing};
+use rule_values::env::Env;
 use std::alloc::{AllocError, Global};
 
 // Appends an object, where it is named.
@@ -68,7 +69,7 @@ pub fn ground_named(
     }
 }
 
-// The first object, with each of its shapes where its shape is open.
+// The first object, with each of its places where its place is open.
 #[cycle(named)]
 fn named_object(
     alloc: Global,
@@ -85,15 +86,13 @@ fn named_object(
     if let Err(e) = counter.visit() {
         return Err(e);
     }
-    match element_of(problem, true, &*fixings, Thing::Object(o)) {
-        Element::Whole(_thing) => named_whole(alloc, problem, rest, f, &*fixings, counter),
-        Element::Split(object) => {
-            named_split(alloc, problem, object, rest, f, &*fixings, counter)
-        }
+    match open_object(problem, &*fixings, o) {
+        None => named_whole(alloc, problem, rest, f, &*fixings, counter),
+        Some(object) => named_split(alloc, problem, object, rest, f, &*fixings, counter),
     }
 }
 
-// An object whose shape is settled.
+// An object whose place is settled.
 #[cycle(named)]
 fn named_whole(
     alloc: Global,
@@ -117,7 +116,7 @@ fn named_whole(
     }
 }
 
-// An object with each of its shapes.
+// An object with each of its places.
 #[cycle(named)]
 fn named_split(
     alloc: Global,
@@ -129,9 +128,9 @@ fn named_split(
     counter: &mut Counter,
 ) -> Result<Cond, GroundFault>
     ensures { Gives (and_then (List CondTree) CondTree
-        (ground_places problem.now
+        (ground_places
         (λ x more j. ground_named problem.now rest.now (plain_formula_view f.now) more j) ways.All
-        (fixings_view fixings.now) object.0 counter.old)
+        (fixings_view fixings.now) object.0 (places problem.now object.0) counter.old)
         (λ cs k. Done (joined true cs) k)) counter.new result }
 {
     let mut children = Vec::new(alloc);
@@ -157,7 +156,7 @@ fn named_split(
     join(alloc, true, children)
 }
 
-// An object with its shape at that place.
+// An object at that place.
 #[cycle(named)]
 fn named_place(
     alloc: Global,

@@ -1,18 +1,23 @@
 //! The conditions that objects have by themselves: that no coordinate lies between two pieces of
-//! its range.
+//! its range, and that an absent object lies at the first value of each dimension.
 
+ghost use Rattle.std.specs.List.{flat_map, range_with_len};
 ghost use Rattle.std.specs.Prelude.{◌≡◌, ◌<◌, ◌++◌, ◌-ℤ◌, IfOk, OnOk, length, map, pos};
 ghost use Rattle.geo_conditions.specs.Form.{IsBounded};
 ghost use Rattle.linear_conditions.specs.CondTree.{cond_view};
 ghost use Rattle.problem_data.specs.Limits.{IsSmall};
-ghost use Rattle.problem_data.specs.Pieces.{pieces_at};
+ghost use Rattle.problem_data.specs.Pieces.{hull, pieces_at};
+ghost use Rattle.problem_data.specs.Problem.{runs_down};
 ghost use Rattle.problem_data.specs.ProblemView.{range_data};
 ghost use Rattle.problem_data.specs.Tuple.{object_of};
 ghost use Rattle.problem_data.specs.WellFormed.{ArePieces, IsRange};
-ghost use Rattle.rule_ground.specs.Own.{hole_condition, holes_in, own_conditions, own_of};
+ghost use Rattle.rule_ground.specs.Own.{at_first, hole_condition, holes_at, holes_in, origin_condition, origins_of, own_conditions, own_of};
+ghost use Rattle.problem_data.specs.Places.{side_at};
 
 use crate::literals;
-use crate::within::range_in;
+use crate::optional::{absent_place, may_be_absent};
+use crate::shapes::Placed;
+use crate::within::{other_or, range_in};
 use geo_conditions::{Cond, Conds, ObjId};
 use problem_data::problem::{Problem, RangeDef};
 use std::alloc::{AllocError, Global};
@@ -80,7 +85,115 @@ fn pieces<'a>(problem: &'a Problem, o: ObjId, d: usize) -> &'a [RangeDef]
     object.pieces()[d].ranges()
 }
 
-// Appends the conditions of an object.
+// The hull of a coordinate's range.
+fn hull(problem: &Problem, o: ObjId, d: usize) -> RangeDef
+    requires o { o.0 < length problem.now.objects }
+    requires d { d < problem.now.dims }
+    ensures same { range_data result ≡ hull (pieces_at (object_of problem.now o.0) d) }
+    ensures range { IsRange (range_data result) }
+{
+    problem.is_said();
+    let object = &problem.objects()[o.0 as usize];
+    object.hull(d)
+}
+
+// Appends the conditions of an object's holes.
+fn push_ranges(
+    alloc: Global,
+    problem: &Problem,
+    o: ObjId,
+    out: &mut Vec<Cond>,
+) -> Result<(), AllocError>
+    requires o { o.0 < length problem.now.objects }
+    ensures { OnOk result (map cond_view out.new.items ≡ map cond_view out.old.items
+        ++ flat_map (holes_at problem.now o.0) (range_with_len 0 problem.now.dims)) }
+{
+    for d in 0..problem.dims() {
+        push_holes(alloc, o, d, pieces(problem, o, d), out)?;
+    }
+    Ok(())
+}
+
+// Whether the values of a dimension are tried from the high end down.
+fn is_down(problem: &Problem, d: usize) -> bool
+    requires d { d < problem.now.dims }
+    ensures { result ≡ runs_down (side_at problem.now d) }
+{
+    problem.is_said();
+    problem.sides()[d].runs_down()
+}
+
+// The coordinate `d` of `o` is not behind its first value.
+fn at_first(alloc: Global, problem: &Problem, o: ObjId, d: usize) -> Result<Cond, AllocError>
+    requires o { o.0 < length problem.now.objects }
+    requires d { d < problem.now.dims }
+    ensures { IfOk result (λ c. cond_view c ≡ at_first problem.now o.0 d) }
+{
+    let range = hull(problem, o, d);
+    if is_down(problem, d) {
+        literals::from_low(alloc, o, d, range.high)
+    } else {
+        literals::to_high(alloc, o, d, opposite(range.low))
+    }
+}
+
+// That the object is not absent, or that the coordinate `d` is not behind its first value.
+fn origin_condition(
+    alloc: Global,
+    problem: &Problem,
+    o: ObjId,
+    d: usize,
+) -> Result<Cond, AllocError>
+    requires o { o.0 < length problem.now.objects }
+    requires d { d < problem.now.dims }
+    ensures { IfOk result (λ c. cond_view c ≡ origin_condition problem.now o.0 d) }
+{
+    let at = Placed {
+        object: o,
+        place: absent_place(problem, o),
+    };
+    let first = at_first(alloc, problem, o, d)?;
+    other_or(alloc, at, first)
+}
+
+// Appends the conditions of the origin of an object, where it may be absent.
+fn push_origin(
+    alloc: Global,
+    problem: &Problem,
+    o: ObjId,
+    out: &mut Vec<Cond>,
+) -> Result<(), AllocError>
+    requires o { o.0 < length problem.now.objects }
+    ensures { OnOk result (map cond_view out.new.items
+        ≡ map cond_view out.old.items ++ map (origin_condition problem.now o.0)
+        (range_with_len 0 problem.now.dims)) }
+{
+    for d in 0..problem.dims() {
+        let origin = origin_condition(alloc, problem, o, d)?;
+        out.push(origin)?;
+    }
+    Ok(())
+}
+
+// Appends the conditions of an object's absence.
+fn push_absence(
+    alloc: Global,
+    problem: &Problem,
+    o: ObjId,
+    out: &mut Vec<Cond>,
+) -> Result<(), AllocError>
+    requires o { o.0 < length problem.now.objects }
+    ensures { OnOk result (map cond_view out.new.items
+        ≡ map cond_view out.old.items ++ origins_of problem.now o.0) }
+{
+    if may_be_absent(problem, o) {
+        push_origin(alloc, problem, o, out)
+    } else {
+        Ok(())
+    }
+}
+
+// Appends the conditions of an object: of its holes, and then of its absence.
 fn push_object(
     alloc: Global,
     problem: &Problem,
@@ -91,15 +204,15 @@ fn push_object(
     ensures { OnOk result (map cond_view out.new.items
         ≡ map cond_view out.old.items ++ own_of problem.now o.0) }
 {
-    for d in 0..problem.dims() {
-        push_holes(alloc, o, d, pieces(problem, o, d), out)?;
-    }
+    push_ranges(alloc, problem, o, out)?;
+    push_absence(alloc, problem, o, out)?;
     Ok(())
 }
 
-/// Appends the conditions that objects have by themselves, for each object in file order, the
-/// dimensions and each two neighbouring pieces: the coordinate is at most the end of the one, or at
-/// least the beginning of the other.
+/// Appends the conditions that objects have by themselves, for each object in file order: for the
+/// dimensions and each two neighbouring pieces, that the coordinate is at most the end of the one, or
+/// at least the beginning of the other; and then, where the object may be absent, for the dimensions
+/// that it is not, or that the coordinate is its first value.
 pub fn push_own(alloc: Global, problem: &Problem, out: &mut Vec<Cond>) -> Result<(), AllocError>
     ensures { OnOk result (map cond_view out.new.items
         ≡ map cond_view out.old.items ++ own_conditions problem.now) }

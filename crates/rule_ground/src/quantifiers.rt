@@ -4,7 +4,7 @@ ghost use Rattle.std.specs.Prelude.{◌≡◌, ◌<◌, ◌∷◌, ◌^◌, ◌-
 ghost use Rattle.linear_conditions.specs.CondTree.{cond_view};
 ghost use Rattle.linear_conditions.specs.Folding.{fold_count};
 ghost use Rattle.linear_conditions.specs.declared.fault.GroundFault.TheVariants.{Memory};
-ghost use Rattle.rule_ground.specs.Grounding.{body_sign, manner, quantifier_node, shape_child};
+ghost use Rattle.rule_ground.specs.Grounding.{body_sign, is_counted, manner, quantifier_node, shape_child};
 
 use geo_conditions::{Cond, ObjId};
 use linear_conditions::fault::GroundFault;
@@ -19,8 +19,10 @@ pub enum Manner {
     All,
     /// One must hold.
     One,
-    /// So many must hold.
-    Counted,
+    /// Those that hold are counted.
+    Holding,
+    /// Those that do not hold are counted.
+    Failing,
 }
 
 /// How they come together under plus (true) or minus.
@@ -30,8 +32,32 @@ pub fn manner_of(kind: QuantKind, sign: bool) -> Manner
     match kind {
         QuantKind::ForAll => { if sign { Manner::All } else { Manner::One } }
         QuantKind::Exists => { if sign { Manner::One } else { Manner::All } }
-        QuantKind::AtLeast(_n) => Manner::Counted,
-        QuantKind::AtMost(_n) => Manner::Counted,
+        QuantKind::AtLeast(_n) => {
+            if sign {
+                Manner::Holding
+            } else {
+                Manner::Failing
+            }
+        }
+        QuantKind::AtMost(_n) => {
+            if sign {
+                Manner::Failing
+            } else {
+                Manner::Holding
+            }
+        }
+    }
+}
+
+/// Whether they are counted.
+pub fn is_counted(manner: Manner) -> bool
+    ensures { result ≡ is_counted manner }
+{
+    match manner {
+        Manner::All => false,
+        Manner::One => false,
+        Manner::Holding => true,
+        Manner::Failing => true,
     }
 }
 
@@ -88,8 +114,8 @@ pub fn quantifier_node(
     }
 }
 
-// At least so many of two.
-fn of_two(alloc: Global, n: i64, first: Cond, second: Cond) -> Result<Cond, GroundFault>
+/// At least so many of two.
+pub fn of_two(alloc: Global, n: i64, first: Cond, second: Cond) -> Result<Cond, GroundFault>
     ensures { MatchResult result (λ c. cond_view c
         ≡ fold_count n (cond_view first ∷ (cond_view second ∷ []))) (λ e. e ≡ Memory) }
 {
@@ -113,6 +139,7 @@ pub fn shape_child(
     match manner {
         Manner::All => of_two(alloc, 1, Cond::NotShape(object, place), body),
         Manner::One => of_two(alloc, 2, Cond::Shape(object, place), body),
-        Manner::Counted => of_two(alloc, 2, Cond::Shape(object, place), body),
+        Manner::Holding => of_two(alloc, 2, Cond::Shape(object, place), body),
+        Manner::Failing => of_two(alloc, 2, Cond::Shape(object, place), body),
     }
 }

@@ -54,8 +54,8 @@ fn high_constant(range: RangeDef, b: &BoxDef, d: usize) -> i64
     behind(begins, size, range.high)
 }
 
-// That the object has another shape, or the condition.
-fn other_or(alloc: Global, at: Placed, c: Cond) -> Result<Cond, AllocError>
+/// That the object has another place, or the condition.
+pub fn other_or(alloc: Global, at: Placed, c: Cond) -> Result<Cond, AllocError>
     ensures { IfOk result (λ r. cond_view r ≡ at_least (pos 1)
         (conds (shape_is_not at.object.0 at.place ∷ (cond_view c ∷ [])))) }
 {

@@ -1,9 +1,9 @@
 -- What a search records where it finds no layout: its events have names in the table of the problem, and their lines show that there is none.
-use Rattle.std.proofs.Common.{◌≡◌, ◌∙◌, ℕ, zero, suc, ◌<◌, ◌≤◌, ◌^◌, Bool, true, List, [], length, sym, ap, subst, arith}
+use Rattle.std.proofs.Common.{◌≡◌, ◌∙◌, ℕ, zero, suc, ◌+◌, ◌<◌, ◌≤◌, ◌^◌, Bool, true, false, if◌then◌else◌, List, [], length, sym, ap, subst, arith}
 use Rattle.std.specs.Prelude.{◌++◌}
 use Rattle.std.specs.List.{All}
 use Rattle.std.proofs.lemmas.Bool.{cases_lt, false≢true}
-use Rattle.std.proofs.lemmas.List.{length-map, get_or-map, get_or_past}
+use Rattle.std.proofs.lemmas.List.{length-append, length-map, get_or-map, get_or_past}
 use Rattle.std.proofs.Math.Logic.{⊎_elim}
 use Rattle.geo_tokens.specs.Names.{NameTable}
 use Rattle.geo_conditions.specs.declared.cond.Cond.{Cond}
@@ -14,11 +14,12 @@ use Rattle.derivation_text.specs.Lines.{shapes_of}
 use Rattle.printed_derivation.specs.Tables.{IsTableOf}
 use Rattle.printed_derivation.specs.Laws.{printed}
 use Rattle.printed_derivation.proofs.ReadBack.{is_printed}
-use Rattle.problem_data.specs.Problem.{RangeData, no_object, ProblemData}
+use Rattle.problem_data.specs.Problem.{RangeData, ObjectData, no_object, ProblemData}
 use Rattle.problem_data.specs.Pieces.{hull, hulls}
+use Rattle.problem_data.specs.Places.{place_count}
 use Rattle.problem_data.specs.Tuple.{object_of}
 use Rattle.problem_data.specs.WellFormed.{IsWellFormed}
-use Rattle.problem_text.specs.NameTable.{named_object, name_table}
+use Rattle.problem_text.specs.NameTable.{absent_positions, named_object, name_table}
 use Rattle.rule_ground.specs.Start.{whole_reach, first_state}
 use Rattle.rule_ground.proofs.Starts.{place-there, reach-at}
 use Rattle.layout_search.proofs.AlikeRows.{rows-alike}
@@ -33,12 +34,22 @@ dimensions-of p w o h =
     ∙ length-map (object_of p o).pieces hull
     ∙ (w.objects o no_object h).dimensions
 
--- a place that an object has is one of its shapes, which the table lists
+-- the table lists as many places of an object as it has
+places-listed : (n : ℕ) (o : ObjectData) → length (named_object n o).1 ≡ place_count o
+places-listed n o = length-append o.shapes (absent_positions o.may_be_absent n) ∙ ap (λ (k : ℕ). length o.shapes + k) (at_end o.may_be_absent)
+  where
+    at_end : (b : Bool) → length (absent_positions b n) ≡ (if b then 1 else 0)
+    at_end true = refl
+    at_end false = refl
+
+-- a place that an object has is one of those that the table lists
 shapes-of : (p : ProblemData) → IsWellFormed p → (o s : ℕ) → o < length p.objects → has (first_state p) o s ≡ true → (1 ≤ s) × (s ≤ length (shapes_of (name_table p) o))
 shapes-of p w o s h e =
-    let listed : shapes_of (name_table p) o ≡ (object_of p o).shapes = ap (λ (x : List ℕ × List ℕ). x.1) (get_or-map named_object p.objects o no_object ([], []) h) in
-    let place = (place-there (length (object_of p o).shapes) s (w.objects o no_object h).few).0 (subst (λ (r : Reach). place_in r.places s ≡ true) (reach-at p o h) e) in
-    (place.0, subst (λ (xs : List ℕ). s ≤ length xs) (sym listed) place.1)
+    let there : length (shapes_of (name_table p) o) ≡ length (named_object (length p.shapes) (object_of p o)).1 =
+    ap (λ (x : List ℕ × List ℕ). length x.1) (get_or-map (named_object (length p.shapes)) p.objects o no_object ([], []) h) in
+    let many : length (shapes_of (name_table p) o) ≡ place_count (object_of p o) = there ∙ places-listed (length p.shapes) (object_of p o) in
+    let place = (place-there (place_count (object_of p o)) s (w.objects o no_object h).few).0 (subst (λ (r : Reach). place_in r.places s ≡ true) (reach-at p o h) e) in
+    (place.0, subst (λ (k : ℕ). s ≤ k) (sym many) place.1)
 
 no-place : (s : ℕ) → place_in [] s ≡ true → ⊥
 no-place zero e = false≢true e
@@ -53,7 +64,7 @@ no-object p o s h e =
 -- the names of a problem are a table of its first state
 pub table-of : (p : ProblemData) → IsWellFormed p → IsTableOf (name_table p) (first_state p)
 table-of p w = record {
-  objects = length-map p.objects named_object ∙ sym (length-map p.objects whole_reach);
+  objects = length-map p.objects (named_object (length p.shapes)) ∙ sym (length-map p.objects whole_reach);
   dims = λ o h. dimensions-of p w o (subst (λ (m : ℕ). o < m) (length-map p.objects whole_reach) h);
   shapes = λ o s e. ⊎_elim (λ h. shapes-of p w o s h e) (λ h. absurd (no-object p o s h e)) (cases_lt o (length p.objects));
 }

@@ -30,8 +30,8 @@ fn region<const K: usize>(object: &ObjectDef) -> KBox<K>
     KBox::new(lo, hi)
 }
 
-/// The state in which a search for a layout of the problem begins: each object has all its shapes,
-/// by their places from 1, and the hulls of its ranges. Its tuples are those of the hulls. K is the
+/// The state in which a search for a layout of the problem begins: each object has all its places,
+/// from 1, and the hulls of its ranges. Its tuples are those of the hulls. K is the
 /// number of dimensions.
 pub fn start_state<const K: usize>(alloc: Global, problem: &Problem) -> Result<State<K>, AllocError>
     requires dims { problem.now.dims ≡ K }
@@ -42,8 +42,8 @@ pub fn start_state<const K: usize>(alloc: Global, problem: &Problem) -> Result<S
     problem.is_said();
     let mut state = State::new(alloc);
     for object in problem.objects() {
-        let shapes = object.shapes().len() as u8;
-        state.add_object(shapes, region(object))?;
+        let places = object.places() as u8;
+        state.add_object(places, region(object))?;
     }
     Ok(state)
 }

@@ -1,21 +1,24 @@
-use Rattle.std.proofs.Common.{◌≡◌, ℕ, ◌+◌, List, [], ◌∷◌, drop, map, not, true, false, sym, ap, ◌∙◌, arith, subst}
+use Rattle.std.proofs.Common.{◌≡◌, ℕ, ◌+◌, List, [], ◌∷◌, drop, map, not, cond, true, false, sym, ap, ◌∙◌, arith, subst}
 use Rattle.std.proofs.lemmas.Result.{err_from_is_err_and}
 use Rattle.linear_conditions.specs.CondTree.{cond_view, CondTree}
-use Rattle.linear_conditions.specs.Counts.{Counts, Outcome, Done, and_then, one_leaf, one_visit, visit, within_limits}
+use Rattle.linear_conditions.specs.Counts.{Counts, Outcome, one_leaf, one_visit, visit, within_limits}
 use Rattle.linear_conditions.specs.Faults.{IsFault}
 use Rattle.linear_conditions.specs.Folding.{joined}
 use Rattle.linear_conditions.specs.Views.{fixings_view}
+use Rattle.std.specs.Prelude.{MatchResult}
+use Rattle.linear_conditions.specs.declared.fault.GroundFault.TheVariants.{Memory}
+use Rattle.problem_data.specs.Places.{absent_place}
+use Rattle.problem_data.specs.Tuple.{object_of}
 use Rattle.problem_data.specs.Value.{Object}
 use Rattle.rule_expand.specs.Plain.{implication}
 use Rattle.rule_expand.specs.PlainView.{plain_coll_view, plain_formula_view, plain_formulas_view}
 use Rattle.rule_values.specs.Elements.{elements_view}
 use Rattle.rule_values.specs.View.{env_view, thing_view}
-use Rattle.rule_ground.specs.declared.quantifiers.Manner.TheVariants as ways
 use Rattle.rule_ground.specs.Answers.{behind, Appends, Gives, body_at, element_view}
-use Rattle.rule_ground.specs.Grounding.{Element, element_of, ground as grounded, alone, in_turn, ground_element, ground_elements, ground_operands, ground_place, ground_places, shape_child}
-use Rattle.rule_ground.specs.Shapes.{places}
+use Rattle.rule_ground.specs.Grounding.{Element, element_of, ground as grounded, alone, in_turn, add_absence, ground_element, ground_elements, ground_gone, ground_group, ground_operands, ground_optional, ground_place, ground_places, ground_whole, optional_child, shape_child}
+use Rattle.rule_ground.specs.Shapes.{shape_places}
 use Rattle.rule_ground.proofs.Behind.{then-fault, behind-init, fault-behind, alone-fault, appended, turn-stop, turn-done, turn-fault, turn-late, walk-init, walk-stop, walk-step, walk-fault, walk-end, gather-walk, gather-failed, gather-over, both_ways, free}
-use Rattle.rule_ground.proofs.Arms.{gives-made, step-gives, step-fault, appends-one, operand-size, quantified-made, quantified-fault, elements-at, elements-over, place-at, places-over, alone-then, alone-grouped, ungrouped}
+use Rattle.rule_ground.proofs.Arms.{gives-made, step-gives, step-fault, operand-size, quantified-made, quantified-fault, elements-at, elements-over, place-at, places-over, appends-child, gathered, gathered-fault}
 use Rattle.rule_ground.proofs.Chains.{env-more, fixings-more, view-implies}
 use Rattle.linear_conditions.specs.declared.fixings.Fixings.TheVariants as chain
 use Rattle.rule_values.specs.declared.env.Env.TheVariants as envs
@@ -50,54 +53,32 @@ ground_any_of-returns-in-Err t c =
     then-fault (List CondTree) CondTree (ground_operands c.args.problem.now (plain_formulas_view c.args.fs.now) (not c.args.sign) c.args.sign (env_view c.args.env.now) (fixings_view c.args.fixings.now) c.args.counter.now)
     _ c.in-Err.e c.in-Err.ensures
 
-pub ground_element-returns-in-Ok : goal.ground_element-returns-in-Ok
-ground_element-returns-in-Ok t c =
+pub ground_element-returns-in-Whole : goal.ground_element-returns-in-Whole
+ground_element-returns-in-Whole t c =
     let body = body_at c.args.problem.now c.args.site.now in
     let fix = fixings_view c.args.fixings.now in
-    let o = and_then Counts CondTree (visit c.args.counter.now) (λ k same. body (thing_view c.in-Whole.thing) fix k) in
-    let e : ground_element c.args.problem.now body c.args.manner fix (element_view c.args.element) c.args.counter.now ≡ alone o =
-    ap (λ x. ground_element c.args.problem.now body c.args.manner fix (element_view x) c.args.counter.now) c.in-Whole.is ∙ sym (alone-then (visit c.args.counter.now) (λ k same. body (thing_view c.in-Whole.thing) fix k)) in
-    subst (λ u. Appends u c.args.children.now.items c.add_cond.new.parts.items c.ground_whole.new.counter c.add_cond.result) (sym e)
-    (appends-one c.args.children.now.items c.add_cond.new.parts.items o c.in-Ok.child c.ground_whole.new.counter c.add_cond.result c.in-Ok.ensures c.add_cond.ensures)
+    let e : ground_element c.args.problem.now body c.args.manner fix (element_view c.args.element) c.args.counter.now ≡ alone (ground_whole body fix (thing_view c.in-Whole.thing) c.args.counter.now) =
+    ap (λ x. ground_element c.args.problem.now body c.args.manner fix (element_view x) c.args.counter.now) c.in-Whole.is in
+    subst (λ u. Appends u c.args.children.now.items c.add_child.new.parts.items c.ground_whole-child.new.counter c.add_child.result) (sym e)
+    (appends-child c.args.children.now.items c.add_child.new.parts.items _ c.ground_whole-child.new.counter c.ground_whole-child.result c.add_child.result c.ground_whole-child.ensures c.add_child.ensures)
 
-pub ground_element-returns-in-Err : goal.ground_element-returns-in-Err
-ground_element-returns-in-Err t c =
+pub ground_element-returns-in-Optional : goal.ground_element-returns-in-Optional
+ground_element-returns-in-Optional t c =
     let body = body_at c.args.problem.now c.args.site.now in
     let fix = fixings_view c.args.fixings.now in
-    let o = and_then Counts CondTree (visit c.args.counter.now) (λ k same. body (thing_view c.in-Whole.thing) fix k) in
-    let e : ground_element c.args.problem.now body c.args.manner fix (element_view c.args.element) c.args.counter.now ≡ alone o =
-    ap (λ x. ground_element c.args.problem.now body c.args.manner fix (element_view x) c.args.counter.now) c.in-Whole.is ∙ sym (alone-then (visit c.args.counter.now) (λ k same. body (thing_view c.in-Whole.thing) fix k)) in
-    subst (λ u. IsFault (List CondTree) u c.in-Err.e) (sym e) (alone-fault o c.in-Err.e c.in-Err.ensures)
+    let e : ground_element c.args.problem.now body c.args.manner fix (element_view c.args.element) c.args.counter.now ≡ alone (ground_optional c.args.problem.now body c.args.manner fix c.in-Optional.object.0 c.args.counter.now) =
+    ap (λ x. ground_element c.args.problem.now body c.args.manner fix (element_view x) c.args.counter.now) c.in-Optional.is in
+    subst (λ u. Appends u c.args.children.now.items c.add_child-in-Optional.new.parts.items c.ground_optional-child.new.counter c.add_child-in-Optional.result) (sym e)
+    (appends-child c.args.children.now.items c.add_child-in-Optional.new.parts.items _ c.ground_optional-child.new.counter c.ground_optional-child.result c.add_child-in-Optional.result c.ground_optional-child.ensures c.add_child-in-Optional.ensures)
 
-pub ground_element-returns-in-Ok-ground_group : goal.ground_element-returns-in-Ok-ground_group
-ground_element-returns-in-Ok-ground_group t c =
+pub ground_element-returns-in-Gone : goal.ground_element-returns-in-Gone
+ground_element-returns-in-Gone t c =
     let body = body_at c.args.problem.now c.args.site.now in
     let fix = fixings_view c.args.fixings.now in
-    let places = ground_places c.args.problem.now body ways.Counted fix c.in-Split.object.0 c.args.counter.now in
-    let o = and_then (List CondTree) CondTree places (λ cs k. Done (joined false cs) k) in
-    let e : ground_element c.args.problem.now body c.args.manner fix (element_view c.args.element) c.args.counter.now ≡ alone o =
-    (λ i. ground_element c.args.problem.now body (c.in-Counted.is i) fix (element_view (c.in-Split.is i)) c.args.counter.now) ∙ sym (alone-grouped places (joined false)) in
-    subst (λ u. Appends u c.args.children.now.items c.add_cond-in-Ok-ground_group.new.parts.items c.ground_group.new.counter c.add_cond-in-Ok-ground_group.result) (sym e)
-    (appends-one c.args.children.now.items c.add_cond-in-Ok-ground_group.new.parts.items o c.in-Ok-ground_group.child c.ground_group.new.counter c.add_cond-in-Ok-ground_group.result c.in-Ok-ground_group.ensures c.add_cond-in-Ok-ground_group.ensures)
-
-pub ground_element-returns-in-Err-ground_group : goal.ground_element-returns-in-Err-ground_group
-ground_element-returns-in-Err-ground_group t c =
-    let body = body_at c.args.problem.now c.args.site.now in
-    let fix = fixings_view c.args.fixings.now in
-    let places = ground_places c.args.problem.now body ways.Counted fix c.in-Split.object.0 c.args.counter.now in
-    let o = and_then (List CondTree) CondTree places (λ cs k. Done (joined false cs) k) in
-    let e : ground_element c.args.problem.now body c.args.manner fix (element_view c.args.element) c.args.counter.now ≡ alone o =
-    (λ i. ground_element c.args.problem.now body (c.in-Counted.is i) fix (element_view (c.in-Split.is i)) c.args.counter.now) ∙ sym (alone-grouped places (joined false)) in
-    subst (λ u. IsFault (List CondTree) u c.in-Err-ground_group.e) (sym e) (alone-fault o c.in-Err-ground_group.e c.in-Err-ground_group.ensures)
-
-pub ground_element-returns-in_default : goal.ground_element-returns-in_default
-ground_element-returns-in_default t c =
-    let body = body_at c.args.problem.now c.args.site.now in
-    let fix = fixings_view c.args.fixings.now in
-    let places = ground_places c.args.problem.now body c.args.manner fix c.in-Split.object.0 c.args.counter.now in
-    let e : ground_element c.args.problem.now body c.args.manner fix (element_view c.args.element) c.args.counter.now ≡ places =
-    ap (λ x. ground_element c.args.problem.now body c.args.manner fix (element_view x) c.args.counter.now) c.in-Split.is ∙ sym (ungrouped c.args.manner places c.in_default.not-Counted) in
-    subst (λ u. Appends u c.args.children.now.items c.ground_places.new.children.items c.ground_places.new.counter c.ground_places.result) (sym e) c.ground_places.ensures
+    let e : ground_element c.args.problem.now body c.args.manner fix (element_view c.args.element) c.args.counter.now ≡ alone (ground_gone c.args.manner c.args.counter.now) =
+    ap (λ x. ground_element c.args.problem.now body c.args.manner fix (element_view x) c.args.counter.now) c.in-Gone.is in
+    subst (λ u. Appends u c.args.children.now.items c.add_child-in-Gone.new.parts.items c.ground_gone.new.counter c.add_child-in-Gone.result) (sym e)
+    (appends-child c.args.children.now.items c.add_child-in-Gone.new.parts.items _ c.ground_gone.new.counter c.ground_gone.result c.add_child-in-Gone.result c.ground_gone.ensures c.add_child-in-Gone.ensures)
 
 pub ground_elements-loop-i-init : goal.ground_elements-loop-i-init
 ground_elements-loop-i-init t c = walk-init c.args.problem.now true true [] [] _ c.new-children.result.items c.new-children.ensures.items
@@ -155,15 +136,24 @@ ground_equivalence-returns-in_err-second t c =
     let second : Counts → Outcome CondTree = λ j. in_turn true (λ i. grounded c.args.problem.now (plain_formula_view c.args.f.now) false (env_view c.args.env.now) (fixings_view c.args.fixings.now) i) (λ i. grounded c.args.problem.now (plain_formula_view c.args.g.now) (not c.args.sign) (env_view c.args.env.now) (fixings_view c.args.fixings.now) i) j in
     rw (r.1, r.2) (turn-late false first second c.args.counter.now c.ground_pair.new.counter (cond_view c.in_ok-first.first) _ c.in_ok-first.ensures (sym c.decides.ensures ∙ c.if-decides.false) c.in_err-second.ensures)
 
-pub ground_group-returns-in-Ok : goal.ground_group-returns-in-Ok
-ground_group-returns-in-Ok t c =
-    let o = ground_places c.args.problem.now (body_at c.args.problem.now c.args.site.now) ways.Counted (fixings_view c.args.fixings.now) c.args.object.0 c.args.counter.now in
-    gives-made (List CondTree) o (joined false) (map cond_view c.ground_places.new.children.items) c.ground_places.new.counter c.join.result
-    (behind-init o ∙ ap (λ l. behind (map cond_view l) o) (sym c.new-children.ensures.items) ∙ c.in-Ok.ensures) c.join.ensures
+pub ground_group-returns-in-Ok-add_absence : goal.ground_group-returns-in-Ok-add_absence
+ground_group-returns-in-Ok-add_absence t c =
+    let p = c.args.problem.now in
+    let o = ground_places (body_at p c.args.site.now) c.args.manner (fixings_view c.args.fixings.now) c.args.object.0 (shape_places p c.args.object.0) c.args.counter.now in
+    gathered o (add_absence p c.args.manner c.args.object.0) (joined false) (map cond_view c.ground_places.new.children.items) (map cond_view c.add_absence.new.parts.items) c.ground_places.new.counter c.add_absence.new.counter c.join.result
+    (behind-init o ∙ ap (λ l. behind (map cond_view l) o) (sym c.new-children.ensures.items) ∙ c.in-Ok.ensures) c.in-Ok-add_absence.ensures c.join.ensures
+
+pub ground_group-returns-in-Err-add_absence : goal.ground_group-returns-in-Err-add_absence
+ground_group-returns-in-Err-add_absence t c =
+    let p = c.args.problem.now in
+    let o = ground_places (body_at p c.args.site.now) c.args.manner (fixings_view c.args.fixings.now) c.args.object.0 (shape_places p c.args.object.0) c.args.counter.now in
+    gathered-fault o (add_absence p c.args.manner c.args.object.0) (joined false) (map cond_view c.ground_places.new.children.items) c.ground_places.new.counter c.in-Err-add_absence.e
+    (behind-init o ∙ ap (λ l. behind (map cond_view l) o) (sym c.new-children.ensures.items) ∙ c.in-Ok.ensures) c.in-Err-add_absence.ensures
 
 pub ground_group-returns-in-Err : goal.ground_group-returns-in-Err
 ground_group-returns-in-Err t c =
-    then-fault (List CondTree) CondTree (ground_places c.args.problem.now (body_at c.args.problem.now c.args.site.now) ways.Counted (fixings_view c.args.fixings.now) c.args.object.0 c.args.counter.now) _ c.in-Err.e c.in-Err.ensures
+    let p = c.args.problem.now in
+    then-fault (List CondTree) CondTree (ground_places (body_at p c.args.site.now) c.args.manner (fixings_view c.args.fixings.now) c.args.object.0 (shape_places p c.args.object.0) c.args.counter.now) _ c.in-Err.e c.in-Err.ensures
 
 pub ground_operands-loop-f-init : goal.ground_operands-loop-f-init
 ground_operands-loop-f-init t c = walk-init c.args.problem.now c.args.all c.args.sign (env_view c.args.env.now) (fixings_view c.args.fixings.now) _ c.new-parts.result.items c.new-parts.ensures.items
@@ -199,6 +189,30 @@ ground_operands-returns t c =
     walk-end c.args.problem.now c.args.all c.args.sign (env_view c.args.env.now) (fixings_view c.args.fixings.now)
     (ground_operands c.args.problem.now (plain_formulas_view c.args.fs.now) c.args.all c.args.sign (env_view c.args.env.now) (fixings_view c.args.fixings.now) c.args.counter.now)
     c.args.fs.now c.loop-f.f-index c.loop-f.counter c.loop-f.parts.items c.loop-f.invariant (omega arith)
+
+pub ground_optional-returns-in-Err : goal.ground_optional-returns-in-Err
+ground_optional-returns-in-Err t c = then-fault Counts CondTree (within_limits (one_leaf (one_visit c.args.counter.now))) _ c.in-Err.e (past-fault (within_limits (one_leaf (one_visit c.args.counter.now))) c.in-Err.e c.in-Err.ensures)
+
+pub ground_optional-returns-in-Ok : goal.ground_optional-returns-in-Ok
+ground_optional-returns-in-Ok t c =
+    let body = body_at c.args.problem.now c.args.site.now in
+    let f = plain_formula_view c.args.site.now.formula.now in
+    let o = body (Object c.args.object.0) (fixings_view c.args.fixings.now) c.visit_split.new.self in
+    let e : o ≡ grounded c.args.problem.now f c.args.site.now.sign (env_view (envs.More c.args.site.now.env c.args.site.now.variable (things.Object c.args.object.0))) (fixings_view c.args.fixings.now) c.visit_split.new.self =
+    (λ i. grounded c.args.problem.now f c.args.site.now.sign (sym (env-more c.args.site.now.env c.args.site.now.variable (things.Object c.args.object.0)) i) (fixings_view c.args.fixings.now) c.visit_split.new.self) in
+    step-gives (within_limits (one_leaf (one_visit c.args.counter.now))) _ c.visit_split.new.self c.ground.new.counter c.optional_child.result c.in_default.ensures
+    (gives-made CondTree o (optional_child c.args.manner c.args.object.0 (absent_place (object_of c.args.problem.now c.args.object.0))) (cond_view c.in-Ok.body) c.ground.new.counter c.optional_child.result (e ∙ c.in-Ok.ensures)
+    (subst (λ s. MatchResult c.optional_child.result (λ x. cond_view x ≡ optional_child c.args.manner c.args.object.0 s (cond_view c.in-Ok.body)) (λ x. x ≡ Memory)) c.absent_place.ensures c.optional_child.ensures))
+
+pub ground_optional-returns-in-Err-ground : goal.ground_optional-returns-in-Err-ground
+ground_optional-returns-in-Err-ground t c =
+    let body = body_at c.args.problem.now c.args.site.now in
+    let f = plain_formula_view c.args.site.now.formula.now in
+    let o = body (Object c.args.object.0) (fixings_view c.args.fixings.now) c.visit_split.new.self in
+    let e : o ≡ grounded c.args.problem.now f c.args.site.now.sign (env_view (envs.More c.args.site.now.env c.args.site.now.variable (things.Object c.args.object.0))) (fixings_view c.args.fixings.now) c.visit_split.new.self =
+    (λ i. grounded c.args.problem.now f c.args.site.now.sign (sym (env-more c.args.site.now.env c.args.site.now.variable (things.Object c.args.object.0)) i) (fixings_view c.args.fixings.now) c.visit_split.new.self) in
+    step-fault (within_limits (one_leaf (one_visit c.args.counter.now))) _ c.visit_split.new.self c.in-Err-ground.e c.in_default.ensures
+    (then-fault CondTree CondTree o _ c.in-Err-ground.e (subst (λ u. IsFault CondTree u c.in-Err-ground.e) (sym e) c.in-Err-ground.ensures))
 
 pub ground_pair-returns-in_err-first : goal.ground_pair-returns-in_err-first
 ground_pair-returns-in_err-first t c =
@@ -259,10 +273,10 @@ ground_places-returns-in_err-child t c =
     let body = body_at c.args.problem.now c.args.site.now in
     let fix = fixings_view c.args.fixings.now in
     let go : ℕ → Counts → Outcome (List CondTree) = λ s j. alone (ground_place body c.args.manner fix c.args.object.0 s j) in
-    let whole = ground_places c.args.problem.now body c.args.manner fix c.args.object.0 c.args.counter.now in
+    let whole = ground_places body c.args.manner fix c.args.object.0 (shape_places c.args.problem.now c.args.object.0) c.args.counter.now in
     rw (r.1, r.2) (fault-behind (map cond_view c.args.children.now.items) whole _
-    (gather-failed ℕ go (behind (map cond_view c.args.children.now.items) whole) (drop c.loop-before.before (places c.args.problem.now c.args.object.0)) (drop (c.loop-before.before + 1) (places c.args.problem.now c.args.object.0)) (c.loop-before.before + 1) c.loop-before.counter c.loop-before.children.items _ c.loop-before.invariant
-    (place-at c.args.problem.now c.args.object.0 c.loop-before.before c.place_count-before-end.result c.place_count-before-end.ensures c.loop-before-test.true)
+    (gather-failed ℕ go (behind (map cond_view c.args.children.now.items) whole) (drop c.loop-before.before (shape_places c.args.problem.now c.args.object.0)) (drop (c.loop-before.before + 1) (shape_places c.args.problem.now c.args.object.0)) (c.loop-before.before + 1) c.loop-before.counter c.loop-before.children.items _ c.loop-before.invariant
+    (place-at c.loop-before.before c.shape_count-before-end.result _ c.shape_count-before-end.ensures.same c.loop-before-test.true)
     (alone-fault (ground_place body c.args.manner fix c.args.object.0 (c.loop-before.before + 1) c.loop-before.counter) _ c.in_err-child.ensures)))
 
 pub ground_places-loop-before-preserved : goal.ground_places-loop-before-preserved
@@ -270,9 +284,9 @@ ground_places-loop-before-preserved t c =
     let body = body_at c.args.problem.now c.args.site.now in
     let fix = fixings_view c.args.fixings.now in
     let go : ℕ → Counts → Outcome (List CondTree) = λ s j. alone (ground_place body c.args.manner fix c.args.object.0 s j) in
-    let whole = ground_places c.args.problem.now body c.args.manner fix c.args.object.0 c.args.counter.now in
-    gather-walk ℕ go (behind (map cond_view c.args.children.now.items) whole) (drop c.loop-before.before (places c.args.problem.now c.args.object.0)) (drop (c.loop-before.before + 1) (places c.args.problem.now c.args.object.0)) (c.loop-before.before + 1) c.loop-before.counter c.ground_place.new.counter c.loop-before.children.items c.add_cond.new.parts.items c.loop-before.invariant
-    (place-at c.args.problem.now c.args.object.0 c.loop-before.before c.place_count-before-end.result c.place_count-before-end.ensures c.loop-before-test.true)
+    let whole = ground_places body c.args.manner fix c.args.object.0 (shape_places c.args.problem.now c.args.object.0) c.args.counter.now in
+    gather-walk ℕ go (behind (map cond_view c.args.children.now.items) whole) (drop c.loop-before.before (shape_places c.args.problem.now c.args.object.0)) (drop (c.loop-before.before + 1) (shape_places c.args.problem.now c.args.object.0)) (c.loop-before.before + 1) c.loop-before.counter c.ground_place.new.counter c.loop-before.children.items c.add_cond.new.parts.items c.loop-before.invariant
+    (place-at c.loop-before.before c.shape_count-before-end.result _ c.shape_count-before-end.ensures.same c.loop-before-test.true)
     (appended c.loop-before.children.items c.add_cond.new.parts.items (ground_place body c.args.manner fix c.args.object.0 (c.loop-before.before + 1) c.loop-before.counter) c.in_ok-child.child c.ground_place.new.counter c.in_ok-child.ensures c.in_ok-add_cond.ensures)
 
 pub ground_places-returns : goal.ground_places-returns
@@ -280,9 +294,9 @@ ground_places-returns t c =
     let body = body_at c.args.problem.now c.args.site.now in
     let fix = fixings_view c.args.fixings.now in
     let go : ℕ → Counts → Outcome (List CondTree) = λ s j. alone (ground_place body c.args.manner fix c.args.object.0 s j) in
-    let whole = ground_places c.args.problem.now body c.args.manner fix c.args.object.0 c.args.counter.now in
-    gather-over ℕ go (behind (map cond_view c.args.children.now.items) whole) (drop c.loop-before.before (places c.args.problem.now c.args.object.0)) c.loop-before.counter c.loop-before.children.items c.loop-before.invariant
-    (places-over c.args.problem.now c.args.object.0 c.loop-before.before c.place_count-before-end.result c.place_count-before-end.ensures (omega (arith, c.loop-before-test.false)))
+    let whole = ground_places body c.args.manner fix c.args.object.0 (shape_places c.args.problem.now c.args.object.0) c.args.counter.now in
+    gather-over ℕ go (behind (map cond_view c.args.children.now.items) whole) (drop c.loop-before.before (shape_places c.args.problem.now c.args.object.0)) c.loop-before.counter c.loop-before.children.items c.loop-before.invariant
+    (places-over c.loop-before.before c.shape_count-before-end.result _ c.shape_count-before-end.ensures.same (omega (arith, c.loop-before-test.false)))
 
 pub ground_quantified-returns-in-Err : goal.ground_quantified-returns-in-Err
 ground_quantified-returns-in-Err t c = then-fault Counts CondTree (visit c.args.counter.now) _ c.in-Err.e (past-fault (visit c.args.counter.now) c.in-Err.e c.in-Err.ensures)
@@ -296,6 +310,16 @@ pub ground_quantified-returns-in-Err-ground_elements : goal.ground_quantified-re
 ground_quantified-returns-in-Err-ground_elements t c =
     quantified-fault c.args.problem.now c.args.kind c.args.v (plain_coll_view c.args.coll.now) (plain_formula_view c.args.f.now) c.args.sign (env_view c.args.env.now) (fixings_view c.args.fixings.now) c.args.counter.now c.visit.new.self
     c.body_sign.result c.asks_shapes-asked.result c.manner_of.result (elements_view c.things_of-things.result) c.in_default.ensures c.body_sign.ensures c.manner_of.ensures (c.asks_shapes-asked.ensures c.args.problem.now (fixings_view c.args.fixings.now)) c.things_of-things.ensures.same c.in-Err-ground_elements.e c.in-Err-ground_elements.ensures
+
+pub ground_split-returns-then-is_counted : goal.ground_split-returns-then-is_counted
+ground_split-returns-then-is_counted t c =
+    let p = c.args.problem.now in
+    let body = body_at p c.args.site.now in
+    let fix = fixings_view c.args.fixings.now in
+    let group = ground_group p body c.args.manner fix c.args.object.0 c.args.counter.now in
+    subst (λ b. Appends (cond b (alone group) (ground_places body c.args.manner fix c.args.object.0 (shape_places p c.args.object.0) c.args.counter.now)) c.args.children.now.items c.add_child.new.parts.items c.ground_group-child.new.counter c.add_child.result)
+    (sym c.if-is_counted.true ∙ c.is_counted.ensures)
+    (appends-child c.args.children.now.items c.add_child.new.parts.items group c.ground_group-child.new.counter c.ground_group-child.result c.add_child.result c.ground_group-child.ensures c.add_child.ensures)
 
 pub ground_whole-returns-in-Err : goal.ground_whole-returns-in-Err
 ground_whole-returns-in-Err t c = then-fault Counts CondTree (visit c.args.counter.now) _ c.in-Err.e (past-fault (visit c.args.counter.now) c.in-Err.e c.in-Err.ensures)

@@ -7,7 +7,7 @@ use Rattle.rule_values.specs.Elements.{elements_view}
 use Rattle.rule_values.specs.View.{env_view}
 use Rattle.rule_ground.specs.Answers.{behind, body_at}
 use Rattle.rule_ground.specs.Grounding.{alone, element_of, gather, ground_element, ground_elements, ground_operands, ground_place, ground_places}
-use Rattle.rule_ground.specs.Shapes.{places}
+use Rattle.rule_ground.specs.Shapes.{shape_places}
 use Rattle.rule_ground.proofs.formulas.+ground.Given as goal
 
 abbrev pub decreases-ground : goal.decreases-ground
@@ -29,13 +29,19 @@ abbrev pub decreases-ground_equivalence : goal.decreases-ground_equivalence
 decreases-ground_equivalence l = 8 * (nodes (plain_formula_view l.f.now) + nodes (plain_formula_view l.g.now)) + 2
 
 abbrev pub decreases-ground_quantified : goal.decreases-ground_quantified
-decreases-ground_quantified l = 8 * nodes (plain_formula_view l.f.now) + 6
+decreases-ground_quantified l = 8 * nodes (plain_formula_view l.f.now) + 7
 
 abbrev pub decreases-ground_elements : goal.decreases-ground_elements
-decreases-ground_elements l = 8 * nodes (plain_formula_view l.site.now.formula.now) + 5
+decreases-ground_elements l = 8 * nodes (plain_formula_view l.site.now.formula.now) + 6
 
 abbrev pub decreases-ground_element : goal.decreases-ground_element
-decreases-ground_element l = 8 * nodes (plain_formula_view l.site.now.formula.now) + 4
+decreases-ground_element l = 8 * nodes (plain_formula_view l.site.now.formula.now) + 5
+
+abbrev pub decreases-ground_split : goal.decreases-ground_split
+decreases-ground_split l = 8 * nodes (plain_formula_view l.site.now.formula.now) + 4
+
+abbrev pub decreases-ground_optional : goal.decreases-ground_optional
+decreases-ground_optional l = 8 * nodes (plain_formula_view l.site.now.formula.now) + 1
 
 abbrev pub decreases-ground_group : goal.decreases-ground_group
 decreases-ground_group l = 8 * nodes (plain_formula_view l.site.now.formula.now) + 3
@@ -61,5 +67,5 @@ invariant-ground_elements-loop-i l =
 
 abbrev pub invariant-ground_places-loop-before : goal.invariant-ground_places-loop-before
 invariant-ground_places-loop-before l =
-    behind (map cond_view l.fn.children.items) (ground_places l.problem (body_at l.problem l.site) l.manner (fixings_view l.fixings) l.object.0 l.fn.counter)
-    ≡ behind (map cond_view l.children.items) (gather (λ s j. alone (ground_place (body_at l.problem l.site) l.manner (fixings_view l.fixings) l.object.0 s j)) (drop l.before (places l.problem l.object.0)) l.counter)
+    behind (map cond_view l.fn.children.items) (ground_places (body_at l.problem l.site) l.manner (fixings_view l.fixings) l.object.0 (shape_places l.problem l.object.0) l.fn.counter)
+    ≡ behind (map cond_view l.children.items) (gather (λ s j. alone (ground_place (body_at l.problem l.site) l.manner (fixings_view l.fixings) l.object.0 s j)) (drop l.before (shape_places l.problem l.object.0)) l.counter)

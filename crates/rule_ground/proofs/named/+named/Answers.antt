@@ -1,4 +1,4 @@
-use Rattle.std.proofs.Common.{◌≡◌, ℕ, ◌+◌, List, [], ◌∷◌, drop, map, true, sym, ap, ◌∙◌, arith, subst}
+use Rattle.std.proofs.Common.{◌≡◌, ℕ, ◌+◌, List, [], ◌∷◌, drop, map, true, cond, sym, ap, ◌∙◌, arith, subst}
 use Rattle.linear_conditions.specs.CondTree.{cond_view, CondTree}
 use Rattle.linear_conditions.specs.Counts.{Counts, Outcome, Done, and_then, one_leaf, one_visit, visit, within_limits}
 use Rattle.linear_conditions.specs.Faults.{IsFault}
@@ -7,13 +7,12 @@ use Rattle.linear_conditions.specs.Views.{fixings_view}
 use Rattle.linear_conditions.specs.declared.fixings.Fixings.TheVariants as chain
 use Rattle.problem_data.specs.Value.{Object}
 use Rattle.rule_expand.specs.PlainView.{plain_formula_view}
-use Rattle.rule_values.specs.View.{thing_view}
 use Rattle.rule_ground.specs.declared.quantifiers.Manner.TheVariants as ways
 use Rattle.rule_ground.specs.Answers.{Gives}
-use Rattle.rule_ground.specs.Grounding.{whole, split, Body, element_of, alone, ground_element, ground_named, ground_place, ground_places, shape_child}
+use Rattle.rule_ground.specs.Grounding.{Body, is_open, alone, ground_named, ground_place, ground_places, shape_child}
 use Rattle.rule_ground.specs.Shapes.{places}
 use Rattle.rule_ground.proofs.Behind.{then-fault, alone-fault, appended, walk-init, gather-walk, gather-failed, gather-over}
-use Rattle.rule_ground.proofs.Arms.{gives-made, step-gives, step-fault, place-at, places-over, joined-alone, joined-same}
+use Rattle.rule_ground.proofs.Arms.{gives-made, step-gives, step-fault, place-at, places-over, open-none, open-some}
 use Rattle.rule_ground.proofs.Chains.{fixings-more}
 use Rattle.linear_conditions.proofs.CounterSteps.{past-fault}
 use Rattle.rule_ground.proofs.named.+named.Goals as goal
@@ -21,29 +20,32 @@ use Rattle.rule_ground.proofs.named.+named.Goals as goal
 pub named_object-returns-in-Err : goal.named_object-returns-in-Err
 named_object-returns-in-Err t c = then-fault Counts CondTree (visit c.args.counter.now) _ c.in-Err.e (past-fault (visit c.args.counter.now) c.in-Err.e c.in-Err.ensures)
 
-pub named_object-returns-in-Whole : goal.named_object-returns-in-Whole
-named_object-returns-in-Whole t c =
-    let f = plain_formula_view c.args.f.now in
+pub named_object-returns-in-None : goal.named_object-returns-in-None
+named_object-returns-in-None t c =
+    let p = c.args.problem.now in
     let fix = fixings_view c.args.fixings.now in
     let k : Counts = c.visit.new.self in
-    let body : Body = λ x more j. ground_named c.args.problem.now c.args.rest.now f more j in
-    let e : and_then (List CondTree) CondTree (ground_element c.args.problem.now body ways.All fix (whole (thing_view c.in-Whole._thing)) k) (λ cs i. Done (joined true cs) i)
-    ≡ and_then (List CondTree) CondTree (ground_element c.args.problem.now body ways.All fix (element_of c.args.problem.now true fix (Object c.args.o)) k) (λ cs i. Done (joined true cs) i) =
-    ap (λ x. and_then (List CondTree) CondTree (ground_element c.args.problem.now body ways.All fix x k) (λ cs i. Done (joined true cs) i)) c.in-Whole.ensures in
+    let body : Body = λ x more j. ground_named p c.args.rest.now (plain_formula_view c.args.f.now) more j in
+    let e = open-none (is_open p fix c.args.o) c.args.o c.in-None.ensures in
     step-gives (visit c.args.counter.now) _ k c.named_whole.new.counter c.named_whole.result c.in_default.ensures
-    (subst (λ o. Gives o c.named_whole.new.counter c.named_whole.result) (sym (joined-alone (visit k) (λ j. ground_named c.args.problem.now c.args.rest.now f fix j) (joined true)) ∙ e) c.named_whole.ensures)
+    (subst (λ b. Gives (cond b
+    (and_then (List CondTree) CondTree (ground_places body ways.All fix c.args.o (places p c.args.o) k) (λ cs j. Done (joined true cs) j))
+    (and_then Counts CondTree (visit k) (λ k' same. and_then CondTree CondTree (body (Object c.args.o) fix k') (λ d j. Done (joined true (d ∷ [])) j))))
+    c.named_whole.new.counter c.named_whole.result) (sym e) c.named_whole.ensures)
 
-pub named_object-returns-in-Split : goal.named_object-returns-in-Split
-named_object-returns-in-Split t c =
-    let f = plain_formula_view c.args.f.now in
+pub named_object-returns-in-Some : goal.named_object-returns-in-Some
+named_object-returns-in-Some t c =
+    let p = c.args.problem.now in
     let fix = fixings_view c.args.fixings.now in
     let k : Counts = c.visit.new.self in
-    let body : Body = λ x more j. ground_named c.args.problem.now c.args.rest.now f more j in
-    let e : and_then (List CondTree) CondTree (ground_element c.args.problem.now body ways.All fix (split c.in-Split.object.0) k) (λ cs i. Done (joined true cs) i)
-    ≡ and_then (List CondTree) CondTree (ground_element c.args.problem.now body ways.All fix (element_of c.args.problem.now true fix (Object c.args.o)) k) (λ cs i. Done (joined true cs) i) =
-    ap (λ x. and_then (List CondTree) CondTree (ground_element c.args.problem.now body ways.All fix x k) (λ cs i. Done (joined true cs) i)) c.in-Split.ensures in
+    let body : Body = λ x more j. ground_named p c.args.rest.now (plain_formula_view c.args.f.now) more j in
+    let e = open-some (is_open p fix c.args.o) c.args.o c.in-Some.object c.in-Some.ensures in
     step-gives (visit c.args.counter.now) _ k c.named_split.new.counter c.named_split.result c.in_default.ensures
-    (subst (λ o. Gives o c.named_split.new.counter c.named_split.result) (sym (joined-same (ground_places c.args.problem.now body ways.All fix c.in-Split.object.0 k) (joined true)) ∙ e) c.named_split.ensures)
+    (subst (λ b. Gives (cond b
+    (and_then (List CondTree) CondTree (ground_places body ways.All fix c.args.o (places p c.args.o) k) (λ cs j. Done (joined true cs) j))
+    (and_then Counts CondTree (visit k) (λ k' same. and_then CondTree CondTree (body (Object c.args.o) fix k') (λ d j. Done (joined true (d ∷ [])) j))))
+    c.named_split.new.counter c.named_split.result) (sym e.0)
+    (subst (λ u. Gives (and_then (List CondTree) CondTree (ground_places body ways.All fix u (places p u) k) (λ cs j. Done (joined true cs) j)) c.named_split.new.counter c.named_split.result) e.1 c.named_split.ensures))
 
 pub named_place-returns-in-Err : goal.named_place-returns-in-Err
 named_place-returns-in-Err t c = then-fault Counts CondTree (within_limits (one_leaf (one_visit c.args.counter.now))) _ c.in-Err.e (past-fault (within_limits (one_leaf (one_visit c.args.counter.now))) c.in-Err.e c.in-Err.ensures)
@@ -74,10 +76,10 @@ named_split-returns-in-Err t c =
     let body : Body = λ x more j. ground_named c.args.problem.now c.args.rest.now (plain_formula_view c.args.f.now) more j in
     let fix = fixings_view c.args.fixings.now in
     let go : ℕ → Counts → Outcome (List CondTree) = λ s j. alone (ground_place body ways.All fix c.args.object.0 s j) in
-    let whole = ground_places c.args.problem.now body ways.All fix c.args.object.0 c.args.counter.now in
+    let whole = ground_places body ways.All fix c.args.object.0 (places c.args.problem.now c.args.object.0) c.args.counter.now in
     then-fault (List CondTree) CondTree whole _ c.in-Err.e
     (gather-failed ℕ go whole (drop c.loop-before.before (places c.args.problem.now c.args.object.0)) (drop (c.loop-before.before + 1) (places c.args.problem.now c.args.object.0)) (c.loop-before.before + 1) c.loop-before.counter c.loop-before.children.items c.in-Err.e c.loop-before.invariant
-    (place-at c.args.problem.now c.args.object.0 c.loop-before.before c.place_count-before-end.result c.place_count-before-end.ensures c.loop-before-test.true)
+    (place-at c.loop-before.before c.place_count-before-end.result _ c.place_count-before-end.ensures c.loop-before-test.true)
     (alone-fault (ground_place body ways.All fix c.args.object.0 (c.loop-before.before + 1) c.loop-before.counter) c.in-Err.e c.in-Err.ensures))
 
 pub named_split-loop-before-preserved : goal.named_split-loop-before-preserved
@@ -85,9 +87,9 @@ named_split-loop-before-preserved t c =
     let body : Body = λ x more j. ground_named c.args.problem.now c.args.rest.now (plain_formula_view c.args.f.now) more j in
     let fix = fixings_view c.args.fixings.now in
     let go : ℕ → Counts → Outcome (List CondTree) = λ s j. alone (ground_place body ways.All fix c.args.object.0 s j) in
-    let whole = ground_places c.args.problem.now body ways.All fix c.args.object.0 c.args.counter.now in
+    let whole = ground_places body ways.All fix c.args.object.0 (places c.args.problem.now c.args.object.0) c.args.counter.now in
     gather-walk ℕ go whole (drop c.loop-before.before (places c.args.problem.now c.args.object.0)) (drop (c.loop-before.before + 1) (places c.args.problem.now c.args.object.0)) (c.loop-before.before + 1) c.loop-before.counter c.named_place.new.counter c.loop-before.children.items c.add_cond.new.parts.items c.loop-before.invariant
-    (place-at c.args.problem.now c.args.object.0 c.loop-before.before c.place_count-before-end.result c.place_count-before-end.ensures c.loop-before-test.true)
+    (place-at c.loop-before.before c.place_count-before-end.result _ c.place_count-before-end.ensures c.loop-before-test.true)
     (appended c.loop-before.children.items c.add_cond.new.parts.items (ground_place body ways.All fix c.args.object.0 (c.loop-before.before + 1) c.loop-before.counter) c.in-Ok.child c.named_place.new.counter c.in-Ok.ensures c.in_default.ensures)
 
 pub named_split-returns : goal.named_split-returns
@@ -95,10 +97,10 @@ named_split-returns t c =
     let body : Body = λ x more j. ground_named c.args.problem.now c.args.rest.now (plain_formula_view c.args.f.now) more j in
     let fix = fixings_view c.args.fixings.now in
     let go : ℕ → Counts → Outcome (List CondTree) = λ s j. alone (ground_place body ways.All fix c.args.object.0 s j) in
-    let whole = ground_places c.args.problem.now body ways.All fix c.args.object.0 c.args.counter.now in
+    let whole = ground_places body ways.All fix c.args.object.0 (places c.args.problem.now c.args.object.0) c.args.counter.now in
     gives-made (List CondTree) whole (joined true) (map cond_view c.loop-before.children.items) c.loop-before.counter c.join.result
     (gather-over ℕ go whole (drop c.loop-before.before (places c.args.problem.now c.args.object.0)) c.loop-before.counter c.loop-before.children.items c.loop-before.invariant
-    (places-over c.args.problem.now c.args.object.0 c.loop-before.before c.place_count-before-end.result c.place_count-before-end.ensures (omega (arith, c.loop-before-test.false))))
+    (places-over c.loop-before.before c.place_count-before-end.result _ c.place_count-before-end.ensures (omega (arith, c.loop-before-test.false))))
     c.join.ensures
 
 pub named_whole-returns-in-Err : goal.named_whole-returns-in-Err

@@ -25,5 +25,5 @@ decreases-named_place l = 4 * length l.rest.now + 1
 
 abbrev pub invariant-named_split-loop-before : goal.invariant-named_split-loop-before
 invariant-named_split-loop-before l =
-    ground_places l.problem (λ x more j. ground_named l.problem l.rest (plain_formula_view l.f) more j) ways.All (fixings_view l.fixings) l.object.0 l.fn.counter
+    ground_places (λ x more j. ground_named l.problem l.rest (plain_formula_view l.f) more j) ways.All (fixings_view l.fixings) l.object.0 (places l.problem l.object.0) l.fn.counter
     ≡ behind (map cond_view l.children.items) (gather (λ s j. alone (ground_place (λ x more i. ground_named l.problem l.rest (plain_formula_view l.f) more i) ways.All (fixings_view l.fixings) l.object.0 s j)) (drop l.before (places l.problem l.object.0)) l.counter)

@@ -1,4 +1,4 @@
-use Rattle.std.proofs.Common.{◌↔◌, ℕ, List, [], ◌∷◌, ◌++◌, length, subst, sym, ap, ◌∙◌}
+use Rattle.std.proofs.Common.{◌↔◌, ℕ, [], ◌∷◌, ◌++◌, subst, sym, ap, ◌∙◌}
 use Rattle.geo_base.specs.Tuple.{Tuple}
 use Rattle.geo_conditions.specs.Reach.{State, Region, TupleIn, first_places}
 use Rattle.geo_conditions.specs.Regions.{region_of}
@@ -20,7 +20,7 @@ pub loop-object-preserved : goal.loop-object-preserved
 loop-object-preserved g c =
     let r : Region = region_of c.region.result in
     state-more c.objects-object-items.result.now c.loop-object.object-index c.object-item.result c.loop-object.state c.add_object.new.self r c.loop-object-test.true c.object-item.is c.loop-object.invariant c.region.ensures
-    (c.in_ok-add_object.ensures.ok ∙ ap (λ (ss : List ℕ). c.loop-object.state ++ record { places = first_places (length ss); region = r } ∷ []) c.shapes.ensures)
+    (c.in_ok-add_object.ensures.ok ∙ ap (λ (n : ℕ). c.loop-object.state ++ record { places = first_places n; region = r } ∷ []) c.places-places.ensures)
 
 pub returns-clause-value : goal.returns-clause-value
 returns-clause-value g c = state-end c.args.problem.now _ _ c.loop-object.state c.objects-object-items.ensures c.loop-object.invariant c.loop-object-test.false

@@ -3,7 +3,7 @@ use Rattle.std.specs.List.{range_with_len}
 use Rattle.linear_conditions.specs.CondTree.{cond_view}
 use Rattle.rule_ground.proofs.Lists.{flat-more, number-more}
 use Rattle.rule_ground.specs.Own.{holes_at, holes_in}
-use Rattle.rule_ground.proofs.own.push_object.Goals as goal
+use Rattle.rule_ground.proofs.own.push_ranges.Goals as goal
 
 pub loop-d-preserved : goal.loop-d-preserved
 loop-d-preserved c =
