@@ -146,12 +146,14 @@ module _ (n K : ℕ) where
     fits_next (SplitBy o) terminals.Shape w h i = ((h, tt), tt)
     fits_next (SplitBy o) (terminals.Number v) w h i = fits_known (L.dimension v) _ (λ d e. (((h, finds.dimension v d e), tt), tt))
     fits_next (SplitShape o) terminals.Name w h i = fits_known (L.place o.0 w) _ (λ s e. ((tt, (tt, tt)), ((h, finds.place o.0 w s h e), tt)))
+    fits_next (SplitShape o) terminals.Absent w h i = fits_known (L.place o.0 (codes "absent")) _ (λ s e. ((tt, (tt, tt)), ((h, finds.place o.0 (codes "absent") s h e), tt)))
     fits_next (SplitPart o d) terminals.Name w h i = fits_part o d w h
     fits_next (SplitNumber part o d Plus) terminals.Minus w h i = ((h, tt), tt)
     fits_next (SplitNumber part o d Plus) (terminals.Number v) w h i = ((tt, (tt, tt)), (split_fits part o d (signed Plus v) h.0 h.1 (signed_within Plus v i), tt))
     fits_next (SplitNumber part o d Minus) (terminals.Number v) w h i = ((tt, (tt, tt)), (split_fits part o d (signed Minus v) h.0 h.1 (signed_within Minus v i), tt))
     fits_next DropObject terminals.Name w h i = fits_known (L.object w) _ (λ o e. ((finds.object w o e, tt), tt))
     fits_next (DropShape o) terminals.Name w h i = fits_known (L.place o.0 w) _ (λ s e. ((tt, (tt, tt)), ((h, finds.place o.0 w s h e), tt)))
+    fits_next (DropShape o) terminals.Absent w h i = fits_known (L.place o.0 (codes "absent")) _ (λ s e. ((tt, (tt, tt)), ((h, finds.place o.0 (codes "absent") s h e), tt)))
     fits_next (BoundObject part) terminals.Name w h i = fits_known (L.object w) _ (λ o e. ((finds.object w o e, tt), tt))
     fits_next (BoundDimension part o) (terminals.Number v) w h i = fits_known (L.dimension v) _ (λ d e. (((h, finds.dimension v d e), tt), tt))
     fits_next (BoundNumber part o d Plus) terminals.Minus w h i = ((h, tt), tt)
@@ -162,6 +164,7 @@ module _ (n K : ℕ) where
     fits_next (GoneCovers o) terminals.Open w h i = ((h, tt), (h, tt))
     fits_next DeadNumber (terminals.Number v) w h i = (tt, (tt, tt))
     fits_next (Covers o) terminals.Name w h i = fits_known (L.place o.0 w) _ (λ s e. ((tt, (h, tt)), (finds.place o.0 w s h e, tt)))
+    fits_next (Covers o) terminals.Absent w h i = fits_known (L.place o.0 (codes "absent")) _ (λ s e. ((tt, (h, tt)), (finds.place o.0 (codes "absent") s h e, tt)))
     fits_next (Covers o) terminals.Close w h i = (tt, (tt, tt))
     fits_next Cover terminals.Name w h i = fits_cover w
     fits_next ByNumber (terminals.Number v) w h i = (tt, (tt, tt))

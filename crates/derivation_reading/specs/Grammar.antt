@@ -2,12 +2,13 @@
 -- becomes, at a token, what may come behind it, and the events that are whole with that token.
 --
 --   text   = [ 'none' ] node 'qed'
---   node   = 'split' NAME 'shape' NAME node node
+--   node   = 'split' NAME 'shape' place node node
 --          | 'split' NAME NUM 'upto' int node node | 'split' NAME NUM 'from' int node node
---          | 'drop' NAME NAME cover node
+--          | 'drop' NAME place cover node
 --          | 'raise' NAME NUM int covers node | 'lower' NAME NUM int covers node
 --          | 'gone' NAME covers | 'dead' NUM
---   covers = '[' { NAME cover } ']'
+--   place  = NAME | 'absent'
+--   covers = '[' { place cover } ']'
 --   cover  = 'by' NUM | 'cut' NUM int cover cover | 'from' NUM int cover cover
 --   int    = [ '-' ] NUM
 use Rattle.std.specs.Prelude.{◌-◌, ◌&&◌, nat_le, ℕ, Bool, ℤ, pos, neg_ℤ, suc, List, [], ◌∷◌, codes, slice_index_or, Option, Some, None, option_map, if◌then◌else◌}
@@ -29,8 +30,8 @@ use Rattle.derivation_reading.specs.Terminals.{Lexeme}
 
 -- ---- names
 
--- What names and numbers stand for: the number of an object, from 0; the place, from 1, of a shape in the list of an object; a
--- dimension, from 0, that a text counts from 1.
+-- What names and numbers stand for: the number of an object, from 0; the place, from 1, of a shape in the list of an object, or of
+-- the word `absent`; a dimension, from 0, that a text counts from 1.
 pub record Lookup : Type 0 where
   pub object : List ℕ → Option ℕ
   pub place : ℕ → List ℕ → Option ℕ
@@ -123,6 +124,13 @@ abbrev pub cut_at : Part → ℕ → ℤ → Event
 cut_at Upto d v = events.Cut d v
 cut_at From d v = events.CutFrom d v
 
+-- a place of an object
+abbrev pub place_by : Lookup → Symbol → List ℕ → Next
+place_by L (SplitShape o) w = known (L.place o.0 w) (λ s. gives (events.SplitShape o s) (Node ∷ Node ∷ []))
+place_by L (DropShape o) w = known (L.place o.0 w) (λ s. gives (events.Drop o s) (Cover ∷ Node ∷ []))
+place_by L (Covers o) w = known (L.place o.0 w) (λ s. gives (events.Cover s) (Cover ∷ Covers o ∷ []))
+place_by L s w = Wrong
+
 -- the productions
 abbrev pub next : Lookup → Symbol → Terminal → List ℕ → Next
 next L Text terminals.Name w = text_by w
@@ -131,12 +139,14 @@ next L Qed terminals.Qed w = goes []
 next L SplitObject terminals.Name w = known (L.object w) (λ o. goes (SplitBy (an o) ∷ []))
 next L (SplitBy o) terminals.Shape w = goes (SplitShape o ∷ [])
 next L (SplitBy o) (terminals.Number n) w = known (L.dimension n) (λ d. goes (SplitPart o d ∷ []))
-next L (SplitShape o) terminals.Name w = known (L.place o.0 w) (λ s. gives (events.SplitShape o s) (Node ∷ Node ∷ []))
+next L (SplitShape o) terminals.Name w = place_by L (SplitShape o) w
+next L (SplitShape o) terminals.Absent w = place_by L (SplitShape o) (codes "absent")
 next L (SplitPart o d) terminals.Name w = part_by o d w
 next L (SplitNumber part o d Plus) terminals.Minus w = goes (SplitNumber part o d Minus ∷ [])
 next L (SplitNumber part o d sign) (terminals.Number n) w = gives (split_at part o d (signed sign n)) (Node ∷ Node ∷ [])
 next L DropObject terminals.Name w = known (L.object w) (λ o. goes (DropShape (an o) ∷ []))
-next L (DropShape o) terminals.Name w = known (L.place o.0 w) (λ s. gives (events.Drop o s) (Cover ∷ Node ∷ []))
+next L (DropShape o) terminals.Name w = place_by L (DropShape o) w
+next L (DropShape o) terminals.Absent w = place_by L (DropShape o) (codes "absent")
 next L (BoundObject part) terminals.Name w = known (L.object w) (λ o. goes (BoundDimension part (an o) ∷ []))
 next L (BoundDimension part o) (terminals.Number n) w = known (L.dimension n) (λ d. goes (BoundNumber part o d Plus ∷ []))
 next L (BoundNumber part o d Plus) terminals.Minus w = goes (BoundNumber part o d Minus ∷ [])
@@ -145,7 +155,8 @@ next L (BoundCovers part o d v) terminals.Open w = gives (bound_at part o d v) (
 next L GoneObject terminals.Name w = known (L.object w) (λ o. goes (GoneCovers (an o) ∷ []))
 next L (GoneCovers o) terminals.Open w = gives (events.Gone o) (Covers o ∷ [])
 next L DeadNumber (terminals.Number i) w = gives (events.Dead i) []
-next L (Covers o) terminals.Name w = known (L.place o.0 w) (λ s. gives (events.Cover s) (Cover ∷ Covers o ∷ []))
+next L (Covers o) terminals.Name w = place_by L (Covers o) w
+next L (Covers o) terminals.Absent w = place_by L (Covers o) (codes "absent")
 next L (Covers o) terminals.Close w = gives events.EndCovers []
 next L Cover terminals.Name w = cover_by w
 next L ByNumber (terminals.Number i) w = gives (events.By i) []

@@ -30,4 +30,5 @@ abbrev pub IsMark : Terminal → Type 0
 IsMark terminals.Name = ⊥
 IsMark (terminals.Number n) = ⊥
 IsMark terminals.Minus = ⊥
+IsMark terminals.Absent = ⊥
 IsMark _ = Unit {0}

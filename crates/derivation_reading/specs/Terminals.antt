@@ -13,6 +13,7 @@ abbrev pub terminal_of : Kind → Terminal
 terminal_of kinds.Name = terminals.Name
 terminal_of (kinds.Number v) = terminals.Number v
 terminal_of (kinds.Word keywords.Shape) = terminals.Shape
+terminal_of (kinds.Word keywords.Absent) = terminals.Absent
 terminal_of (kinds.Word keywords.Qed) = terminals.Qed
 terminal_of (kinds.Symbol symbols.Minus) = terminals.Minus
 terminal_of (kinds.Symbol symbols.BracketOpen) = terminals.Open

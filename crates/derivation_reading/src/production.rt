@@ -4,7 +4,7 @@ ghost use Rattle.derivation.specs.declared.event.Event.TheVariants as events;
 ghost use Rattle.derivation_reading.specs.declared.symbol.Symbol.{Symbol as SymbolOf};
 ghost use Rattle.derivation_reading.specs.declared.symbol.Symbol.TheVariants as symbols;
 ghost use Rattle.derivation_reading.specs.declared.symbol.Terminal.TheVariants as terminals;
-ghost use Rattle.derivation_reading.specs.Grammar.{Lookup, next, lookup, goes, gives, text_by, node_by, cover_by, part_by, split_at, bound_at, cut_at, signed};
+ghost use Rattle.derivation_reading.specs.Grammar.{Lookup, next, place_by, lookup, goes, gives, text_by, node_by, cover_by, part_by, split_at, bound_at, cut_at, signed};
 ghost use Rattle.derivation_reading.specs.Outcomes.{said, begins, IsMark};
 
 use crate::names::{dimension_of, object_of, place_of};
@@ -46,13 +46,14 @@ pub fn next(names: &Names, symbol: Symbol, terminal: Terminal, name: &[u8]) -> O
 {
     match terminal {
         Terminal::Name => at_name(names, symbol, name),
+        Terminal::Absent => at_place(names, symbol, b"absent".as_slice()),
         Terminal::Number(number) => at_number(names, symbol, number),
         Terminal::Minus => at_minus(symbol),
         _ => at_mark(symbol, terminal),
     }
 }
 
-// A word of the grammar, or the name of an object or a shape.
+// A word of the grammar, or the name of an object or a place.
 fn at_name(names: &Names, symbol: Symbol, name: &[u8]) -> Outcome
     ensures { said result ≡ next (lookup names.now) symbol terminals.Name name.now }
 {
@@ -77,6 +78,15 @@ fn at_name(names: &Names, symbol: Symbol, name: &[u8]) -> Outcome
             Some(o) => one(Symbol::GoneCovers(o)),
             None => Outcome::Unknown,
         },
+        _ => at_place(names, symbol, name),
+    }
+}
+
+// A place of an object, by the name of its shape or by the word `absent`.
+fn at_place(names: &Names, symbol: Symbol, name: &[u8]) -> Outcome
+    ensures { said result ≡ place_by (lookup names.now) symbol name.now }
+{
+    match symbol {
         Symbol::SplitShape(o) => match place_of(names, o, name) {
             Some(place) => split_shape(o, place),
             None => Outcome::Unknown,

@@ -33,15 +33,15 @@ pub enum Symbol {
     SplitObject,
     /// The word `shape`, or a dimension.
     SplitBy(ObjId),
-    /// The shape of a split.
+    /// The place of a split.
     SplitShape(ObjId),
     /// The word `upto` or `from`.
     SplitPart(ObjId, u32),
     /// The number of a split, and both nodes.
     SplitNumber(Part, ObjId, u32, Sign),
-    /// The object that has no point with one of its shapes.
+    /// The object that has no point at one of its places.
     DropObject,
-    /// That shape.
+    /// That place.
     DropShape(ObjId),
     /// The object of which a bound moves: its low ends where the part is from a number, its high ends where it is up to one.
     BoundObject(Part),
@@ -77,6 +77,8 @@ pub enum Terminal {
     Number(u32),
     /// The word `shape`.
     Shape,
+    /// The word `absent`.
+    Absent,
     Minus,
     /// The bracket that begins a list of covers.
     Open,
@@ -96,6 +98,7 @@ pub fn terminal_of(kind: Kind) -> Terminal
         Kind::Name => Terminal::Name,
         Kind::Number(value) => Terminal::Number(value),
         Kind::Word(Keyword::Shape) => Terminal::Shape,
+        Kind::Word(Keyword::Absent) => Terminal::Absent,
         Kind::Word(Keyword::Qed) => Terminal::Qed,
         Kind::Symbol(Sym::Minus) => Terminal::Minus,
         Kind::Symbol(Sym::BracketOpen) => Terminal::Open,

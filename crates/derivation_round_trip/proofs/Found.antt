@@ -7,7 +7,7 @@ use Rattle.std.proofs.lemmas.Bool.{cases_lt, cases_Bool, le-leb, lt-ltb}
 use Rattle.std.proofs.lemmas.List.{length-map, get_or-map}
 use Rattle.std.proofs.lemmas.List.Sums.{position_or_len_is}
 use Rattle.std.proofs.lemmas.Slice.Eq.{bytes_eq-Decides}
-use Rattle.geo_tokens.specs.Names.{NameTable, IsNameText, IsShapeList, IsNameTable, AllDifferent, object_names}
+use Rattle.geo_tokens.specs.Names.{NameTable, IsNameText, IsPlaceText, IsShapeList, IsNameTable, AllDifferent, object_names}
 use Rattle.derivation_text.specs.Lines.{object_name, shapes_of, shape_name, HasShape}
 use Rattle.derivation_reading.specs.Grammar.{has_name, lookup}
 
@@ -62,7 +62,7 @@ module _ (n : NameTable) (table : IsNameTable n) where
     unfolding number
     inside k lt = list.inside k 0 lt
 
-    pub shape_text : IsNameText (shape_name n o s)
+    pub shape_text : IsPlaceText (shape_name n o s)
     unfolding number
     shape_text = table.shape_texts (number (s - 1)) [] (inside (s - 1) here)
 

@@ -1,4 +1,5 @@
 pub mod Found
+pub mod Places
 pub mod LineParts
 pub mod Words
 pub mod ReadBack

@@ -22,6 +22,7 @@ use Rattle.derivation.specs.declared.event.Event.TheVariants.{SplitShape, SplitU
 use Rattle.derivation_text.specs.Lines.{object_name, shape_name, line_of, listed, lines_of, derivation_text, IsNamed, AreNamed}
 use Rattle.derivation_round_trip.specs.Limits.{IsTextNumber, IsLimited}
 use Rattle.derivation_round_trip.proofs.Found.{object_text, shape_text}
+use Rattle.derivation_round_trip.proofs.Places.{place_word, place_spelled, place_fits}
 
 -- ---- the parts
 
@@ -38,6 +39,9 @@ word_parts w = blank 32 ∷ lexeme (name w) ∷ blank 32 ∷ []
 abbrev pub end_parts : List Part
 end_parts = blank 10 ∷ []
 
+abbrev place_parts : List ℕ → List Part
+place_parts bytes = lexeme (place_word bytes) ∷ end_parts
+
 abbrev pub open_parts : List Part
 open_parts = blank 32 ∷ lexeme (symbol syms.BracketOpen) ∷ blank 10 ∷ []
 
@@ -50,15 +54,15 @@ number_parts first i = lexeme (name first) ∷ blank 32 ∷ lexeme (number i) �
 -- the parts of the line of an event
 abbrev pub line_parts : NameTable → ℕ → Event → List Part
 line_parts n o (SplitShape u s) =
-    lexeme (name (codes "split")) ∷ blank 32 ∷ lexeme (name (object_name n u.0)) ∷ blank 32 ∷ lexeme (word keywords.Shape) ∷ blank 32 ∷ lexeme (name (shape_name n u.0 s)) ∷ end_parts
+    lexeme (name (codes "split")) ∷ blank 32 ∷ lexeme (name (object_name n u.0)) ∷ blank 32 ∷ lexeme (word keywords.Shape) ∷ blank 32 ∷ place_parts (shape_name n u.0 s)
 line_parts n o (SplitUpto u d v) = coordinate_parts (codes "split") (object_name n u.0) d (word_parts (codes "upto")) v end_parts
 line_parts n o (SplitFrom u d v) = coordinate_parts (codes "split") (object_name n u.0) d (word_parts (codes "from")) v end_parts
-line_parts n o (Drop u s) = lexeme (name (codes "drop")) ∷ blank 32 ∷ lexeme (name (object_name n u.0)) ∷ blank 32 ∷ lexeme (name (shape_name n u.0 s)) ∷ end_parts
+line_parts n o (Drop u s) = lexeme (name (codes "drop")) ∷ blank 32 ∷ lexeme (name (object_name n u.0)) ∷ blank 32 ∷ place_parts (shape_name n u.0 s)
 line_parts n o (Raise u d v) = coordinate_parts (codes "raise") (object_name n u.0) d space_parts v open_parts
 line_parts n o (Lower u d v) = coordinate_parts (codes "lower") (object_name n u.0) d space_parts v open_parts
 line_parts n o (Gone u) = lexeme (name (codes "gone")) ∷ blank 32 ∷ lexeme (name (object_name n u.0)) ∷ open_parts
 line_parts n o (Dead i) = number_parts (codes "dead") i
-line_parts n o (Cover s) = lexeme (name (shape_name n o s)) ∷ end_parts
+line_parts n o (Cover s) = place_parts (shape_name n o s)
 line_parts n o EndCovers = lexeme (symbol syms.BracketClose) ∷ end_parts
 line_parts n o (By i) = number_parts (codes "by") i
 line_parts n o (Cut d v) = cut_parts (codes "cut") d v
@@ -80,20 +84,23 @@ int_bytes : (v : ℤ) (end : List Part) → all_bytes (int_parts v ++ end) ≡ s
 int_bytes (pos k) end = refl
 int_bytes (negsuc k) end = refl
 
+place_bytes : (bytes : List ℕ) → all_bytes (place_parts bytes) ≡ bytes ++ codes "\n"
+place_bytes bytes = ap (λ (b : List ℕ). b ++ codes "\n") (place_spelled bytes)
+
 line_bytes : (n : NameTable) (o : ℕ) (e : Event) → all_bytes (line_parts n o e) ≡ line_of n o e
-line_bytes n o (SplitShape u s) = refl
+line_bytes n o (SplitShape u s) = ap (λ (b : List ℕ). codes "split " ++ (object_name n u.0 ++ (codes " shape " ++ b))) (place_bytes (shape_name n u.0 s))
 line_bytes n o (SplitUpto u d v) =
     ap (λ (b : List ℕ). codes "split " ++ (object_name n u.0 ++ (codes " " ++ (signed_decimal (pos (d + 1)) ++ (codes " upto " ++ b))))) (int_bytes v end_parts)
 line_bytes n o (SplitFrom u d v) =
     ap (λ (b : List ℕ). codes "split " ++ (object_name n u.0 ++ (codes " " ++ (signed_decimal (pos (d + 1)) ++ (codes " from " ++ b))))) (int_bytes v end_parts)
-line_bytes n o (Drop u s) = refl
+line_bytes n o (Drop u s) = ap (λ (b : List ℕ). codes "drop " ++ (object_name n u.0 ++ (codes " " ++ b))) (place_bytes (shape_name n u.0 s))
 line_bytes n o (Raise u d v) =
     ap (λ (b : List ℕ). codes "raise " ++ (object_name n u.0 ++ (codes " " ++ (signed_decimal (pos (d + 1)) ++ (codes " " ++ b))))) (int_bytes v open_parts)
 line_bytes n o (Lower u d v) =
     ap (λ (b : List ℕ). codes "lower " ++ (object_name n u.0 ++ (codes " " ++ (signed_decimal (pos (d + 1)) ++ (codes " " ++ b))))) (int_bytes v open_parts)
 line_bytes n o (Gone u) = refl
 line_bytes n o (Dead i) = refl
-line_bytes n o (Cover s) = refl
+line_bytes n o (Cover s) = place_bytes (shape_name n o s)
 line_bytes n o EndCovers = refl
 line_bytes n o (By i) = refl
 line_bytes n o (Cut d v) = ap (λ (b : List ℕ). codes "cut " ++ (signed_decimal (pos (d + 1)) ++ (codes " " ++ b))) (int_bytes v end_parts)
@@ -178,15 +185,15 @@ module _ (n : NameTable) (table : IsNameTable n) where
   number_fits first i u hf hi = (hf, refl, (refl, (small_number i hi, refl, (refl, tt))))
 
   line_fits : (o : ℕ) (e : Event) (u : List ℕ) → IsNamed n o e → IsLimited e → Fits (line_parts n o e) u
-  line_fits o (SplitShape p s) u h l = (split_text, refl, (refl, (object_text n table p.0 h.0, refl, (refl, (tt, refl, (refl, (shape_text n table p.0 s h, refl, (refl, tt))))))))
+  line_fits o (SplitShape p s) u h l = (split_text, refl, (refl, (object_text n table p.0 h.0, refl, (refl, (tt, refl, (refl, place_fits (shape_name n p.0 s) u (shape_text n table p.0 s h)))))))
   line_fits o (SplitUpto p d v) u h l = split_fits (codes "upto") (object_name n p.0) d v u upto_text (object_text n table p.0 h.0) h.1 l
   line_fits o (SplitFrom p d v) u h l = split_fits (codes "from") (object_name n p.0) d v u from_text (object_text n table p.0 h.0) h.1 l
-  line_fits o (Drop p s) u h l = (drop_text, refl, (refl, (object_text n table p.0 h.0, refl, (refl, (shape_text n table p.0 s h, refl, (refl, tt))))))
+  line_fits o (Drop p s) u h l = (drop_text, refl, (refl, (object_text n table p.0 h.0, refl, (refl, place_fits (shape_name n p.0 s) u (shape_text n table p.0 s h)))))
   line_fits o (Raise p d v) u h l = coordinate_fits (codes "raise") (object_name n p.0) d v open_parts u raise_text (object_text n table p.0 h.0) h.1 l space_ends (refl, (tt, refl, (refl, tt)))
   line_fits o (Lower p d v) u h l = coordinate_fits (codes "lower") (object_name n p.0) d v open_parts u lower_text (object_text n table p.0 h.0) h.1 l space_ends (refl, (tt, refl, (refl, tt)))
   line_fits o (Gone p) u h l = (gone_text, refl, (refl, (object_text n table p.0 h, refl, (refl, (tt, refl, (refl, tt))))))
   line_fits o (Dead i) u h l = number_fits (codes "dead") i u dead_text l
-  line_fits o (Cover s) u h l = (shape_text n table o s h, refl, (refl, tt))
+  line_fits o (Cover s) u h l = place_fits (shape_name n o s) u (shape_text n table o s h)
   line_fits o EndCovers u h l = (tt, refl, (refl, tt))
   line_fits o (By i) u h l = number_fits (codes "by") i u by_text l
   line_fits o (Cut d v) u h l = cut_fits (codes "cut") d v u cut_text h l

@@ -18,7 +18,8 @@ use Rattle.derivation_reading.specs.Machine.{Spells}
 use Rattle.derivation_reading.specs.FirstFault.{most_bytes, IsText}
 use Rattle.derivation_round_trip.specs.Limits.{IsLimited}
 use Rattle.derivation_round_trip.proofs.LineParts.{text_parts, text_bytes, text_fits}
-use Rattle.derivation_round_trip.proofs.Words.{seen, words, words_read}
+use Rattle.derivation_round_trip.proofs.Places.{seen}
+use Rattle.derivation_round_trip.proofs.Words.{words, words_read}
 
 same_lexeme : (k l : Kind) (b c : List ℕ) → k ≡ l → b ≡ c → (let x : Lexeme = record { is = terminal_of k; name = name_by k b } in x) ≡ record { is = terminal_of l; name = name_by l c }
 same_lexeme k l b c e f =

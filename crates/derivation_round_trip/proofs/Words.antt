@@ -7,7 +7,7 @@ use Rattle.std.proofs.lemmas.List.{append-nil, map-append}
 use Rattle.std.proofs.lemmas.Slice.Eq.{bytes_eq-Decides}
 use Rattle.geo_tokens.specs.Names.{NameTable, IsNameTable}
 use Rattle.geo_tokens.specs.declared.token.Keyword.TheVariants as keywords
-use Rattle.rule_print.specs.Canonical.{Written, number, word, sign, kind_of, spelling}
+use Rattle.rule_print.specs.Canonical.{name, number, word, sign}
 use Rattle.layout_text.proofs.PrintedParts.{int_parts}
 use Rattle.layout_text.proofs.TextParts as parts
 use Rattle.layout_text.proofs.TextParts.{Part, lexemes_both}
@@ -30,19 +30,17 @@ use Rattle.derivation_reading.specs.declared.symbol.Symbol.{Symbol}
 use Rattle.derivation_reading.specs.declared.symbol.Symbol.TheVariants.{Text, Node, Qed, SplitObject, SplitBy, SplitShape, SplitPart, SplitNumber, DropObject, DropShape, BoundObject, BoundDimension, BoundNumber, BoundCovers, GoneObject, GoneCovers, DeadNumber, Covers, Cover, ByNumber, CutDimension, CutNumber}
 use Rattle.derivation_reading.specs.declared.symbol.Terminal.{Terminal}
 use Rattle.derivation_reading.specs.declared.symbol.Terminal.TheVariants as terminals
-use Rattle.derivation_reading.specs.Terminals.{Lexeme, terminal_of, name_by}
-use Rattle.derivation_reading.specs.Grammar.{Lookup, lookup, Next, Wrong, Goes, goes, gives, known, an, node_by, text_by, next, at}
+use Rattle.derivation_reading.specs.Terminals.{Lexeme}
+use Rattle.derivation_reading.specs.Grammar.{Lookup, lookup, Next, Wrong, Goes, goes, gives, known, an, node_by, text_by, next, at, place_by}
 use Rattle.derivation_reading.specs.Machine.{Leaves, on, Spells}
 use Rattle.derivation_reading.proofs.Steps.{none_taken, at_once, first_step, joined}
 use Rattle.derivation_round_trip.proofs.Found.{object_found, shape_found, dimension_found}
+use Rattle.derivation_round_trip.proofs.Places.{seen, place_word, place_seen}
 use Rattle.derivation_round_trip.proofs.LineParts.{line_parts, lines_parts, text_parts, qed_parts, end_parts, open_parts}
 
 -- ---- words
 
--- a token as the grammar sees it; those of some parts
-abbrev pub seen : Written → Lexeme
-seen w = record { is = terminal_of (kind_of w); name = name_by (kind_of w) (spelling w) }
-
+-- the tokens of some parts as the grammar sees them
 abbrev pub words : List Part → List Lexeme
 words ps = map seen (parts.lexemes ps)
 
@@ -160,8 +158,13 @@ module _ (n : NameTable) (table : IsNameTable n) where
   object_is : (o : ℕ) (f : ℕ → Next) → o < length n.objects → known ((lookup n).object (object_name n o)) f ≡ f o
   object_is o f h = known_is ((lookup n).object (object_name n o)) o f (object_found n table o h)
 
-  shape_is : (o s : ℕ) (f : ℕ → Next) → HasShape n o s → known ((lookup n).place o (shape_name n o s)) f ≡ f s
-  shape_is o s f h = known_is ((lookup n).place o (shape_name n o s)) s f (shape_found n table o s h)
+  -- where the symbol is a place of the object
+  shape_is : (x : Symbol) (o s : ℕ) (f : ℕ → Next) → HasShape n o s → ((w : List ℕ) → at (lookup n) x (seen (name w)) ≡ known ((lookup n).place o w) f)
+      → at (lookup n) x (seen (word keywords.Absent)) ≡ known ((lookup n).place o (codes "absent")) f → ((w : List ℕ) → known ((lookup n).place o w) f ≡ place_by (lookup n) x w)
+      → at (lookup n) x (seen (place_word (shape_name n o s))) ≡ f s
+  shape_is x o s f h named absent by =
+      place_seen (lookup n) x (shape_name n o s) (λ w. named w ∙ by w) (absent ∙ by (codes "absent")) ∙ sym (by (shape_name n o s))
+      ∙ known_is ((lookup n).place o (shape_name n o s)) s f (shape_found n table o s h)
 
   dimension_is : (d : ℕ) (f : ℕ → Next) → d < n.dims → known ((lookup n).dimension (d + 1)) f ≡ f d
   dimension_is d f h = known_is ((lookup n).dimension (d + 1)) d f (dimension_found n d h)
@@ -171,7 +174,7 @@ module _ (n : NameTable) (table : IsNameTable n) where
       go n (SplitObject ∷ []) refl
       (go n (SplitBy (an p) ∷ []) (object_is p (λ x. goes (SplitBy (an x) ∷ [])) h.0)
       (go n (SplitShape (an p) ∷ []) refl
-      (give n (events.SplitShape (an p) s) (Node ∷ Node ∷ []) (shape_is p s (λ x. gives (events.SplitShape (an p) x) (Node ∷ Node ∷ [])) h)
+      (give n (events.SplitShape (an p) s) (Node ∷ Node ∷ []) (shape_is (SplitShape (an p)) p s (λ x. gives (events.SplitShape (an p) x) (Node ∷ Node ∷ [])) h (λ w. refl) refl (λ w. refl))
       (at_once (lookup n) (Node ∷ Node ∷ ss)))))
   split_line ss o p (OfSide (sides.Upto d v)) h =
       go n (SplitObject ∷ []) refl
@@ -192,7 +195,7 @@ module _ (n : NameTable) (table : IsNameTable n) where
   drop_line ss o p s h =
       go n (DropObject ∷ []) refl
       (go n (DropShape (an p) ∷ []) (object_is p (λ x. goes (DropShape (an x) ∷ [])) h.0)
-      (give n (events.Drop (an p) s) (Cover ∷ Node ∷ []) (shape_is p s (λ x. gives (events.Drop (an p) x) (Cover ∷ Node ∷ [])) h)
+      (give n (events.Drop (an p) s) (Cover ∷ Node ∷ []) (shape_is (DropShape (an p)) p s (λ x. gives (events.Drop (an p) x) (Cover ∷ Node ∷ [])) h (λ w. refl) refl (λ w. refl))
       (at_once (lookup n) (Cover ∷ Node ∷ ss))))
 
   bound_line : (ss : List Symbol) (o p : ℕ) (side : Side) → IsNamed n o (bound_event p side) → Reads n (Covers (an p) ∷ Node ∷ ss) (Node ∷ ss) (line_parts n o (bound_event p side)) (bound_event p side ∷ [])
@@ -222,7 +225,7 @@ module _ (n : NameTable) (table : IsNameTable n) where
 
   place_line : (ss : List Symbol) (o s : ℕ) → HasShape n o s → Reads n (Cover ∷ Covers (an o) ∷ ss) (Covers (an o) ∷ ss) (line_parts n o (events.Cover s)) (events.Cover s ∷ [])
   place_line ss o s h =
-      give n (events.Cover s) (Cover ∷ Covers (an o) ∷ []) (shape_is o s (λ x. gives (events.Cover x) (Cover ∷ Covers (an o) ∷ [])) h) (at_once (lookup n) (Cover ∷ Covers (an o) ∷ ss))
+      give n (events.Cover s) (Cover ∷ Covers (an o) ∷ []) (shape_is (Covers (an o)) o s (λ x. gives (events.Cover x) (Cover ∷ Covers (an o) ∷ [])) h (λ w. refl) refl (λ w. refl)) (at_once (lookup n) (Cover ∷ Covers (an o) ∷ ss))
 
   end_line : (ss : List Symbol) (o : ℕ) → Reads n ss (Covers (an o) ∷ ss) (line_parts n o events.EndCovers) (events.EndCovers ∷ [])
   end_line ss o = give n events.EndCovers [] refl (at_once (lookup n) ss)

@@ -16,7 +16,8 @@ use Rattle.derivation_reading.specs.Grammar.{Lookup, lookup, Goes, goes, at}
 use Rattle.derivation_reading.specs.Machine.{Leaves, on, Spells}
 use Rattle.derivation_reading.proofs.Steps.{first_step}
 use Rattle.derivation_round_trip.proofs.LineParts.{text_parts}
-use Rattle.derivation_round_trip.proofs.Words.{seen, words}
+use Rattle.derivation_round_trip.proofs.Places.{seen}
+use Rattle.derivation_round_trip.proofs.Words.{words}
 
 -- a text whose first word begins a node is a node and the word `qed`
 as_node : (L : Lookup) (s : Symbol) (w : Lexeme) {ws : List Lexeme} {es : List Event} → at L Text w ≡ goes (s ∷ Qed ∷ []) → at L Node w ≡ goes (s ∷ []) → Spells L (w ∷ ws) es

@@ -31,7 +31,8 @@ use Rattle.derivation_reading.specs.FirstFault.{most_bytes, IsText}
 use Rattle.derivation_reading.proofs.Cuttings.{cut_length}
 use Rattle.derivation_round_trip.specs.Limits.{IsLimited}
 use Rattle.derivation_round_trip.proofs.LineParts.{text_parts, text_bytes, text_fits}
-use Rattle.derivation_round_trip.proofs.Words.{seen, words, words_read}
+use Rattle.derivation_round_trip.proofs.Places.{seen}
+use Rattle.derivation_round_trip.proofs.Words.{words, words_read}
 use Rattle.whole_derivation.specs.Whole.{IsDerivation}
 use Rattle.printed_derivation.specs.Printable.{IsPrintable}
 use Rattle.printed_derivation.specs.Tables.{IsTableOf}
