@@ -46,6 +46,25 @@ const SUM_WITH_HOLES: &[u8] =
 const SUM_IN_A_HOLE: &[u8] =
     b"geost 2 dims 1 shape u box 0 size 1 ; object a as u at 0..3, 7..9 ; rule r : a.x1 >= 4 and a.x1 <= 6 ; end";
 
+/// There is room for one of them, and a has to be there.
+const LEFT_OUT: &[u8] =
+    b"geost 2 dims 1 shape s box 0 size 2 ; object a as s at 0..1 ; object b as s, absent at 0..1 ; rule r : apart ; end";
+
+const LEFT_OUT_DOWNWARDS: &[u8] =
+    b"geost 2 dims 1 shape s box 0 size 2 ; object a as s at 0..1 ; object b as s, absent at 0..1 ; sides high ; rule r : apart ; end";
+
+/// Two cells hold two of three objects, in two ways.
+const TWO_OF_THREE: &[u8] =
+    b"geost 2 dims 1 shape u box 0 size 1 ; object a as u, absent at 0..1 ; object b as u, absent at 0..1 ; object c as u, absent at 0..1 ; rule r : apart ; rule q : atleast 2 p in objects : true ; end";
+
+/// Only a, in 3 places with each of 2 shapes; only b, in 3 places; none of them.
+const ONE_OF_TWO: &[u8] =
+    b"geost 2 dims 1 shape u box 0 size 1 ; shape v box 0 size 2 ; object a as u, v, absent at 0..2 ; object b as u, absent at 0..2 ; rule q : atmost 1 p in objects : p.sid >= 1 ; end";
+
+/// Each of them is absent, at 2 or at 3, and one is at 2.
+const THOSE_PRESENT: &[u8] =
+    b"geost 2 dims 1 shape u box 0 size 1 ; object a as u, absent at 0..3 ; object b as u, absent at 0..3 ; rule f : forall p in objects : p.x1 >= 2 ; rule e : exists p in objects : p.x1 <= 2 ; end";
+
 const NOTHING: &[u8] = b"geost 1 dims 1 end";
 
 const FALSE_RULE: &[u8] = b"geost 1 dims 1 rule f : false ; end";
@@ -222,6 +241,11 @@ const PROBLEMS: &[(&[u8], usize)] = &[
     (ROOM_BEHIND_A_HOLE_DOWNWARDS, 4),
     (SUM_WITH_HOLES, 6),
     (SUM_IN_A_HOLE, 0),
+    (LEFT_OUT, 2),
+    (LEFT_OUT_DOWNWARDS, 2),
+    (TWO_OF_THREE, 6),
+    (ONE_OF_TWO, 10),
+    (THOSE_PRESENT, 5),
     (NOTHING, 1),
     (FALSE_RULE, 0),
     (NO_ROOM, 0),

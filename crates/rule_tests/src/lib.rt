@@ -4,4 +4,6 @@
 #![tactic(auto)]
 
 #[cfg(test)]
+mod optional;
+#[cfg(test)]
 mod tests;

@@ -13,7 +13,7 @@ use std::process::Abort;
 use std::test::Fail;
 
 /// Appends the constant, and each factor with its object's number.
-fn push_form(alloc: Global, f: &Form, out: &mut String) -> Result<(), AllocError> {
+pub fn push_form(alloc: Global, f: &Form, out: &mut String) -> Result<(), AllocError> {
     out.push_str(format!(in alloc; "{}", f.constant())?.as_str())?;
     for term in f.terms() {
         out.push_str(format!(in alloc; " {}*x{}", term.factor, term.object.0)?.as_str())?;

@@ -12,7 +12,8 @@ use problem_data::tree::Side;
 use rule_expand::plain::PlainRule;
 use std::alloc::{AllocError, Global};
 
-/// Where an object is put: the place of its shape, from 1, and its origin.
+/// Where an object is put: its place, from 1, and its origin. The place behind those of its shapes is
+/// that of an absent object.
 pub struct Put {
     pub place: u8,
     pub origin: Vec<i64>,
@@ -86,13 +87,22 @@ fn shapes(object: &ObjectDef) -> u8
         .max(1)
 }
 
-/// How many spots an object has.
-fn spots(object: &ObjectDef) -> u32 {
+/// How many spots an object has where it is present.
+fn spots_present(object: &ObjectDef) -> u32 {
     let mut count = u32::from(shapes(object));
     for range in object.pieces() {
         count = count.saturating_mul(numbers(range));
     }
     count
+}
+
+/// How many spots an object has.
+fn spots(object: &ObjectDef) -> u32
+    ensures { 1 ≤ result }
+{
+    spots_present(object)
+        .saturating_add(u32::from(object.may_be_absent()))
+        .max(1)
 }
 
 /// How many tuples a problem has.
@@ -104,11 +114,34 @@ pub fn number_of_tuples(problem: &Problem) -> u32 {
     count
 }
 
-/// The spot of an object that the digits say.
-fn spot(alloc: Global, object: &ObjectDef, digits: &mut Digits) -> Result<Put, AllocError> {
+/// The value of a range that is tried first.
+fn first_value(range: &PiecesDef, side: Side) -> i64 {
+    let piece = match side {
+        Side::Low => range.ranges().first(),
+        Side::High => range.ranges().last(),
+    };
+    match (piece, side) {
+        (Some(piece), Side::Low) => piece.low,
+        (Some(piece), Side::High) => piece.high,
+        (None, _) => 0,
+    }
+}
+
+/// The spot of an object that is absent.
+fn absent_spot(alloc: Global, problem: &Problem, object: &ObjectDef) -> Result<Put, AllocError> {
     let mut origin = Vec::new(alloc);
-    let shapes = shapes(object);
-    let place = digits.take(u32::from(shapes));
+    for (range, side) in object.pieces().iter().zip(problem.sides()) {
+        origin.push(first_value(range, *side))?;
+    }
+    let place = shapes(object).saturating_add(1);
+    Ok(Put { place, origin })
+}
+
+/// The spot with that number of an object that is present.
+fn present_spot(alloc: Global, object: &ObjectDef, number: u32) -> Result<Put, AllocError> {
+    let mut origin = Vec::new(alloc);
+    let mut digits = Digits { rest: number };
+    let place = digits.take(u32::from(shapes(object)));
     for range in object.pieces() {
         let before = digits.take(numbers(range));
         origin.push(number_behind(range, before))?;
@@ -117,12 +150,27 @@ fn spot(alloc: Global, object: &ObjectDef, digits: &mut Digits) -> Result<Put, A
     Ok(Put { place, origin })
 }
 
+/// The spot with that number of an object; the last one is that where it is absent.
+fn spot(
+    alloc: Global,
+    problem: &Problem,
+    object: &ObjectDef,
+    number: u32,
+) -> Result<Put, AllocError> {
+    if number < spots_present(object) {
+        present_spot(alloc, object, number)
+    } else {
+        absent_spot(alloc, problem, object)
+    }
+}
+
 /// The tuple with that number.
 fn tuple(alloc: Global, problem: &Problem, number: u32) -> Result<Vec<Put>, AllocError> {
     let mut digits = Digits { rest: number };
     let mut puts = Vec::new(alloc);
     for object in problem.objects() {
-        puts.push(spot(alloc, object, &mut digits)?)?;
+        let number = digits.take(spots(object));
+        puts.push(spot(alloc, problem, object, number)?)?;
     }
     Ok(puts)
 }
@@ -148,6 +196,21 @@ fn push_line(
     text: &mut Vec<u8>,
 ) -> Result<(), AllocError> {
     text.extend_from_slice(object.name().as_bytes())?;
+    if put.place > shapes(object) {
+        text.extend_from_slice(b" absent\n")?;
+        return Ok(());
+    }
+    push_place(alloc, problem, object, put, text)
+}
+
+/// Appends in which shape and where an object is put.
+fn push_place(
+    alloc: Global,
+    problem: &Problem,
+    object: &ObjectDef,
+    put: &Put,
+    text: &mut Vec<u8>,
+) -> Result<(), AllocError> {
     text.extend_from_slice(b" as ")?;
     text.extend_from_slice(shape_name(problem, object, put.place))?;
     text.extend_from_slice(b" at")?;

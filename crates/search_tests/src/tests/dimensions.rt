@@ -1,5 +1,5 @@
-//! Sweeps, prunings and settles in six dimensions, and checks in five and six, against what was
-//! worked out by hand.
+//! Sweeps, prunings, settles and checks in five and six dimensions, against what was worked out by
+//! hand.
 
 ghost use Rattle.std.specs.Prelude.{◌<◌, ◌≤◌};
 ghost use Rattle.geo_base.specs.Ways.{IsSmallPoint};
@@ -52,19 +52,20 @@ fn last<const K: usize>(lead: usize) -> usize
 
 /// Whether the sweep of a cube, with B fixed at a number, finds the point that has `other` in the dimension d and `each` in every
 /// other one.
-fn finds(
+fn finds<const K: usize>(
     alloc: Global,
     fixed: i64,
     c: Cond,
-    region: &KBox<6>,
-    way: &Way<6>,
+    region: &KBox<K>,
+    way: &Way<K>,
     wanted: (i64, usize, i64),
 ) -> Result<bool, AllocError>
-    requires small { IsSmallPoint 6 region.now.lo.coordinates
-        × IsSmallPoint 6 region.now.hi.coordinates }
+    requires k { (0 < K) × (K ≤ MAX_DIMS) }
+    requires small { IsSmallPoint K region.now.lo.coordinates
+        × IsSmallPoint K region.now.hi.coordinates }
 {
     let (each, d, other) = wanted;
-    let s = state::<6>(alloc, &[(1, 0, 9), (1, fixed, fixed)])?;
+    let s = state::<K>(alloc, &[(1, 0, 9), (1, fixed, fixed)])?;
     match first_point(&s, c, region, way)? {
         Some(p) => Ok(is_at(&p, each, d, other)),
         None => Ok(false),
@@ -73,30 +74,33 @@ fn finds(
 
 /// Whether the sweeps that begin with that dimension find their points. With all coordinates but one at an end, the one in the
 /// lead stays where the sweep begins. Beside a box of size 2 only the last coordinate moves.
-fn are_found(alloc: Global, lead: usize) -> Result<bool, AllocError>
-    requires { lead < 6 }
+fn are_found<const K: usize>(alloc: Global, lead: usize) -> Result<bool, AllocError>
+    requires k { (0 < K) × (K ≤ MAX_DIMS) }
+    requires lead { lead < K }
 {
     let up = Way::new(lead, true);
     let down = Way::new(lead, false);
-    let end = last::<6>(lead);
-    let small = cube::<6>(0, 2);
-    let large = cube::<6>(0, 3);
-    let high = all_but_one::<6>(alloc, true)?;
-    let low = all_but_one::<6>(alloc, false)?;
-    let two = apart::<6>(alloc, 2)?;
-    let other = apart::<6>(alloc, 2)?;
+    let end = last::<K>(lead);
+    let small = cube::<K>(0, 2);
+    let large = cube::<K>(0, 3);
+    let high = all_but_one::<K>(alloc, true)?;
+    let low = all_but_one::<K>(alloc, false)?;
+    let two = apart::<K>(alloc, 2)?;
+    let other = apart::<K>(alloc, 2)?;
     Ok(
-        finds(alloc, 0, high, &small, &up, (2, lead, 0))?
-            && finds(alloc, 0, low, &small, &down, (0, lead, 2))?
-            && finds(alloc, 0, two, &large, &up, (0, end, 2))?
-            && finds(alloc, 2, other, &large, &down, (3, end, 1))?,
+        finds::<K>(alloc, 0, high, &small, &up, (2, lead, 0))?
+            && finds::<K>(alloc, 0, low, &small, &down, (0, lead, 2))?
+            && finds::<K>(alloc, 0, two, &large, &up, (0, end, 2))?
+            && finds::<K>(alloc, 2, other, &large, &down, (3, end, 1))?,
     )
 }
 
 /// The same for each lead.
-fn are_all_found(alloc: Global) -> Result<bool, AllocError> {
-    for lead in 0..6 {
-        if !are_found(alloc, lead)? {
+fn are_all_found<const K: usize>(alloc: Global) -> Result<bool, AllocError>
+    requires { (0 < K) × (K ≤ MAX_DIMS) }
+{
+    for lead in 0..K {
+        if !are_found::<K>(alloc, lead)? {
             return Ok(false);
         }
     }
@@ -106,7 +110,7 @@ fn are_all_found(alloc: Global) -> Result<bool, AllocError> {
 #[test]
 fn sweeps_find_their_points(rt: HostRuntime) -> Result<(), Fail> {
     let alloc = rt.alloc();
-    assert!(rt; are_all_found(alloc)?);
+    assert!(rt; are_all_found::<5>(alloc)? && are_all_found::<6>(alloc)?);
     Ok(())
 }
 
@@ -152,7 +156,7 @@ fn are_pruned<const K: usize>(alloc: Global) -> Result<bool, AllocError>
 #[test]
 fn a_box_is_pruned_where_it_has_room(rt: HostRuntime) -> Result<(), Fail> {
     let alloc = rt.alloc();
-    assert!(rt; are_pruned::<6>(alloc)?);
+    assert!(rt; are_pruned::<5>(alloc)? && are_pruned::<6>(alloc)?);
     Ok(())
 }
 
@@ -167,12 +171,14 @@ fn behind<const K: usize>(alloc: Global, gap: i8) -> Result<Vec<Cond>, AllocErro
 
 /// The first two regions that a settle leaves of A and B in 0 to 4 in each dimension, and its events; none where it leaves none,
 /// or cannot begin.
-fn settle(
+fn settle<const K: usize>(
     alloc: Global,
     list: Vec<Cond>,
     rec: &mut Log,
-) -> Result<Option<(KBox<6>, KBox<6>)>, AllocError> {
-    let s = state::<6>(alloc, &[(1, 0, 4), (1, 0, 4)])?;
+) -> Result<Option<(KBox<K>, KBox<K>)>, AllocError>
+    requires { (0 < K) × (K ≤ MAX_DIMS) }
+{
+    let s = state::<K>(alloc, &[(1, 0, 4), (1, 0, 4)])?;
     if !is_small(&s) || !all_fit(&list, &s) || list.len() > 1_000_000_000 {
         return Ok(None);
     }
@@ -187,24 +193,26 @@ fn settle(
 }
 
 /// Whether A and B are kept apart by 2 in each dimension, and find no room for 5, as the check of what is recorded says too.
-fn are_settled(alloc: Global) -> Result<bool, AllocError> {
+fn are_settled<const K: usize>(alloc: Global) -> Result<bool, AllocError>
+    requires { (0 < K) × (K ≤ MAX_DIMS) }
+{
     let mut log = Log::new(alloc);
-    let Some((first, second)) = settle(alloc, behind::<6>(alloc, 2)?, &mut log)? else {
+    let Some((first, second)) = settle::<K>(alloc, behind::<K>(alloc, 2)?, &mut log)? else {
         return Ok(false);
     };
     if !is_box(&first, (0, 2), 0, (0, 2)) || !is_box(&second, (2, 4), 0, (2, 4)) {
         return Ok(false);
     }
     let mut log = Log::new(alloc);
-    let none = settle(alloc, behind::<6>(alloc, 5)?, &mut log)?.is_none();
-    let s = state::<6>(alloc, &[(1, 0, 4), (1, 0, 4)])?;
-    Ok(none && verdict(alloc, &s, &behind::<6>(alloc, 5)?, &log)? == Some(0))
+    let none = settle::<K>(alloc, behind::<K>(alloc, 5)?, &mut log)?.is_none();
+    let s = state::<K>(alloc, &[(1, 0, 4), (1, 0, 4)])?;
+    Ok(none && verdict(alloc, &s, &behind::<K>(alloc, 5)?, &log)? == Some(0))
 }
 
 #[test]
 fn settles_move_both_ends(rt: HostRuntime) -> Result<(), Fail> {
     let alloc = rt.alloc();
-    assert!(rt; are_settled(alloc)?);
+    assert!(rt; are_settled::<5>(alloc)? && are_settled::<6>(alloc)?);
     Ok(())
 }
 

@@ -27,7 +27,39 @@ const WIDE: &[u8] = b"geost 1 dims 2 shape u box 0 0 size 1 1 ; \
 const TWO_BOXES: &[u8] = b"geost 1 dims 1 shape u box 0 size 1 ; shape w box 0 size 2 ; \
     object a as u at 0..9 ; object b as u, w at -5..5 ; end";
 
+/// Two objects on a line, of which the second one may be absent.
+const OPTIONAL: &[u8] = b"geost 2 dims 1 shape s box 0 size 2 ; \
+    object a as s at 0..1 ; object b as s, absent at 0..1 ; end";
+
+/// Two objects on a line, of which the first one may be absent.
+const FIRST_OPTIONAL: &[u8] = b"geost 2 dims 1 shape s box 0 size 2 ; \
+    object a as s, absent at 0..1 ; object b as s at 0..1 ; end";
+
 const ROWS: &[Row] = &[
+    // an absent object has no cells, and the others keep their signs; without cells there is no box
+    (OPTIONAL, b"layout a as s at 0 b absent", b"box 0..1\naa\n"),
+    (
+        OPTIONAL,
+        b"layout a as s at 0 b absent token 1,0/2,0",
+        b"box 0..1\naa\n",
+    ),
+    (
+        FIRST_OPTIONAL,
+        b"layout a absent b as s at 1",
+        b"box 1..2\nbb\n",
+    ),
+    (
+        b"geost 2 dims 1 shape s box 0 size 2 ; object a as s, absent at 5..6 ; end",
+        b"layout a absent",
+        b"box -\n",
+    ),
+    // the word where the object has to be there, and a token with another origin
+    (OPTIONAL, b"layout a absent b absent", b"At(109, Unknown)"),
+    (
+        OPTIONAL,
+        b"layout a as s at 0 b absent token 1,0/2,1",
+        b"At(128, Token)",
+    ),
     (LINE, b"layout a as s at 0 b as s at 2", b"box 0..3\naabb\n"),
     (
         LINE,
@@ -176,6 +208,22 @@ const ROWS: &[Row] = &[
         TWO_BOXES,
         b"layout\na as u at\nb as w at -5\n",
         b"At(117, Syntax)",
+    ),
+    // no object of version 1 may be absent; the word is no shape, and nothing stands behind it
+    (
+        TWO_BOXES,
+        b"layout\na as u at 3\nb absent\n",
+        b"At(121, Unknown)",
+    ),
+    (
+        TWO_BOXES,
+        b"layout\na as u at 3\nb as absent at 0\n",
+        b"At(124, Syntax)",
+    ),
+    (
+        TWO_BOXES,
+        b"layout\na absent at 3\nb as w at -5\n",
+        b"At(116, Syntax)",
     ),
     (TWO_BOXES, b"", b"At(100, Syntax)"),
     (TWO_BOXES, b"layout ?", b"At(107, Byte)"),

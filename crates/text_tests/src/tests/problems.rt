@@ -25,6 +25,34 @@ pub const PROBLEMS: &[(&[u8], &str)] = &[
         "geost 2 dims 6\nshape u box 0 0 0 0 0 0 size 1 1 1 1 1 1 ;\nobject a as u at 0..1 0..1 0..1 0..1, 3..3 0..1 -1..-1, 1..1 ;\nend\n",
     ),
     (
+        b"geost 2 dims 1 shape s box 0 size 2 ; object a as s at 0..1 ; object b as s,absent at 0..1 ; rule r : apart ; end",
+        "geost 2 dims 1\nshape s box 0 size 2 ;\nobject a as s at 0..1 ;\nobject b as s, absent at 0..1 ;\nrule r : apart ;\nend\n",
+    ),
+    (
+        b"geost 2 dims 1 shape s box 0 size 2 ; object a as absent at 0..1 ; end",
+        "At(50, Syntax)",
+    ),
+    (
+        b"geost 2 dims 1 shape s box 0 size 2 ; object a as s, absent, s at 0..1 ; end",
+        "At(59, Syntax)",
+    ),
+    (
+        b"geost 1 dims 1 shape s box 0 size 2 ; object a as s, absent at 0..1 ; end",
+        "At(53, Syntax)",
+    ),
+    (
+        b"geost 3 dims 1 shape s box 0 size 2 ; object a as s, absent at 0..1 ; end",
+        "At(53, Syntax)",
+    ),
+    (
+        b"geost 2 dims 1 shape a box 0 size 1 ; shape b box 0 size 1 ; shape c box 0 size 1 ; shape d box 0 size 1 ; shape e box 0 size 1 ; shape f box 0 size 1 ; shape g box 0 size 1 ; shape h box 0 size 1 ; shape i box 0 size 1 ; shape j box 0 size 1 ; shape k box 0 size 1 ; shape l box 0 size 1 ; shape m box 0 size 1 ; shape n box 0 size 1 ; shape o box 0 size 1 ; shape p box 0 size 1 ; object z as a, b, c, d, e, f, g, h, i, j, k, l, m, n, o, p, absent at 0..1 ; end",
+        "At(443, Limit)",
+    ),
+    (
+        b"geost 2 dims 1 shape a box 0 size 1 ; shape b box 0 size 1 ; shape c box 0 size 1 ; shape d box 0 size 1 ; shape e box 0 size 1 ; shape f box 0 size 1 ; shape g box 0 size 1 ; shape h box 0 size 1 ; shape i box 0 size 1 ; shape j box 0 size 1 ; shape k box 0 size 1 ; shape l box 0 size 1 ; shape m box 0 size 1 ; shape n box 0 size 1 ; shape o box 0 size 1 ; object z as a, b, c, d, e, f, g, h, i, j, k, l, m, n, o, absent at 0..1 ; end",
+        "geost 2 dims 1\nshape a box 0 size 1 ;\nshape b box 0 size 1 ;\nshape c box 0 size 1 ;\nshape d box 0 size 1 ;\nshape e box 0 size 1 ;\nshape f box 0 size 1 ;\nshape g box 0 size 1 ;\nshape h box 0 size 1 ;\nshape i box 0 size 1 ;\nshape j box 0 size 1 ;\nshape k box 0 size 1 ;\nshape l box 0 size 1 ;\nshape m box 0 size 1 ;\nshape n box 0 size 1 ;\nshape o box 0 size 1 ;\nobject z as a, b, c, d, e, f, g, h, i, j, k, l, m, n, o, absent at 0..1 ;\nend\n",
+    ),
+    (
         b"geost 2 dims 1 shape s box 0 size 1 ; object a as s at 0..1, 3..4, 6..7, 9..10, 12..13, 15..16, 18..19, 21..22 ; end",
         "geost 2 dims 1\nshape s box 0 size 1 ;\nobject a as s at 0..1, 3..4, 6..7, 9..10, 12..13, 15..16, 18..19, 21..22 ;\nend\n",
     ),

@@ -19,12 +19,36 @@ const LINE: &[u8] = b"geost 1 dims 1 shape s box 0 size 2 ; \
 const PLANE: &[u8] = b"geost 1 dims 2 shape flat box 0 0 size 2 1 ; shape tall box 0 0 size 1 2 ; \
     object a as flat at 0..5 -9..-1 ; object b as flat, tall at -20..20 0..0 ; end";
 
+/// Two objects on a line, of which the second one may be absent.
+const OPTIONAL: &[u8] = b"geost 2 dims 1 shape s box 0 size 2 ; \
+    object a as s at 0..1 ; object b as s, absent at 0..1, 5..6 ; end";
+
+/// The same, with values tried from the high end down.
+const DOWNWARDS: &[u8] = b"geost 2 dims 1 shape s box 0 size 2 ; \
+    object a as s at 0..1 ; object b as s, absent at 0..1, 5..6 ; sides high ; end";
+
 const EMPTY: &[u8] = b"geost 1 dims 1 end";
 
 /// A problem and a word, with the layout block of the tuple that the word stands for, or its fault.
 type Row = (&'static [u8], &'static [u8], &'static [u8]);
 
 const ROWS: &[Row] = &[
+    // an absent object has the place behind those of its shapes, and its first values
+    (
+        OPTIONAL,
+        b"1,0/2,0",
+        b"layout\na as s at 0\nb absent\ntoken 1,0/2,0\n",
+    ),
+    (OPTIONAL, b"1,0/2,1", b"BadToken"),
+    (OPTIONAL, b"1,0/2,6", b"BadToken"),
+    (OPTIONAL, b"1,0/3,0", b"BadToken"),
+    (OPTIONAL, b"2,0/1,0", b"BadToken"),
+    (
+        DOWNWARDS,
+        b"1,1/2,6",
+        b"layout\na as s at 1\nb absent\ntoken 1,1/2,6\n",
+    ),
+    (DOWNWARDS, b"1,1/2,0", b"BadToken"),
     (
         LINE,
         b"1,0/1,2",
