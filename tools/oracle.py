@@ -11,6 +11,7 @@ from dataclasses import dataclass, field
 from typing import Callable, Iterator
 
 from geost.text import (
+    ABSENT,
     Apart,
     Bare,
     Box,
@@ -33,6 +34,7 @@ from geost.text import (
     ShapeNumber,
     Truth,
     Within,
+    absent,
 )
 
 Cell = tuple[int, ...]
@@ -86,11 +88,16 @@ def cells_of(problem: Problem, placed: Placed) -> frozenset[Cell]:
     return frozenset(found)
 
 
+def origin_of(problem: Problem, placed: Placed) -> Cell:
+    """The coordinates of an object; one that is absent has the first values."""
+    return problem.first_values(problem.object(placed.name)) if placed.is_absent else placed.origin
+
+
 def plan_of(problem: Problem, layout: list[Placed]) -> Plan:
     assert [placed.name for placed in layout] == [thing.name for thing in problem.objects]
     for placed, thing in zip(layout, problem.objects):
         assert placed.shape in thing.shapes
-        for value, pieces in zip(placed.origin, thing.pieces, strict=True):
+        for value, pieces in zip(origin_of(problem, placed), thing.pieces, strict=True):
             assert any(low <= value <= high for low, high in pieces)
     return Plan(problem, {placed.name: placed for placed in layout})
 
@@ -146,16 +153,25 @@ def field_value(plan: Plan, owner: Value, name: str) -> int:
     if name == "sid":
         return plan.problem.shape_number(plan.where(owner).shape)
     if name[0] == "x" and name[1:].isdigit() and len(name) == 2:
-        return plan.where(owner).origin[int(name[1:]) - 1]
+        return origin_of(plan.problem, plan.where(owner))[int(name[1:]) - 1]
     return dict(plan.problem.object(owner).attributes).get(name, 0)
 
 
 def elements(plan: Plan, formula: Quantified, known: Environment) -> list[Value]:
+    """What a quantifier goes over: it passes those objects by that are absent."""
     if formula.boxes_of is not None:
         owner = known.get(formula.boxes_of, formula.boxes_of)
         assert isinstance(owner, str)
         return list(plan.problem.shape(plan.where(owner).shape).boxes)
-    return list(formula.listed or [thing.name for thing in plan.problem.objects])
+    names = formula.listed or [thing.name for thing in plan.problem.objects]
+    return [name for name in names if name not in plan.placed or not plan.placed[name].is_absent]
+
+
+def is_open(plan: Plan, element: Value) -> bool:
+    """Whether it is not known yet that an object is there."""
+    if not isinstance(element, str) or element in plan.placed:
+        return False
+    return plan.problem.object(element).may_be_absent
 
 
 def truth(plan: Plan, formula: Formula, known: Environment) -> bool | None:
@@ -200,7 +216,12 @@ def quantified(plan: Plan, formula: Quantified, known: Environment) -> bool | No
         found = elements(plan, formula, known)
     except NotPlacedYet:
         return None
-    results = [truth(plan, formula.body, {**known, formula.variable: element}) for element in found]
+    # what an element adds by which the quantifier is as if it were not there
+    nothing = formula.kind == "forall"
+    results: list[bool | None] = []
+    for element in found:
+        result = truth(plan, formula.body, {**known, formula.variable: element})
+        results.append(None if is_open(plan, element) and result is not nothing else result)
     sure, open_ones = results.count(True), results.count(None)
     least = {"forall": len(results), "exists": 1, "atleast": formula.count, "atmost": 0}[formula.kind]
     if formula.kind == "atmost":
@@ -244,6 +265,9 @@ def places(problem: Problem, name: str) -> Iterator[Placed]:
         for dimension, side in enumerate(problem.search_sides())
     ]
     for shape in thing.shapes:
+        if shape == ABSENT:
+            yield absent(name)
+            continue
         for origin in itertools.product(*lines):
             yield Placed(name, shape, origin)
 

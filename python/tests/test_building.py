@@ -30,6 +30,37 @@ def read(file: Path, **more: object) -> geost.Items:
     return geost.read_items(file, **given)  # type: ignore[arg-type]
 
 
+# Objects that may be absent
+
+
+def test_what_may_be_absent() -> None:
+    plan = geost.Problem(1)
+    plan.shape("s", (2,))
+    plan.object("a", "s", [(0, 1)])
+    plan.object("b/1", "s", [(0, 1)], may_be_absent=True)
+    plan.rule("enough", geost.at_least(1, lambda p: p.x1 >= 0))
+    lines = plan.text().splitlines()
+    assert lines[0] == "geost 2 dims 1"
+    assert "object b_1 as s, absent at 0..1 ;" in lines
+    layout = plan.layout({"a": (0,), "b/1": None})
+    assert layout.block() == "layout\na as s at 0\nb_1 absent\n"
+    gone = layout["b/1"]
+    assert gone.is_absent and gone.boxes == () and gone.origin == ()
+    assert not layout["a"].is_absent
+    there = layout.moved("b/1", 1)
+    assert there.block() == "layout\na as s at 0\nb_1 as s at 1\n"
+    assert there.without("b/1").block() == layout.block()
+    assert layout.records()[1] == {"number": 2, "item": "b/1"}
+
+
+def test_a_room_with_what_may_be_absent(tmp_path: Path) -> None:
+    file = table(tmp_path, "a;1;1;1;3;1;x;none;1", "b;1;1;1;3;2;x;none;1")
+    room = geost.Room((1, 1, 1))
+    plan = room.problem(read(file), may_be_absent=lambda item: item["stop"] == 2)
+    said = [line for line in plan.text().splitlines() if line.startswith("object")]
+    assert [", absent at" in line for line in said] == [False, True]
+
+
 # Names
 
 

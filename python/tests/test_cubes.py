@@ -15,13 +15,15 @@ import pytest
 from geost import text as t
 from geost.cubes import Cube, CubePath, Split, conjunction, is_split, split_of
 from geost.derivations import NotOneDerivation, body
-from geost.program import Program, usual_program
+from geost.program import ANSWERED, Program, usual_program
 from geost.spread import Node, Settings, Spread, check_joined
 
 PROBLEMS = int(os.environ.get("GEOST_SPREAD_PROBLEMS", "200"))
 AT_ONCE = int(os.environ.get("GEOST_SPREAD_PROCESSORS", "1"))
 STEPS = "1000000"
 RELATIONS = ("<", "<=", "=", "!=", ">=", ">")
+OPTIONAL = b"geost 2 dims 1 shape s box 0 size 1 ; object a as s, absent at 0..0 ; end"
+KNOWS_ABSENT = Program(usual_program()).ask(["show"], OPTIONAL).status == ANSWERED
 HAS_ZSTD = shutil.which("zstd") is not None
 needs_zstd = pytest.mark.skipif(not HAS_ZSTD, reason="zstd is not installed")
 
@@ -46,6 +48,11 @@ def shape(chance: random.Random, name: str, dims: int) -> t.Shape:
         for _ in range(chance.randint(1, 2))
     )
     return t.Shape(name, boxes)
+
+
+def optional(chance: random.Random, version: int, rate: float) -> tuple[str, ...]:
+    """That an object may be absent, at this rate, where the version and the program know that."""
+    return (t.ABSENT,) if version == 2 and KNOWS_ABSENT and chance.random() < rate else ()
 
 
 def rules(chance: random.Random, dims: int, names: list[str]) -> list[t.Rule]:
@@ -74,6 +81,7 @@ def tight(chance: random.Random) -> t.Problem:
         if version == 2 and chance.random() < 0.7:
             along = ((0, hole - 1), (hole + 1, room))
         names = (f"s{size}", "s1") if chance.random() < 0.3 and size != 1 else (f"s{size}",)
+        names = (*names, *optional(chance, version, 0.2))
         things.append(t.Object(f"o{number}", names, (along, ((0, rows - 1),))))
     shapes = tuple(t.Shape(f"s{size}", (t.Box((0, 0), (size, 1)),)) for size in (1, 2, 3))
     inside = t.Within(((0, room - 1), (0, rows - 1)))
@@ -81,6 +89,9 @@ def tight(chance: random.Random) -> t.Problem:
     if chance.random() < 0.3:
         wide = t.Compare(t.FieldOf("o0", "sid"), "=", t.FieldOf(f"o{count - 1}", "sid"))
         stated = (*stated, t.Rule("equal", wide))
+    if any(thing.may_be_absent for thing in things):
+        least = t.Quantified("atleast", count, "p", None, None, t.Truth(True))
+        stated = (*stated, t.Rule("enough", least))
     sides = (chance.choice(["low", "high"]), "low")
     return t.Problem(2, shapes, tuple(things), (), stated, (), sides, version)
 
@@ -95,7 +106,10 @@ def problem(chance: random.Random) -> t.Problem:
     things = tuple(
         t.Object(
             name,
-            tuple(chance.sample(all_shapes, chance.randint(1, len(shapes)))),
+            (
+                *chance.sample(all_shapes, chance.randint(1, len(shapes))),
+                *optional(chance, version, 0.4),
+            ),
             tuple(pieces(chance, version) for _ in range(dims)),
         )
         for name in names
@@ -214,6 +228,22 @@ def test_what_is_no_split(ranges: tuple[t.Range, ...]) -> None:
     first = Cube((), {}, {"a": "s"})
     assert is_split(SHELF, first, Split("a", 1, ranges=((6, 9), (2, 5), (0, 1)), down=True))
     assert not is_split(SHELF, first, Split("a", 1, ranges=ranges, down=True))
+
+
+def test_cubes_of_what_is_absent() -> None:
+    """`absent` is the last part, is said by the number 0, and leaves no coordinate to be split."""
+    made = t.read_problem(
+        b"geost 2 dims 1 shape s box 0 size 1 ; shape t box 0 size 2 ;\n"
+        b"object a as t, s, absent at 0..3 ; object b as s at 5..8 ; rule r : apart ; end"
+    )
+    split = split_of(made, Cube(), 2)
+    assert split == Split("a", shapes=("t", "s", "absent"))
+    assert split.joints() == [b"split a shape t\n", b"split a shape s\n"]
+    gone, there = Cube().part(split, 2), Cube().part(split, 1)
+    assert "rule cube_1 : a.sid = 0 ;" in gone.text(made).decode().splitlines()
+    assert "rule cube_1 : a.sid = shape s ;" in there.text(made).decode().splitlines()
+    assert split_of(made, gone, 2) == Split("b", 1, ranges=((5, 6), (7, 8)))
+    assert split_of(made, there, 2) == Split("a", 1, ranges=((0, 1), (2, 3)))
 
 
 def test_where_no_rule_fits() -> None:

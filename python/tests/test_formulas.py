@@ -15,6 +15,7 @@ from geost import text as t
 from geost.formula import formula_of
 from geost.program import Program, usual_program
 from geost.tokens import read_tokens
+from geost.trees import parts_of
 
 NAMES = ("p", "q", "PK-1/ä", "high")
 SPELLED = {"p": "p", "q": "q", "PK-1/ä": "PK_1_ae", "high": "_high"}
@@ -162,7 +163,7 @@ def meaning(node: t.Formula | t.Expr, scope: Scope) -> object:
             return (scope.get(owner, owner), name)
         case t.Number(value):
             return value
-    return (type(node).__name__, getattr(node, "word", ""), *map(inside, t.parts_of(node)))
+    return (type(node).__name__, getattr(node, "word", ""), *map(inside, parts_of(node)))
 
 
 @settings(max_examples=40, deadline=None, suppress_health_check=list(HealthCheck))

@@ -1,4 +1,4 @@
-"""From which object file a module of the program was made: a section of the module says so."""
+"""From which program a module was made: a section of the module says so."""
 
 from __future__ import annotations
 
@@ -7,7 +7,7 @@ from collections.abc import Iterator
 
 HEAD = 8  # bytes before the first section
 CUSTOM = 0
-NAME = b"geost.object"
+NAME = b"geost.program"
 
 
 def number(value: int) -> bytes:
@@ -25,9 +25,9 @@ def read_number(data: bytes, at: int) -> tuple[int, int]:
     return (low & 127) | rest << 7, behind
 
 
-def with_origin(module: bytes, object_file: bytes) -> bytes:
-    """The module with the SHA-256 of the object file in a section of its own."""
-    digest = hashlib.sha256(object_file).hexdigest().encode()
+def with_origin(module: bytes, program: bytes) -> bytes:
+    """The module with the SHA-256 of the program in a section of its own."""
+    digest = hashlib.sha256(program).hexdigest().encode()
     content = number(len(NAME)) + NAME + digest
     return module + bytes([CUSTOM]) + number(len(content)) + content
 
@@ -42,7 +42,7 @@ def custom_sections(module: bytes) -> Iterator[bytes]:
 
 
 def origin_of(module: bytes) -> str | None:
-    """The SHA-256 of the object file that a module names; None where it names none."""
+    """The SHA-256 of the program that a module names; None where it names none."""
     head = number(len(NAME)) + NAME
     found = [content for content in custom_sections(module) if content.startswith(head)]
     return found[0][len(head) :].decode("ascii") if found else None

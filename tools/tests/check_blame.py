@@ -36,6 +36,9 @@ PLANTED = [
     Planted("six_drums", "six_drums_overlap", {"free": {"d3 d5", "d4 d6"}}),
     Planted("server_rack", "server_rack_air", {"air": {"router store"}, "cables": {"router switch"}}),
     Planted("pallets_in_millimetres", "pallets_in_millimetres_jut", {"floor": {"p6"}}),
+    # tiles and racks are absent, and so no part of a count; stove and boiler are named by the rule
+    Planted("next_lorry", "next_lorry_heavy", {"axle": {"boiler piano stove"}}),
+    Planted("next_lorry", "next_lorry_alone", {"pair": {"boiler stove"}}),
     Planted("truck_with_axle_zones", "truck_with_axle_zones_front", {"front_axle": {"p1 p2 p3"}, "balance": {""}}),
 ]
 

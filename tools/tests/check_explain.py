@@ -56,6 +56,10 @@ PROBLEMS = [
     Refusal("pieces that touch", SECOND + "object a as s at 0..9 0..1, ▮2..3 ;\nend", "range", "at most one above", "write one that begins at 3"),
     Refusal("a piece upside down", SECOND + "object a as s at 0..1, ▮9..5 0..9 ;\nend", "range", "low end is above", "`5..9` may be meant"),
     Refusal("a range too few, in pieces", SECOND + "object a as s at ▮0..1, 5..9 ;\nend", "limit", "are not exactly K", "1 stand there, and 2 are wanted"),
+    Refusal("absent in the first version", HEAD + "shape s box 0 0 size 1 1 ;\nobject a as s, ▮absent at 0..1 0..9 ;\nend", "syntax", "goes on in no problem", "write `geost 2 dims K` at the front"),
+    Refusal("absent without a shape", SECOND + "object a as ▮absent at 0..1 0..9 ;\nend", "syntax", "goes on in no problem", "write `object a as SHAPE, absent`"),
+    Refusal("absent before a shape", SECOND + "object a as s, absent▮, s at 0..1 0..9 ;\nend", "syntax", "goes on in no problem", "behind all shapes of `a`"),
+    Refusal("absent as a 17th shape", SECOND + many(16, "shape s# box 0 0 size 1 1 ;\n") + f"object a as {', '.join(f's{n}' for n in range(1, 17))}, ▮absent at 0..1 0..9 ;\nend", "limit", "the word `absent` behind 16 shapes"),
     Refusal("dims", "geost 1\r\n\tdims ▮5 end", "limit", "dims that is not 1 to 4"),
     Refusal("a size too few", HEAD + "\tshape s box 0 0 size ▮2 ;\nend", "limit", "are not exactly K", "1 stand there, and 2 are wanted"),
     Refusal("a range too many", HEAD + "shape s box 0 0 size 1 1 ;\nobject a as s at ▮0..9 -1..9 0..9 ;\nend", "limit", "are not exactly K", "3 stand there"),
@@ -96,6 +100,14 @@ PLANS = [
     Refusal("plan: limit", SOLVED, "limit", "coordinates that are not exactly K", "2 coordinates are wanted", "layout\na as s at ▮0 0 0\nb as s at 2 0"),
     Refusal("plan: range", SOLVED, "range", "in no piece of the object's range", "x2 of `b` lies in 0..9", "layout\na as s at 0 0\n\tb as s at 0 ▮-4"),
     Refusal("plan: token", SOLVED, "token", "says another layout", "", "layout\na as s at 0 0\nb as s at 2 0\n▮token 1,0,0/1,2,1"),
+]
+
+OPTIONAL = SECOND + "object a as s at 0..9 0..9 ;\nobject b as s, absent at 0..9 0..9 ;\nend\n"
+PLANS += [
+    Refusal("plan: absent of what has to be there", OPTIONAL, "unknown", "of one that may not be left out", "write `a as s at ..`", "layout\na ▮absent\nb absent"),
+    Refusal("plan: as absent", OPTIONAL, "syntax", "goes on in no problem", "write `b absent`", "layout\na as s at 0 0\nb as ▮absent"),
+    Refusal("plan: a line too many behind absent", OPTIONAL, "order", "is one too many", "2 objects", "layout\na as s at 0 0\nb absent\n▮c absent"),
+    Refusal("plan: a line is missing behind absent", OPTIONAL, "order", "the first name that is not", "the line of `a`", "layout\n▮b absent\na as s at 0 0"),
 ]
 
 # `ground` takes the program long to find, so its answer is given

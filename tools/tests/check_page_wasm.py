@@ -89,10 +89,10 @@ def check_unknown() -> None:
 
 
 def check_origin() -> None:
-    """A module names the object file that it was made from, and is the same module otherwise."""
+    """A module names the program that it was made from, and is the same module otherwise."""
     empty = b"\0asm\1\0\0\0"
     named = origin.with_origin(empty, b"abc")
-    content = b"\x0cgeost.object" + hashlib.sha256(b"abc").hexdigest().encode()
+    content = b"\x0dgeost.program" + hashlib.sha256(b"abc").hexdigest().encode()
     want(named, empty + b"\0" + bytes([len(content)]) + content, "a module that names its origin")
     want(origin.origin_of(empty), None, "the origin of a module that names none")
     long = empty + b"\1" + origin.number(300) + bytes(300)
@@ -157,26 +157,65 @@ def make_module(top: Path, output: Path) -> str:
 
 
 def check_kept(folder: Path) -> None:
-    """A module that is kept is taken for its own object file, and for no other."""
+    """A module that is kept is taken for its own program, and for no other."""
     out = folder / "checkout" / "crates" / "geost_cli" / "out"
     out.mkdir(parents=True)
     (folder / "checkout" / "crates.txt").write_text("geost_cli:\n")
     output = folder / "geost.wasm"
     want_in("not proved", make_module(folder / "checkout", output))
-    (out / "geost_cli.o").write_bytes(b"an object file")
+    (out / "geost_cli").write_bytes(b"a program")
     script = runpy.run_path(str(PAGE / "wasm"))
     checkout = script["Checkout"](folder / "checkout")
     script["keep"](checkout.kept_module(), b"a module")
     want(make_module(folder / "checkout", output), f"{output}: 8 bytes\n", "the module")
     want(output.read_bytes(), b"a module", "the module that was kept")
-    (out / "geost_cli.o").write_bytes(b"another one")
-    want(checkout.kept_module().exists(), False, "a module of another object file")
+    (out / "geost_cli").write_bytes(b"another one")
+    want(checkout.kept_module().exists(), False, "a module of another program")
+
+
+def script_at(file: Path, lines: str) -> None:
+    file.parent.mkdir(parents=True, exist_ok=True)
+    file.write_text(f"#!/bin/sh\nset -e\n{lines}\n")
+    file.chmod(0o755)
+
+
+def kit_that_builds(folder: Path) -> Path:
+    """A kit whose `rattle build` hands one module to clang, and whose linker adds a line to it."""
+    module, last = folder / "module.bc", 'for last in "$@"; do :; done'
+    folder.mkdir(parents=True)
+    module.write_text("a module\n")
+    build = f'{last}\nwhile [ "$1" != --toolchain ]; do shift; done\n"$2/bin/clang" {module} "$last"'
+    script_at(folder / "bin" / "rattle", build)
+    script_at(folder / "toolchain" / "bin" / "clang", 'cp "$1" "$2"')
+    script_at(folder / "bin" / "rattle-link", '(cat "$7"; echo linked) >"$6"')
+    return folder
+
+
+def check_compared(folder: Path) -> None:
+    """A module is taken where what is linked of it is the program that was proved, and not else."""
+    script = runpy.run_path(str(PAGE / "wasm"))
+    checkout, kit = script["Checkout"](folder), script["Kit"](kit_that_builds(folder / "kit"))
+    checkout.program().parent.mkdir(parents=True)
+    (folder / "crates.txt").write_text("geost_cli:\n")
+    checkout.program().write_text("a module\nlinked\n")
+    (folder / "room").mkdir()
+    taken = script["module_of"](checkout, kit, folder / "room")
+    want(taken.read_text(), "a module\n", "the module that clang was given")
+    checkout.program().write_text("another module\nlinked\n")
+    (folder / "again").mkdir()
+    try:
+        script["module_of"](checkout, kit, folder / "again")
+    except script["NotMade"] as refused:
+        want_in("differs from what was built now", str(refused))
+        return
+    raise Failed("a module of another program is taken")
 
 
 def cases(setting: Setting, folder: Path) -> Cases:
     own = folder / "page_wasm"
     own.mkdir()
-    yield Case("page module: kept for its object file", lambda: check_kept(own))
+    yield Case("page module: kept for its program", lambda: check_kept(own))
+    yield Case("page module: that of the program", lambda: check_compared(own / "compared"))
     yield Case("page module: lines that are rewritten", check_lines)
     yield Case("page module: lines that are not known", check_unknown)
     yield Case("page module: its origin", check_origin)

@@ -16,7 +16,7 @@ from typing import Any
 from geost.page import SOURCE, constant, language_data
 from geost.picture import broken_rules
 from geost.refusals import Source, explain_refusal
-from geost.text import Placed, print_layout, read_layout, read_problem
+from geost.text import Object, Placed, absent, print_layout, read_layout, read_problem
 from geost.tokens import read_tokens
 from harness import TOP, Case, Cases, Failed, Setting, Skipped, want
 
@@ -29,7 +29,8 @@ MOST_TEXTS = 400
 MOST_PLANS = 12
 SPOT_LINES = 3  # of an explanation, which the page shows by a mark
 PIECES = (
-    "; , . .. ( ) [ ] - + * @ $ = <= and or not forall rule shape end x1 weight 7 3k ö & crate p"
+    "; , . .. ( ) [ ] - + * @ $ = <= and or not forall rule shape end x1 weight 7 3k ö & crate p "
+    "absent"
 ).split()
 SMALL = (
     "rack_of_four",
@@ -38,6 +39,7 @@ SMALL = (
     "corners_in_a_container",
     "stacked_crates",
     "server_rack",
+    "next_lorry",
 )
 
 
@@ -118,11 +120,18 @@ def moved_plans(setting: Setting) -> list[Broken]:
         layout = read_layout((EXAMPLES / f"{name}.answer").read_bytes())
         for _ in range(2):
             at = chance.randrange(len(layout))
-            ranges = problem.object(layout[at].name).pieces
-            origin = tuple(chance.randint(*chance.choice(pieces)) for pieces in ranges)
-            layout[at] = Placed(layout[at].name, layout[at].shape, origin)
+            layout[at] = moved(chance, problem.object(layout[at].name), layout[at])
         found.append(Broken(shown, print_layout(layout)))
     return found
+
+
+def moved(chance: random.Random, thing: Object, placed: Placed) -> Placed:
+    """The object elsewhere, or left out where it may be."""
+    if thing.may_be_absent and not placed.is_absent and chance.random() < 0.3:
+        return absent(thing.name)
+    shape = thing.shapes[0] if placed.is_absent else placed.shape
+    origin = tuple(chance.randint(*chance.choice(pieces)) for pieces in thing.pieces)
+    return Placed(thing.name, shape, origin)
 
 
 def said_by_scripts(

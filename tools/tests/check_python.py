@@ -2,14 +2,18 @@
 
 from __future__ import annotations
 
+import json
 import os
 import re
 import shutil
 import subprocess
 import sys
 from functools import cache
+from itertools import combinations
 from pathlib import Path
 
+import oracle
+from geost.text import Apart, Placed, Problem, Quantified, read_layout, read_problem
 from harness import TOOLS, TOP, Case, Cases, Failed, Setting, Skipped
 from harness import is_unproved, want, want_in
 
@@ -186,10 +190,51 @@ def check_readme(setting: Setting, folder: Path) -> None:
 # docs/PYTHON.md
 
 
-def check_document(setting: Setting, folder: Path) -> None:
-    """Its tables are files, its lines of Python run one block after another, and what they print
-    stands below them."""
-    folder.mkdir()
+# keeps what the page judges, for the second meaning
+KEPT = """
+import json
+judged = [answer.layout, answer.layout.moved("Regal", 0, 0, 0)]
+items = {one.name: plan.objects.of(one.name) for one in answer.layout.spelled}
+with open("judged.json", "w", encoding="utf-8") as kept:
+    json.dump([plan.text(), [layout.block() for layout in judged], items], kept)
+"""
+
+
+def groups_that_break(problem: Problem, layout: list[Placed], name: str) -> list[tuple[str, ...]]:
+    """The objects that break a rule together: two that share cells, or one for which what stands
+    under the rule's quantifier is false."""
+    plan = oracle.plan_of(problem, layout)
+    body = next(rule.body for rule in problem.rules if rule.name == name)
+    if isinstance(body, Apart):
+        pairs = combinations(plan.cells, 2)
+        return [pair for pair in pairs if plan.cells[pair[0]] & plan.cells[pair[1]]]
+    assert isinstance(body, Quantified) and body.kind == "forall"
+    known = [(one, {body.variable: one}) for one in plan.placed]
+    return [(one,) for one, given in known if oracle.truth(plan, body.body, given) is False]
+
+
+def second_verdict(problem: Problem, layout: list[Placed], items: dict[str, str]) -> str:
+    """What the second meaning finds of a layout, in the words of the package's verdicts."""
+    lines = []
+    for name in oracle.broken_rules(problem, layout):
+        groups = groups_that_break(problem, layout, name)
+        lines.append(f"{name}: {'; '.join(' and '.join(items[one] for one in it) for it in groups)}\n")
+    return "".join(lines) or "good\n"
+
+
+def check_verdicts(folder: Path, wanted: list[str]) -> None:
+    """The verdicts that stand in the page are worked out from the cells and by evaluating rules."""
+    source, blocks, items = json.loads((folder / "judged.json").read_text(encoding="utf-8"))
+    problem = read_problem(source.encode())
+    layouts = [read_layout(block.encode()) for block in blocks]
+    verdicts = "".join(second_verdict(problem, layout, items) for layout in layouts)
+    if verdicts not in wanted:
+        raise Failed(f"no block of the page has what the second meaning finds:\n{verdicts}")
+
+
+def page_script(folder: Path) -> tuple[str, list[str]]:
+    """The lines of Python of the page, and what each block of them is to print. Its tables become
+    files."""
     script: list[str] = []
     wanted: list[str] = []
     document = (TOP / "docs" / "PYTHON.md").read_text(encoding="utf-8")
@@ -198,24 +243,31 @@ def check_document(setting: Setting, folder: Path) -> None:
         if kind == "csv":
             (folder / names[0]).write_text(text, encoding="utf-8")
         elif kind == "python":
-            script.append(text + 'print("--")\n')
+            kept = KEPT if "plan.judge(" in text else ""
+            script.append(f'{text}{kept}print("--")\n')
             wanted.append("")
         elif kind == "text":
             wanted[-1] += text
-    (folder / "page.py").write_text("".join(script), encoding="utf-8")
+    return "".join(script), wanted
+
+
+def check_document(setting: Setting, folder: Path) -> None:
+    """Its lines of Python run one block after another, and what they print stands below them; the
+    verdicts among that are those of the second meaning."""
+    folder.mkdir()
+    script, wanted = page_script(folder)
+    (folder / "page.py").write_text(script, encoding="utf-8")
     env = {**environment(setting), "PYTHONPATH": str(PACKAGE / "src")}
     words = [PYTHON if has_module("openpyxl") else sys.executable, "-B", "page.py"]
     done = subprocess.run(words, cwd=folder, env=env, capture_output=True, text=True)
     want(done.returncode, 0, f"the status of the page's lines: {done.stderr[-2000:]}")
-    printed = done.stdout.split("--\n")[:-1]
-    want(printed, wanted, "what the page's lines print")
+    want(done.stdout.split("--\n")[:-1], wanted, "what the page's lines print")
+    check_verdicts(folder, wanted)
 
 
 def cases(setting: Setting, folder: Path) -> Cases:
     yield Case("python: README", lambda: check_readme(setting, folder / "python_readme"))
     for file in sorted((PACKAGE / "tests").glob("test_*.py")):
-        if file.stem == "test_spread" and not setting.long:
-            continue
         yield Case(f"python: {file.stem}", lambda file=file: check_file(setting, file))
     yield Case("python: types", lambda: check_types(folder / "python_types"))
     yield Case("python: wheel", lambda: check_wheel(setting, folder / "python_wheel"))

@@ -32,9 +32,10 @@ from geost.text import (
     Quantified,
     Rule,
     Within,
-    all_parts,
     print_formula,
+    print_placed,
 )
+from geost.trees import all_parts
 
 OPPOSITES = {"<": ">=", "<=": ">", "=": "!=", "!=": "=", ">=": "<", ">": "<="}
 
@@ -118,9 +119,11 @@ def settled(blames: list[Blame]) -> Inquiry:
 
 @dataclass(frozen=True)
 class Judge:
-    """Finds which parts of rules do not hold, and for which of the objects."""
+    """Finds which parts of rules do not hold, and for which of the objects. Quantifiers pass those
+    by that are `gone`."""
 
     names: list[str]
+    gone: frozenset[str] = frozenset()
 
     def checked(self, prefix: Prefix, formula: Formula) -> Inquiry:
         """Why a formula does not hold; nothing where it holds."""
@@ -167,7 +170,8 @@ class Judge:
         return (yield from joined([self.blames(each, formula.body) for each in broken]))
 
     def elements(self, formula: Quantified) -> list[str]:
-        return self.names if formula.listed is None else list(formula.listed)
+        names = self.names if formula.listed is None else formula.listed
+        return [name for name in names if name not in self.gone]
 
     def of_each(self, prefix: Prefix, formula: Quantified, body: Formula) -> list[Formula]:
         """A body with each of a quantifier's objects for its variable."""
@@ -316,7 +320,8 @@ def explain_broken(program: Program, problem: Problem, layout: list[Placed]) -> 
 def inquiry_of(rule: Rule, problem: Problem, layout: list[Placed]) -> Inquiry:
     """Why a rule does not hold on a layout, or nothing. Of `apart` only those pairs are asked whose
     least boxes meet."""
-    judge = Judge([thing.name for thing in problem.objects])
+    gone = frozenset(placed.name for placed in layout if placed.is_absent)
+    judge = Judge([thing.name for thing in problem.objects], gone)
     formula = as_formula(rule.body, problem.dims)
     if isinstance(rule.body, Apart):
         return judge.blames_of_pairs(meeting_pairs(problem, layout), formula)
@@ -325,7 +330,9 @@ def inquiry_of(rule: Rule, problem: Problem, layout: list[Placed]) -> Inquiry:
 
 def meeting_pairs(problem: Problem, layout: list[Placed]) -> list[tuple[str, str]]:
     """The pairs of objects whose least boxes have a cell in common."""
-    spans = {placed.name: spans_of(problem, placed) for placed in layout}
+    spans = {
+        placed.name: spans_of(problem, placed) for placed in layout if not placed.is_absent
+    }
     return [
         (one, other)
         for one, other in combinations(spans, 2)
@@ -376,6 +383,7 @@ def spans_of(problem: Problem, placed: Placed) -> list[tuple[int, int]]:
 
 def where(problem: Problem, placed: Placed) -> str:
     """An object's line of the layout, with the least box that has its cells."""
+    if placed.is_absent:
+        return print_placed(placed)
     spans = " ".join(f"{low}..{high}" for low, high in spans_of(problem, placed))
-    origin = " ".join(map(str, placed.origin))
-    return f"{placed.name} as {placed.shape} at {origin}, with cells in {spans}"
+    return f"{print_placed(placed)}, with cells in {spans}"

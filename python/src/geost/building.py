@@ -105,16 +105,17 @@ class Statements:
         ranges: Iterable[Pieces],
         attributes: Mapping[str, int] | None = None,
         where: Where | None = None,
+        may_be_absent: bool = False,
         **more: int,
     ) -> Thing:
         """An object with the shapes that it may take, the ranges of its origin, and its attributes.
         A range is its first and last number, or the one number that it may be, or a list of such
-        pieces. Gives the object for rules."""
+        pieces. One that `may_be_absent` may be left out. Gives the object for rules."""
         taken = (shapes,) if isinstance(shapes, str) else shapes
         listed = {**(attributes or {}), **more}
         made = t.Object(
             self.objects.spell(name),
-            tuple(map(self.shapes.spell, taken)),
+            (*map(self.shapes.spell, taken), *([t.ABSENT] if may_be_absent else [])),
             tuple(map(pieces_of, ranges)),
             tuple((self.attributes.spell(one), whole(value)) for one, value in listed.items()),
         )
@@ -276,8 +277,10 @@ class Statements:
     def version(self) -> int:
         """The version of the format: the second, where the first does not suffice or a text of the
         second was taken over."""
-        holes = any(len(one) > 1 for thing in self._objects.values() for one in thing.pieces)
-        needed = holes or self.dims > DIMENSIONS_OF_THE_FIRST
+        things = self._objects.values()
+        holes = any(len(one) > 1 for thing in things for one in thing.pieces)
+        optional = any(thing.may_be_absent for thing in things)
+        needed = holes or optional or self.dims > DIMENSIONS_OF_THE_FIRST
         return t.SECOND_VERSION if needed else self._version
 
     def placed(self, one: t.Placed) -> Placed:
@@ -289,7 +292,8 @@ class Statements:
         )
         listed = thing.attributes if thing else ()
         attributes = {self.attributes.of(name): value for name, value in listed}
-        item, form = self.objects.of(one.name), self.shapes.of(one.shape)
+        item = self.objects.of(one.name)
+        form = one.shape if one.is_absent else self.shapes.of(one.shape)
         return Placed(item, form, one.origin, boxes, attributes)
 
     def first_shape(self, spelled: str) -> str:

@@ -11,7 +11,7 @@ from typing import TypeVar
 
 from geost.narrowing import all_zones, by_earlier, rules_with_support_by_any
 from geost.orders import all_sides, interleaved_orders, least_volume, stated_orders
-from geost.text import Object, Placed, Problem, print_object, print_rule
+from geost.text import ABSENT, Object, Placed, Problem, print_object, print_rule
 
 FEW = 6
 Item = TypeVar("Item")
@@ -87,7 +87,14 @@ def by_earlier_ones(ways: Iterator[Candidate]) -> Iterator[Candidate]:
 def other_sides(problem: Problem) -> Iterator[Candidate]:
     for sides in all_sides(problem)[1:]:
         for name, order in stated_orders(problem):
-            yield Candidate(name, order, sides)
+            yield Candidate(name, order, sides, (), has_other_layouts(problem, sides))
+
+
+def has_other_layouts(problem: Problem, sides: Sides) -> bool:
+    """Whether with these sides there may be other layouts: an object that is absent has the first
+    values, which rules may read."""
+    may_be_absent = any(thing.may_be_absent for thing in problem.objects)
+    return may_be_absent and sides != problem.search_sides()
 
 
 def shape_sequences(problem: Problem) -> list[tuple[str, tuple[Object, ...]]]:
@@ -107,7 +114,12 @@ def by_extent(problem: Problem, thing: Object, dimension: int, sign: int) -> Obj
         boxes = problem.shape(name).boxes
         return sign * max(box.offsets[dimension] + box.sizes[dimension] for box in boxes)
 
-    return replace(thing, shapes=tuple(sorted(thing.shapes, key=extent)))
+    return in_sequence(thing, sorted(thing.real_shapes, key=extent))
+
+
+def in_sequence(thing: Object, shapes: list[str]) -> Object:
+    """The object with its shapes in this sequence; that it may be absent stands behind them."""
+    return replace(thing, shapes=(*shapes, *thing.shapes[len(shapes) :]))
 
 
 def other_shapes(problem: Problem) -> Iterator[Candidate]:
@@ -128,11 +140,12 @@ def shuffled(problem: Problem, seed: int) -> Candidate:
     order = tuple(sorted(weights, key=lambda name: -weights[name]))
     sides = all_sides(problem)[seed % 2**problem.dims]
     things = tuple(
-        replace(thing, shapes=tuple(chance.sample(thing.shapes, len(thing.shapes))))
+        in_sequence(thing, chance.sample(thing.real_shapes, len(thing.real_shapes)))
         for thing in problem.objects
-        if len(thing.shapes) > 1
+        if len(thing.real_shapes) > 1
     )
-    return Candidate(f"shuffled {seed}", order, sides, things if seed % 2 else ())
+    is_other = has_other_layouts(problem, sides)
+    return Candidate(f"shuffled {seed}", order, sides, things if seed % 2 else (), is_other)
 
 
 def leading_to(problem: Problem, layout: list[Placed]) -> Iterator[Candidate]:
@@ -143,12 +156,18 @@ def leading_to(problem: Problem, layout: list[Placed]) -> Iterator[Candidate]:
         replace(thing, shapes=(shape, *(name for name in thing.shapes if name != shape)))
         for thing in problem.objects
         for shape in (shapes[thing.name],)
+        if shape != ABSENT
     )
-    changed = tuple(new for old, new in zip(problem.objects, things) if new != old)
+    changed = tuple(thing for thing in things if thing not in problem.objects)
+    sides = ("low",) * problem.dims
+    is_other = has_other_layouts(problem, sides)
+    present = [placed for placed in layout if not placed.is_absent]
+    gone = [placed.name for placed in layout if placed.is_absent]
     for axes in itertools.permutations(range(problem.dims)):
-        placed = sorted(layout, key=lambda each: [each.origin[axis] for axis in axes])
+        ranked = sorted(present, key=lambda each: [each.origin[axis] for axis in axes])
         name = f"from a layout by {', '.join(f'x{axis + 1}' for axis in axes)}"
-        yield Candidate(name, tuple(each.name for each in placed), ("low",) * problem.dims, changed)
+        order = (*(each.name for each in ranked), *gone)
+        yield Candidate(name, order, sides, changed, is_other)
 
 
 def in_turn(families: list[Iterator[Item]]) -> Iterator[Item]:

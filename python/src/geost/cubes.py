@@ -6,9 +6,9 @@ whole, and a derivation speaks of the conditions of the whole:
 
 - a range of one piece becomes narrower in its object's statement; conditions of holes come of
   pieces, and those of rules do not depend on ranges
-- a range of several pieces stays, and so do lists of shapes; what is left of them is said by one
-  rule more behind all others, whose conditions are the last ones. `geost.derivations` takes them
-  out again.
+- a range of several pieces stays, and so do lists of shapes, `absent` among them; what is left of
+  them is said by one rule more behind all others, whose conditions are the last ones.
+  `geost.derivations` takes them out again.
 """
 
 from __future__ import annotations
@@ -17,6 +17,7 @@ from collections.abc import Iterator
 from dataclasses import dataclass, field, replace
 
 from geost.text import (
+    ABSENT,
     Compare,
     Expr,
     FieldOf,
@@ -117,7 +118,7 @@ class Cube:
     def conditions(self, thing: Object) -> Iterator[Formula]:
         """What is said of an object by the rule that is added."""
         if thing.name in self.shapes:
-            yield Compare(FieldOf(thing.name, "sid"), "=", ShapeNumber(self.shapes[thing.name]))
+            yield Compare(FieldOf(thing.name, "sid"), "=", number_of_shape(self.shapes[thing.name]))
         for dimension, (least, most) in self.added_bounds(thing):
             at = FieldOf(thing.name, f"x{dimension}")
             yield Compare(at, ">=", number_of(least))
@@ -129,6 +130,11 @@ class Cube:
             bound = self.bounds.get((thing.name, dimension))
             if bound is not None and len(pieces) > 1:
                 yield dimension, bound
+
+
+def number_of_shape(shape: str) -> Expr:
+    return Number(0) if shape == ABSENT else ShapeNumber(shape)
+
 
 def number_of(value: int) -> Expr:
     return Number(value) if value >= 0 else Negative(Number(-value))
@@ -169,6 +175,8 @@ def split_of(problem: Problem, cube: Cube, most: int) -> Split | None:
         thing = things[name]
         if len(thing.shapes) > 1 and name not in cube.shapes:
             return Split(name, shapes=thing.shapes) if takes_rules else None
+        if cube.shapes.get(name) == ABSENT:
+            continue  # its coordinates have one value each
         for dimension in range(1, problem.dims + 1):
             pieces = cube.pieces(thing, dimension)
             if size_of(pieces) > 1:

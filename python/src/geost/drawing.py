@@ -23,6 +23,7 @@ from geost.picture import (
     slab_title,
     slabs_of,
 )
+from geost.text import Placed, print_placed
 
 STYLE = file_of("tools/page/source/drawing.css")
 LETTER = 0.6  # the width of a letter, as a share of its size
@@ -150,7 +151,7 @@ def number_width(low: int, high: int) -> float:
 
 def title_of(thing: Thing) -> str:
     """What is said of a thing where the mouse is over it."""
-    return f"{thing.name} as {thing.shape} at {' '.join(map(str, thing.origin))}"
+    return print_placed(Placed(thing.name, thing.shape, thing.origin))
 
 
 # Names in boxes
@@ -479,10 +480,11 @@ def table_rows(plan: Plan) -> tuple[list[str], list[list[str]]]:
     rows: list[list[str]] = []
     for thing in plan.things:
         cells = hull(thing.boxes, plan.problem.dims)
-        spans = [f"{cells.low[d]}..{cells.high[d] - 1}" for d in dims]
+        spans = [f"{cells.low[d]}..{cells.high[d] - 1}" if thing.boxes else "" for d in dims]
+        origin = [str(value) for value in thing.origin] or [""] * plan.problem.dims
         given = [str(thing.attributes.get(key, "")) for key in keys]
         breaks = ", ".join(broken.name for broken in plan.broken if thing.name in broken.names())
-        rows.append([thing.name, thing.shape, *map(str, thing.origin), *spans, *given, breaks])
+        rows.append([thing.name, thing.shape, *origin, *spans, *given, breaks])
     return (head, rows) if plan.broken else (head[:-1], [row[:-1] for row in rows])
 
 

@@ -13,17 +13,24 @@ from geost.where import Where, caller
 if TYPE_CHECKING:
     from geost.model import Problem
 
+# of each item its origin, or its shape and its origin, or None where it is left out
+Places = Mapping[str, "Sequence[object] | tuple[str, Sequence[int]] | None"]
+
 
 @dataclass(frozen=True)
 class Placed:
     """An item of a layout: the shape that it took, its origin, its boxes (the least corner and the
-    sizes of each), and its attributes."""
+    sizes of each), and its attributes. One that is absent has no origin and no boxes."""
 
     item: str
     shape: str
     origin: tuple[int, ...]
     boxes: tuple[t.Box, ...] = field(repr=False, default=())
     attributes: Mapping[str, int] = field(repr=False, default_factory=dict)
+
+    @property
+    def is_absent(self) -> bool:
+        return self.shape == t.ABSENT
 
     @property
     def low(self) -> tuple[int, ...]:
@@ -70,19 +77,22 @@ class Layout(Mapping[str, Placed]):
 
     def moved(self, item: str, *origin: int, shape: str | None = None) -> Layout:
         """The layout with one item elsewhere, or in another shape, to be judged."""
+        one = self._of(item)
+        kept = self.problem.first_shape(one.name) if one.is_absent else one.shape
+        taken = kept if shape is None else self.problem.shapes.spell(shape)
+        return self._with(t.Placed(one.name, taken, numbers(origin) or one.origin), caller())
+
+    def without(self, item: str) -> Layout:
+        """The layout with one item left out, to be judged."""
+        return self._with(t.absent(self._of(item).name), caller())
+
+    def _of(self, item: str) -> t.Placed:
         spelled = self.problem.objects.spell(item)
-        names = self.problem.shapes
-        changed = [
-            t.Placed(
-                one.name,
-                one.shape if shape is None else names.spell(shape),
-                numbers(origin) or one.origin,
-            )
-            if one.name == spelled
-            else one
-            for one in self.spelled
-        ]
-        return Layout(self.problem, changed, where=caller())
+        return next(one for one in self.spelled if one.name == spelled)
+
+    def _with(self, changed: t.Placed, where: Where | None) -> Layout:
+        lines = [changed if one.name == changed.name else one for one in self.spelled]
+        return Layout(self.problem, lines, where=where)
 
     def _repr_svg_(self) -> str:
         """The picture of the layout in a notebook."""
@@ -106,14 +116,14 @@ class Layout(Mapping[str, Placed]):
         return records(self)
 
 
-def places_of(
-    problem: Problem, given: Mapping[str, Sequence[object] | tuple[str, Sequence[int]]]
-) -> list[t.Placed]:
-    """Layout lines for places: of each item its origin, or its shape and its origin."""
+def places_of(problem: Problem, given: Places) -> list[t.Placed]:
+    """Layout lines for places."""
     found: list[t.Placed] = []
     for item, place in given.items():
         spelled = problem.objects.spell(item)
-        if len(place) == 2 and isinstance(place[0], str) and isinstance(place[1], Sequence):
+        if place is None:
+            found.append(t.absent(spelled))
+        elif len(place) == 2 and isinstance(place[0], str) and isinstance(place[1], Sequence):
             found.append(t.Placed(spelled, problem.shapes.spell(place[0]), numbers(place[1])))
         else:
             found.append(t.Placed(spelled, problem.first_shape(spelled), numbers(place)))

@@ -24,12 +24,13 @@ from geost.text import (
     Problem,
     Rule,
     Within,
-    all_parts,
     print_pieces,
     print_problem,
 )
+from geost.trees import all_parts
 
 LEAST_DIVISOR = 10
+PRESENT = "objects that may not be absent"
 STEPS_TO_BREAK_A_RULE = 2000
 SECONDS_TO_BREAK_A_RULE = 10
 STEPS_OF_A_SHORT_SEARCH = 2000
@@ -64,7 +65,7 @@ class Lint:
 
     def boxes(self, thing: Object) -> list[list[Box]]:
         """The boxes of each shape that an object may take."""
-        return [list(self.problem.shape(name).boxes) for name in thing.shapes]
+        return [list(self.problem.shape(name).boxes) for name in thing.real_shapes]
 
     # Attributes
 
@@ -132,15 +133,15 @@ class Lint:
     def volumes(self) -> Iterator[str]:
         if not any(isinstance(rule.body, Apart) for rule in self.problem.rules):
             return
-        wanted = sum(
-            min(volume(boxes) for boxes in self.boxes(thing)) for thing in self.problem.objects
-        )
+        always_there = [thing for thing in self.problem.objects if not thing.may_be_absent]
+        wanted = sum(min(volume(boxes) for boxes in self.boxes(thing)) for thing in always_there)
         for within in self.withins():
             room = math.prod(max(0, high - low + 1) for low, high in within.ranges)
             if wanted > room:
                 ranges = spoken_ranges(within.ranges)
                 there = f"there are {room} within {ranges}"
-                yield f"the objects have {wanted} cells at least, and {there}: there is no layout"
+                which = "objects" if len(always_there) == len(self.problem.objects) else PRESENT
+                yield f"the {which} have {wanted} cells at least, and {there}: there is no layout"
 
     # Lengths
 

@@ -21,7 +21,8 @@ from geost.answers import (
     Verdict,
 )
 from geost.building import Statements
-from geost.layouts import Layout, places_of
+from geost.layouts import Layout, Places, places_of
+from geost.parts import at_place
 from geost.picture import Broken as BrokenRule
 from geost.picture import broken_rules
 from geost.portfolio import Options
@@ -71,16 +72,10 @@ def layout_block(printed: str) -> str:
 
 
 def print_fixed(problem: t.Problem, layout: Layout) -> str:
-    """The text of the problem in which each object may stand where the layout has it alone."""
+    """The text of the problem in which each object may stand where the layout has it alone, or may
+    be absent where that has it so."""
     places = {one.name: one for one in layout.spelled}
-    things = tuple(
-        replace(
-            thing,
-            shapes=(places[thing.name].shape,),
-            pieces=t.at_origin(places[thing.name].origin),
-        )
-        for thing in problem.objects
-    )
+    things = tuple(at_place(problem, thing, places[thing.name]) for thing in problem.objects)
     return t.print_problem(replace(problem, objects=things))
 
 
@@ -121,7 +116,7 @@ class Problem(Statements):
 
     # Layouts
 
-    def layout(self, places: Mapping[str, Sequence[object] | tuple[str, Sequence[int]]]) -> Layout:
+    def layout(self, places: Places) -> Layout:
         """A layout of places, to be judged: of each item its origin, or its shape and its
         origin."""
         return Layout(self, places_of(self, places), where=caller())

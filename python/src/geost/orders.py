@@ -21,8 +21,8 @@ from geost.text import (
     Problem,
     Quantified,
     Within,
-    all_parts,
 )
+from geost.trees import all_parts
 
 
 @dataclass(frozen=True)
@@ -34,18 +34,18 @@ class Measure:
 
 
 def least_volume(problem: Problem, thing: Object) -> int:
-    return min(sum(box.volume() for box in problem.shape(name).boxes) for name in thing.shapes)
+    return min(sum(box.volume() for box in problem.shape(name).boxes) for name in thing.real_shapes)
 
 
 def longest_side(problem: Problem, thing: Object) -> int:
-    return max(max(box.sizes) for name in thing.shapes for box in problem.shape(name).boxes)
+    return max(max(box.sizes) for name in thing.real_shapes for box in problem.shape(name).boxes)
 
 
 def count_of_places(thing: Object) -> int:
-    count = len(thing.shapes)
+    count = len(thing.real_shapes)
     for pieces in thing.pieces:
         count *= sum(high - low + 1 for low, high in pieces)
-    return count
+    return count + thing.may_be_absent
 
 
 def names_in_rules(problem: Problem) -> dict[str, int]:

@@ -2,7 +2,7 @@
 
 from __future__ import annotations
 
-from collections.abc import Collection
+from collections.abc import Collection, Iterable
 from dataclasses import replace
 
 from geost.orders import conjuncts
@@ -10,24 +10,41 @@ from geost.text import (
     Apart,
     Bare,
     Call,
+    Compare,
     FieldOf,
     Formula,
     Joined,
     Macro,
+    Number,
     Object,
+    Placed,
     Problem,
     Quantified,
     Rule,
     Truth,
     Within,
-    parts_of,
+    at_origin,
 )
-from geost.trees import Node, changed, is_over_objects, mapped
+from geost.trees import Node, changed, is_over_objects, mapped, parts_of
 
 
 def is_fixed(thing: Object) -> bool:
     """Whether an object has one shape and one place."""
     return len(thing.shapes) == 1 and all(low == high for low, high in thing.ranges)
+
+
+def at_place(problem: Problem, thing: Object, placed: Placed) -> Object:
+    """The object with this place alone. One that is absent there may still have its shapes, and
+    `left_out` says that it has none."""
+    if placed.is_absent:
+        return replace(thing, pieces=at_origin(problem.first_values(thing)))
+    return replace(thing, shapes=(placed.shape,), pieces=at_origin(placed.origin))
+
+
+def left_out(layout: Iterable[Placed]) -> list[Formula]:
+    """That what is absent in a layout is absent."""
+    names = [placed.name for placed in layout if placed.is_absent]
+    return [Compare(FieldOf(name, "sid"), "=", Number(0)) for name in names]
 
 
 def without_rule(problem: Problem, name: str) -> Problem:

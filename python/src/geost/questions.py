@@ -1,7 +1,7 @@
 """Asks the program whether many formulas hold on one layout, in few runs.
 
-A run is a problem in which every object may only stand where the layout has it. Beside them stand
-further objects, with a coordinate for each formula, which is 0 or 1: a rule says that the formula
+A run is a problem in which every object may only stand where the layout has it, or is absent where
+that has it so. Beside them stand further objects, with a coordinate for each formula, which is 0 or 1: a rule says that the formula
 holds or the coordinate is 0, and the search tries 1 first. So in the first layout the coordinate
 is 1 where the formula holds, and 0 where it does not.
 """
@@ -11,6 +11,7 @@ from __future__ import annotations
 from collections.abc import Iterator, Sequence
 from dataclasses import dataclass, replace
 
+from geost.parts import at_place, left_out
 from geost.program import ANSWERED, NO, Answer, Program, layout_of
 from geost.text import (
     Compare,
@@ -22,7 +23,6 @@ from geost.text import (
     Placed,
     Problem,
     Rule,
-    at_origin,
     print_layout,
     print_problem,
     whole,
@@ -49,9 +49,9 @@ class Questions:
         self.program = program
         self.layout = print_layout(layout)
         things = tuple(
-            replace(thing, shapes=(placed.shape,), pieces=at_origin(placed.origin))
-            for thing, placed in zip(problem.objects, layout)
+            at_place(problem, thing, placed) for thing, placed in zip(problem.objects, layout)
         )
+        self.gone = left_out(layout)
         self.names = tuple(thing.name for thing in things)
         self.fixed = replace(problem, objects=things, rules=(), order=(), sides=())
         self.weights = Weights.of_problem(self.fixed)
@@ -89,7 +89,7 @@ class Questions:
         if len(self.names) == MOST_OBJECTS:
             return [self.judged(formula) for formula in batch]
         formulas = [changed(formula, self.change) for formula in batch]
-        text = print_problem(asking(self.told, formulas))
+        text = print_problem(asking(self.told, formulas, self.gone))
         answer = self.program.ask(["first", str(MOST_STEPS)], text.encode())
         if answer.status == ANSWERED:
             values = [at for placed in layout_of(answer)[len(self.names) :] for at in placed.origin]
@@ -100,8 +100,9 @@ class Questions:
         return self.ask_batch(batch[:half]) + self.ask_batch(batch[half:])
 
 
-def asking(fixed: Problem, formulas: list[Formula]) -> Problem:
-    """The problem whose first layout answers the formulas, in coordinates of further objects."""
+def asking(fixed: Problem, formulas: list[Formula], gone: list[Formula]) -> Problem:
+    """The problem whose first layout answers the formulas, in coordinates of further objects.
+    `gone` says which objects are absent."""
     dims = fixed.dims
     stem = unused("asked", {thing.name for thing in fixed.objects})
     names = [f"{stem}_{number // dims}" for number in range(len(formulas))]
@@ -113,7 +114,7 @@ def asking(fixed: Problem, formulas: list[Formula]) -> Problem:
     return replace(
         fixed,
         objects=(*fixed.objects, *(Object(name, shape, pieces) for name in dict.fromkeys(names))),
-        rules=tuple(shared_out(asked)),
+        rules=tuple(shared_out([*gone, *asked])),
         sides=("high",) * dims,
     )
 

@@ -15,6 +15,7 @@ from geost.files import text_of
 from geost.grammar import first_fault, problem_rule
 from geost.slips import advice, marked_statement
 from geost.text import (
+    ABSENT,
     SECOND_VERSION,
     Chain,
     Expr,
@@ -23,11 +24,11 @@ from geost.text import (
     Formula,
     Problem,
     Reader,
-    all_parts,
     print_expr,
     print_pieces,
 )
 from geost.tokens import LARGEST_NUMBER, LONGEST_NAME, RESERVED, TextFault, Token, read_tokens
+from geost.trees import all_parts
 
 STATEMENTS = ("shape", "object", "order", "sides", "macro", "rule")
 MOST_COLUMNS = 160
@@ -287,7 +288,7 @@ def limit_needle(refusal: Refusal) -> str:
         return "a 9th piece"
     if refusal.before() in ("div", "mod"):
         return "the number behind `div`"
-    if refusal.token == "box" or refusal.tokens[refusal.index].kind == "name":
+    if refusal.token in ("box", ABSENT) or refusal.tokens[refusal.index].kind == "name":
         return "a name past its limit"
     if (
         refusal.before() in ("box", "size", "at", "within", "sides")
@@ -689,7 +690,7 @@ def multiplies(part: Formula | Expr) -> bool:
 
 def layout_order_hints(refusal: Refusal) -> list[str]:
     names = refusal.made("object")
-    before = [n for n in range(refusal.index) if refusal.tokens[n].text == "as"]
+    before = lines_begun(refusal, refusal.index)
     if len(before) < len(names):
         return [
             f"the line of `{names[len(before)]}` has to stand here: write one line for each object,"
@@ -698,20 +699,25 @@ def layout_order_hints(refusal: Refusal) -> list[str]:
     return [f"the problem has {len(names)} objects, and each has its line already: write no other"]
 
 
+def lines_begun(refusal: Refusal, end: int) -> list[int]:
+    """The numbers of the tokens up to an end that stand behind the name of an object's line."""
+    return [n for n, token in enumerate(refusal.tokens[:end]) if token.text in ("as", ABSENT)]
+
+
 def layout_object(refusal: Refusal) -> str:
     """The object in whose line the place is."""
-    marks = [n for n, token in enumerate(refusal.tokens[: refusal.index]) if token.text == "as"]
+    marks = lines_begun(refusal, refusal.index + 1)
     return refusal.tokens[marks[-1] - 1].text if marks else ""
 
 
 def layout_unknown_hints(refusal: Refusal) -> list[str]:
-    made = parsed_problem(refusal)
+    made, name = parsed_problem(refusal), layout_object(refusal)
     if made is None:
         return []
-    shapes = list(made.object(layout_object(refusal)).shapes)
-    return did_you_mean(refusal.token, shapes) + listed(
-        f"shapes of `{layout_object(refusal)}`", shapes
-    )
+    shapes = list(made.object(name).shapes)
+    if refusal.token == ABSENT:
+        return [f"`{name}` may not be left out: write `{name} as {shapes[0]} at ..`"]
+    return did_you_mean(refusal.token, shapes) + listed(f"shapes of `{name}`", shapes)
 
 
 def layout_range_hints(refusal: Refusal) -> list[str]:

@@ -54,9 +54,11 @@ class Room:
         rules: Iterable[Ready | Rule] = (),
         sequence: Callable[[Item], Any] | None = None,
         program: str | None = None,
+        may_be_absent: Callable[[Item], bool] = lambda item: False,
     ) -> Problem:
         """The problem of placing items in the room without overlap, under further rules. They are
-        loaded, and searched, in the sequence of a key, else as they come."""
+        loaded, and searched, in the sequence of a key, else as they come. Those that
+        `may_be_absent` may be left out."""
         known = items if isinstance(items, Items) else Items(items)
         if self.unit and known.unit and self.unit.cell != known.unit.cell:
             cells = f"the room has cells of {self.unit.written}, the items of {known.unit.written}"
@@ -65,11 +67,13 @@ class Room:
         made.words = {column: dict(words) for column, words in known.words.items()}
         shapes: dict[Sizes, str] = {}
         for item in sorted(known, key=sequence) if sequence else known:
-            self.place(made, item, shapes)
+            self.place(made, item, shapes, may_be_absent(item))
         made.add(no_overlap(), inside(*self.size), *rules)
         return made
 
-    def place(self, made: Problem, item: Item, shapes: dict[Sizes, str]) -> None:
+    def place(
+        self, made: Problem, item: Item, shapes: dict[Sizes, str], is_optional: bool = False
+    ) -> None:
         """Makes the object of an item, and its shapes where no item had them before."""
         forms = self.forms(item)
         if not forms:
@@ -87,7 +91,8 @@ class Room:
             for d in range(made.dims)
         ]
         names = [shapes[form] for form in forms]
-        made.object(item.name, names, zip(low, high), item.numbers, where=item.where)
+        ranges = zip(low, high)
+        made.object(item.name, names, ranges, item.numbers, item.where, is_optional)
 
     def shift(self, form: Sequence[int]) -> Sizes:
         """From the least corner of a form to its origin."""

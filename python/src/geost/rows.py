@@ -42,6 +42,8 @@ def row_of(
         value = listed.get(attribute, 0)
         cells.append(words.get((attribute, value), value if attribute in listed else ""))
     name = names.get(placed.name, placed.name)
+    if placed.is_absent:
+        return [name, placed.name, placed.shape, *[""] * (2 * problem.dims), *cells]
     sizes = extent(problem.shape(placed.shape))
     return [name, placed.name, placed.shape, *placed.origin, *sizes, *cells]
 

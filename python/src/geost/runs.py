@@ -64,10 +64,10 @@ def judged_layout(program: Program, problem: Problem, outcome: Outcome) -> str |
 
 def token_of(problem: Problem, layout: list[Placed]) -> str:
     """The layout in one word: of each object the place of its shape in its list, and its origin."""
-    places = [
-        thing.shapes.index(placed.shape) + 1 for thing, placed in zip(problem.objects, layout)
+    groups = [
+        [thing.shapes.index(placed.shape) + 1, *(placed.origin or problem.first_values(thing))]
+        for thing, placed in zip(problem.objects, layout)
     ]
-    groups = [[place, *placed.origin] for place, placed in zip(places, layout)]
     return "/".join(",".join(map(str, group)) for group in groups) or "-"
 
 

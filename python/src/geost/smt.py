@@ -13,6 +13,7 @@ from dataclasses import dataclass, field
 from itertools import combinations, pairwise, product
 
 from geost.text import (
+    ABSENT,
     Apart,
     Bare,
     Box,
@@ -36,6 +37,7 @@ from geost.text import (
     ShapeNumber,
     Truth,
     Within,
+    absent,
 )
 
 TRUE, FALSE = "true", "false"
@@ -144,6 +146,7 @@ class Writer:
         self.objects = {thing.name: thing for thing in self.problem.objects}
         self.shapes = {shape.name: shape for shape in self.problem.shapes}
         self.numbers = {shape.name: at for at, shape in enumerate(self.problem.shapes, 1)}
+        self.numbers[ABSENT] = 0
         self.places = {thing.name: at for at, thing in enumerate(self.problem.objects, 1)}
 
     # Variables
@@ -161,12 +164,17 @@ class Writer:
         return compared(self.shape_number(thing), "=", Linear(self.numbers[shape]))
 
     def has_one_box(self, thing: Object) -> bool:
-        return all(len(self.shapes[name].boxes) == 1 for name in thing.shapes)
+        return all(len(self.shapes[name].boxes) == 1 for name in thing.real_shapes)
+
+    def is_there(self, thing: Object) -> str:
+        """That an object is not absent."""
+        return negation(self.has_shape(thing, ABSENT)) if thing.may_be_absent else TRUE
 
     def box_field(self, thing: Object, letter: str, dimension: int) -> Linear:
         """An offset (`t`) or a length (`l`) of the one box of an object."""
         values = {
-            self.box_value(self.shapes[name].boxes[0], letter, dimension) for name in thing.shapes
+            self.box_value(self.shapes[name].boxes[0], letter, dimension)
+            for name in thing.real_shapes
         }
         if len(values) == 1:
             return Linear(values.pop())
@@ -186,14 +194,22 @@ class Writer:
                 yield f"(declare-const {name} Int)"
                 shapes = disjunction([self.has_shape(thing, shape) for shape in thing.shapes])
                 yield f"(assert {shapes})"
+            yield from self.first_values(thing)
             if self.has_one_box(thing):
                 yield from self.declarations_of_box(thing)
+
+    def first_values(self, thing: Object) -> Iterator[str]:
+        """That an absent object has the first value of each coordinate."""
+        for dimension, value in enumerate(self.problem.first_values(thing)):
+            at_first = compared(self.coordinate(thing, dimension), "=", Linear(value))
+            if thing.may_be_absent and at_first != TRUE:
+                yield f"(assert {disjunction([self.is_there(thing), at_first])})"
 
     def declarations_of_box(self, thing: Object) -> Iterator[str]:
         for letter, dimension in product("tl", range(self.problem.dims)):
             for name, _ in self.box_field(thing, letter, dimension).factors:
                 yield f"(declare-const {name} Int)"
-                for shape in thing.shapes:
+                for shape in thing.real_shapes:
                     value = printed_number(
                         self.box_value(self.shapes[shape].boxes[0], letter, dimension)
                     )
@@ -314,16 +330,17 @@ class Writer:
     def elements(self, formula: Quantified, known: Environment) -> list[tuple[str, Value]]:
         if formula.boxes_of is None:
             names = formula.listed if formula.listed is not None else self.objects
-            return [(TRUE, self.objects[name]) for name in names]
+            things = [self.objects[name] for name in names]
+            return [(self.is_there(thing), thing) for thing in things]
         owner = (
             known[formula.boxes_of] if formula.boxes_of in known else self.objects[formula.boxes_of]
         )
         assert isinstance(owner, Object)
         if self.has_one_box(owner):
-            return [(TRUE, AnyBox(owner))]
+            return [(self.is_there(owner), AnyBox(owner))]
         return [
             (self.has_shape(owner, name), box)
-            for name in owner.shapes
+            for name in owner.real_shapes
             for box in self.shapes[name].boxes
         ]
 
@@ -394,6 +411,9 @@ def layout_of_model(problem: Problem, model: str) -> list[Placed]:
     layout: list[Placed] = []
     for thing in problem.objects:
         number = values.get(f"sid_{thing.name}")
+        if number == 0:
+            layout.append(absent(thing.name))
+            continue
         shape = thing.shapes[0] if number is None else names[number - 1]
         origin = (
             values.get(f"x{dimension}_{thing.name}", low)

@@ -9,7 +9,7 @@ from typing import Any, cast
 from geost import text as t
 from geost.formula import Called, Given, Macro, Value, Variable
 from geost.names import Names, name_for, unused
-from geost.trees import Node, rebuilt
+from geost.trees import Node, all_parts, rebuilt
 
 Scope = Mapping[str, str]
 
@@ -78,7 +78,7 @@ class Spelling:
 
 
 def given_owners(node: Node) -> Iterator[Given]:
-    for part in t.all_parts(node):
+    for part in all_parts(node):
         names: tuple[str, ...] = ()
         match part:
             case t.FieldOf(owner, _):

@@ -8,9 +8,10 @@ from collections.abc import Generator
 from dataclasses import dataclass, replace
 
 from geost.candidates import Candidate
-from geost.parts import is_fixed, with_objects
+from geost.cubes import MOST_RULES, conjunction, fresh_name
+from geost.parts import at_place, is_fixed, left_out, with_objects
 from geost.runs import Outcome, Verdict
-from geost.text import Placed, Problem, at_origin, read_layout
+from geost.text import Placed, Problem, Rule, read_layout
 
 GROWTH = 4
 MOST_STEPS = 10**12
@@ -158,17 +159,15 @@ class Repair:
         part = only(self.made, set(self.placed) | set(added))
         kept = {name: placed for name, placed in self.placed.items() if name not in loose}
         things = tuple(
-            replace(
-                thing,
-                shapes=(kept[thing.name].shape,),
-                pieces=at_origin(kept[thing.name].origin),
-            )
-            if thing.name in kept
-            else thing
+            at_place(part, thing, kept[thing.name]) if thing.name in kept else thing
             for thing in part.objects
         )
+        rules, said = part.rules, left_out(kept.values())
+        if said and len(rules) < MOST_RULES:
+            name = fresh_name("left_out", {rule.name for rule in rules})
+            rules = (*rules, Rule(name, conjunction(said)))
         rest = [name for name in part.search_order() if name not in added]
-        return replace(part, objects=things, order=(*added, *rest))
+        return replace(part, objects=things, rules=rules, order=(*added, *rest))
 
     def take(self, outcome: Outcome, added: list[str]) -> None:
         """Takes over a layout that was found, or tries fewer objects, or more loose ones."""

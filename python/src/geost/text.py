@@ -13,6 +13,8 @@ from geost.tokens import TextFault, Token, read_tokens
 
 RELATIONS = ["<=", "<", ">=", ">", "=", "!="]
 SECOND_VERSION = 2
+# what stands last in the shapes of an object that may be left out, and in its line of a layout
+ABSENT = "absent"
 Range = tuple[int, int]
 What = TypeVar("What")
 
@@ -143,14 +145,27 @@ class Shape:
     boxes: tuple[Box, ...]
 
 
+NOTHING = Shape(ABSENT, ())
+
+
 @dataclass(frozen=True)
 class Object:
-    """`pieces` are those of the range of each coordinate, in ascending order."""
+    """`shapes` are the names of those that it may take; where it may be left out, `absent` is the
+    last of them. `pieces` are those of the range of each coordinate, in ascending order."""
 
     name: str
     shapes: tuple[str, ...]
     pieces: tuple[tuple[Range, ...], ...]
     attributes: tuple[tuple[str, int], ...] = ()
+
+    @property
+    def may_be_absent(self) -> bool:
+        return ABSENT in self.shapes
+
+    @property
+    def real_shapes(self) -> tuple[str, ...]:
+        """Those that have boxes."""
+        return tuple(shape for shape in self.shapes if shape != ABSENT)
 
     @property
     def ranges(self) -> tuple[Range, ...]:
@@ -208,10 +223,14 @@ class Problem:
     version: int = 1
 
     def shape(self, name: str) -> Shape:
+        """The shape of this name; what is absent has no boxes."""
+        if name == ABSENT:
+            return NOTHING
         return next(shape for shape in self.shapes if shape.name == name)
 
     def shape_number(self, name: str) -> int:
-        return 1 + [shape.name for shape in self.shapes].index(name)
+        """The number of a shape, from 1; of what is absent 0."""
+        return 0 if name == ABSENT else 1 + [shape.name for shape in self.shapes].index(name)
 
     def object(self, name: str) -> Object:
         return next(thing for thing in self.objects if thing.name == name)
@@ -222,17 +241,32 @@ class Problem:
     def search_sides(self) -> tuple[str, ...]:
         return self.sides or ("low",) * self.dims
 
+    def first_values(self, thing: Object) -> tuple[int, ...]:
+        """The first value of each coordinate in the search, which an absent object has."""
+        sides = zip(thing.ranges, self.search_sides())
+        return tuple(low if side == "low" else high for (low, high), side in sides)
+
     def attribute_names(self) -> list[str]:
         return list(dict.fromkeys(name for thing in self.objects for name, _ in thing.attributes))
 
 
 @dataclass(frozen=True)
 class Placed:
-    """An object of a layout, with the name of its shape and its origin."""
+    """An object of a layout, with the name of its shape and its origin. One that is absent has the
+    shape `absent` and no origin."""
 
     name: str
     shape: str
     origin: tuple[int, ...]
+
+    @property
+    def is_absent(self) -> bool:
+        return self.shape == ABSENT
+
+
+def absent(name: str) -> Placed:
+    """An object that is left out."""
+    return Placed(name, ABSENT, ())
 
 
 @dataclass
@@ -373,13 +407,22 @@ class Reader:
     def object(self, made: Problem) -> Problem:
         name = self.name()
         self.need("as")
-        shapes = tuple(self.separated(self.name, ","))
+        shapes = self.shape_names()
         self.need("at")
         pieces = self.all_pieces()
         attributes = self.separated(self.attribute, ",") if self.take_if("with") else []
         return replace(
             made, objects=made.objects + (Object(name, shapes, pieces, tuple(attributes)),)
         )
+
+    def shape_names(self) -> tuple[str, ...]:
+        """In the second version the word `absent` may be the last of them."""
+        found = [self.name()]
+        while self.take_if(","):
+            if self.version == SECOND_VERSION and self.take_if(ABSENT):
+                return (*found, ABSENT)
+            found.append(self.name())
+        return tuple(found)
 
     def attribute(self) -> tuple[str, int]:
         name = self.name()
@@ -540,7 +583,8 @@ class Reader:
 
     def placed(self) -> Placed:
         name = self.name()
-        self.need("as")
+        if self.need("as", ABSENT) == ABSENT:
+            return absent(name)
         shape = self.name()
         self.need("at")
         return Placed(name, shape, self.integers())
@@ -733,37 +777,13 @@ def print_problem(problem: Problem) -> str:
     return "\n".join(statements(problem)) + "\n"
 
 
+def print_placed(placed: Placed) -> str:
+    """The line of an object in a layout."""
+    if placed.is_absent:
+        return f"{placed.name} {ABSENT}"
+    return f"{placed.name} as {placed.shape} at {' '.join(map(str, placed.origin))}"
+
+
 def print_layout(layout: list[Placed]) -> str:
     """The layout block without its token line."""
-    lines = [
-        f"{placed.name} as {placed.shape} at {' '.join(map(str, placed.origin))}"
-        for placed in layout
-    ]
-    return "\n".join(["layout", *lines]) + "\n"
-
-
-# Walking over trees
-
-
-def parts_of(node: Formula | Expr) -> tuple[Formula | Expr, ...]:
-    """What a formula or an expression is directly made of."""
-    match node:
-        case Not(inner) | Negative(inner):
-            return (inner,)
-        case Joined(_, parts):
-            return parts
-        case Compare(left, _, right) | Extreme(_, left, right):
-            return (left, right)
-        case Quantified():
-            return (node.body,)
-        case Call():
-            return node.arguments
-        case Chain(first, steps):
-            return (first, *(part for _, part in steps))
-    return ()
-
-
-def all_parts(node: Formula | Expr) -> Iterator[Formula | Expr]:
-    yield node
-    for part in parts_of(node):
-        yield from all_parts(part)
+    return "\n".join(["layout", *map(print_placed, layout)]) + "\n"

@@ -1,8 +1,8 @@
-"""Changing the formulas of a problem: part by part, for fewer objects, and what they weigh."""
+"""Walking over the formulas of a problem, changing them part by part, and what they weigh."""
 
 from __future__ import annotations
 
-from collections.abc import Callable, Iterable
+from collections.abc import Callable, Iterator
 from dataclasses import dataclass, replace
 from typing import cast
 
@@ -25,11 +25,34 @@ from geost.text import (
     Rule,
     Truth,
     Within,
-    parts_of,
 )
 
 Node = Formula | Expr
 Change = Callable[[Node], Node]
+
+
+def parts_of(node: Node) -> tuple[Node, ...]:
+    """What a formula or an expression is directly made of."""
+    match node:
+        case Not(inner) | Negative(inner):
+            return (inner,)
+        case Joined(_, parts):
+            return parts
+        case Compare(left, _, right) | Extreme(_, left, right):
+            return (left, right)
+        case Quantified():
+            return (node.body,)
+        case Call():
+            return node.arguments
+        case Chain(first, steps):
+            return (first, *(part for _, part in steps))
+    return ()
+
+
+def all_parts(node: Node) -> Iterator[Node]:
+    yield node
+    for part in parts_of(node):
+        yield from all_parts(part)
 
 
 def rebuilt(node: Node, change: Change) -> Node:

@@ -13,7 +13,8 @@ const Blame = (() => {
     constructor(problem, things, ask) {
       this.ask = ask;
       this.names = problem.objects.map((object) => object.name);
-      const fixed = new Map(things.map((thing) => [thing.name, fixedLine(thing)]));
+      this.gone = things.filter((thing) => thing.shape === Cells.ABSENT).map((it) => it.name);
+      const fixed = new Map(things.map((thing) => [thing.name, fixedLine(problem, thing)]));
       this.front = problem.front.map((line) => {
         const [word, name] = line.split(" ");
         return word === "object" ? fixed.get(name) : line;
@@ -92,8 +93,9 @@ const Blame = (() => {
       }
       return found;
     }
+    // The objects that a quantifier goes over: it passes those by that are left out.
     elements(formula) {
-      return formula.listed || this.names;
+      return (formula.listed || this.names).filter((name) => !this.gone.includes(name));
     }
     // The elements for which the body of a quantifier holds.
     satisfying(prefix, formula) {
@@ -113,7 +115,8 @@ const Blame = (() => {
   class NotAsked extends Error {}
 
   // The pairs of things whose least boxes have a cell in common.
-  function meetingPairs(problem, things) {
+  function meetingPairs(problem, all) {
+    const things = all.filter((thing) => thing.boxes.length);
     const around = things.map((thing) => Cells.hull(thing.boxes, problem.dims));
     return things.flatMap((one, n) => {
       const others = Cells.counted(things.length).slice(n + 1);
@@ -123,12 +126,15 @@ const Blame = (() => {
     });
   }
 
-  // The statement of an object that may only stand where it is.
-  function fixedLine(thing) {
-    const ranges = thing.origin.map((value) => `${value}..${value}`).join(" ");
+  // The statement of an object that may only stand where it is, or be left out where it is.
+  function fixedLine(problem, thing) {
+    const isGone = thing.shape === Cells.ABSENT;
+    const origin = isGone ? Cells.firstValues(problem, thing) : thing.origin;
+    const ranges = origin.map((value) => `${value}..${value}`).join(" ");
+    const shapes = isGone ? thing.shapes.join(", ") : thing.shape;
     const given = Object.entries(thing.attributes).map(([name, value]) => `${name} = ${value}`);
     const attributes = given.length ? ` with ${given.join(", ")}` : "";
-    return `object ${thing.name} as ${thing.shape} at ${ranges}${attributes} ;`;
+    return `object ${thing.name} as ${shapes} at ${ranges}${attributes} ;`;
   }
 
   // ---- `apart` and `within` as formulas

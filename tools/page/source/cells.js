@@ -37,7 +37,16 @@ const Cells = (() => {
       const [key, value] = part.split("=");
       [attributes[key.trim()]] = integersIn(value);
     }
-    return { name, number, shapes: listed(shapes), attributes };
+    return { name, number, shapes: listed(shapes), ranges: pieces(rest), attributes };
+  }
+
+  // For each coordinate the first and the last number of its range, which may have several pieces.
+  function pieces(text) {
+    const each = text.split(" with ")[0].match(/\S+\.\.\S+(?:, \S+\.\.\S+)*/g) || [];
+    return each.map((it) => {
+      const found = rangesIn(it);
+      return [found[0][0], found[found.length - 1][1]];
+    });
   }
 
   function readRule(line) {
@@ -48,12 +57,15 @@ const Cells = (() => {
 
   // The problem that a canonical text spells, which has one statement a line, as `show` prints it.
   function readProblem(text) {
-    const made = { dims: 3, shapes: new Map(), objects: [], rules: [], order: null, front: [] };
+    const made = {
+      dims: 3, shapes: new Map(), objects: [], rules: [], order: null, sides: [], front: [],
+    };
     const readers = {
       geost: (line) => (made.dims = Number(line.split(" ")[3])),
       shape: (line) => made.shapes.set(line.split(" ")[1], readShape(line)),
       object: (line) => made.objects.push(readObject(line, made.objects.length)),
       order: (line) => (made.order = listed(line.slice("order ".length, -" ;".length))),
+      sides: (line) => (made.sides = line.split(" ").slice(1, -1)),
       rule: (line) => made.rules.push(readRule(line)),
     };
     for (const line of text.split("\n")) {
@@ -65,7 +77,14 @@ const Cells = (() => {
     return made;
   }
 
+  // The first value of each coordinate in the search, which an object that is left out has.
+  const firstValues = (problem, object) => {
+    return object.ranges.map(([low, high], d) => (problem.sides[d] === "high" ? high : low));
+  };
+
   const PLACE = /^\s*(\w+)\s+as\s+(\w+)\s+at((?:\s+-?\s*\d+)+)\s*$/;
+  const LEFT_OUT = /^\s*(\w+)\s+absent\s*$/;
+  const ABSENT = "absent";
 
   // The lines of a layout that place an object, by its name, and the token, if any.
   function readLayout(text) {
@@ -75,6 +94,8 @@ const Cells = (() => {
       const bare = line.replace(/#.*/, "");
       const it = PLACE.exec(bare);
       if (it) places.set(it[1], { shape: it[2], origin: integersIn(it[3]) });
+      const out = LEFT_OUT.exec(bare);
+      if (out) places.set(out[1], { shape: ABSENT, origin: [] });
       const said = /^\s*token\s+(\S+)/.exec(bare);
       if (said) [, token] = said;
     }
@@ -93,11 +114,15 @@ const Cells = (() => {
 
   // ---- plans
 
-  // The objects of a layout with their boxes. One that has no line, or no such shape, has none.
+  // The objects of a layout with their boxes. One that is absent, has no line, or no such shape, has
+  // none.
   function placedThings(problem, layout) {
     return problem.objects.map((object) => {
       const place = layout.places.get(object.name);
       const shape = place && problem.shapes.get(place.shape);
+      if (place && place.shape === ABSENT) {
+        return { ...object, shape: ABSENT, origin: [], boxes: [] };
+      }
       if (!shape || place.origin.length !== problem.dims) {
         return { ...object, shape: "", origin: [], boxes: [] };
       }
@@ -285,6 +310,6 @@ const Cells = (() => {
   return {
     counted, unique, readProblem, readLayout, layoutsIn, attributesOf, placedThings, boxesOf,
     rectOf, meet, hull, room, frame, overlaps, isInSlab, slabs, slabTitle, outline, without,
-    clipped, areaOf,
+    clipped, areaOf, firstValues, ABSENT,
   };
 })();

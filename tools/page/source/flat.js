@@ -58,7 +58,10 @@ const Flat = (() => {
   // The pixels that a number between these takes, with a gap.
   const numberWidth = (low, high) => 10 + 7.2 * Math.max(String(low).length, String(high).length);
 
-  const titleOf = (thing) => `${thing.name} as ${thing.shape} at ${thing.origin.join(" ")}`;
+  const titleOf = (thing) => {
+    if (thing.shape === Cells.ABSENT) return `${thing.name} ${Cells.ABSENT}`;
+    return `${thing.name} as ${thing.shape} at ${thing.origin.join(" ")}`;
+  };
 
   // The classes of a thing's part: whether it is blamed, faded or picked.
   function classesOf(thing, look, picked) {

@@ -14,16 +14,21 @@ const Moves = (() => {
 
   const thingOf = (name) => state.things.find((thing) => thing.name === name);
 
+  const firstValuesOf = (name) => Cells.firstValues(state.problem, thingOf(name));
+  const lineOf = (name, shape, origin) => Flat.titleOf({ name, shape, origin });
+
   // Gives an object another shape or origin in the plan's text, without the token line, which would
   // say another layout then.
   function rewrite(name, change) {
     const lines = Editors.planText().split("\n").filter((line) => !/^\s*token\b/.test(line));
-    const form = new RegExp(`^(\\s*${name}\\s+as\\s+)(\\w+)(\\s+at)((?:\\s+-?\\d+)+)(.*)$`);
+    const placed = "as\\s+(\\w+)\\s+at((?:\\s+-?\\d+)+)";
+    const form = new RegExp(`^(\\s*)${name}\\s+(?:${placed}|${Cells.ABSENT}\\b)(.*)$`);
     const made = lines.map((line) => {
       const it = form.exec(line);
       if (!it) return line;
-      const [shape, origin] = change(it[2], it[4].trim().split(/\s+/).map(Number));
-      return `${it[1]}${shape}${it[3]} ${origin.join(" ")}${it[5]}`;
+      const [, front, shape, origin, rest] = it;
+      const from = origin ? origin.trim().split(/\s+/).map(Number) : firstValuesOf(name);
+      return `${front}${lineOf(name, ...change(shape || Cells.ABSENT, from))}${rest}`;
     });
     Editors.plan().setValue(made.join("\n"));
   }
@@ -32,7 +37,7 @@ const Moves = (() => {
     rewrite(name, (shape, origin) => [shape, origin.map((value, d) => value + (steps[d] || 0))]);
   }
 
-  // Gives an object its next shape.
+  // Gives an object its next shape; behind the last one it is left out where it may be.
   function turn(name) {
     const { shapes } = thingOf(name);
     rewrite(name, (shape, origin) => [shapes[(shapes.indexOf(shape) + 1) % shapes.length], origin]);

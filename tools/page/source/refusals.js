@@ -119,7 +119,7 @@ const Refusals = (() => {
     if (index < Tokens.HEAD) return "a version that is";
     if (piecesBefore(refusal).length >= MOST_PIECES) return "a 9th piece";
     if (["div", "mod"].includes(refusal.before())) return "the number behind `div`";
-    if (token === "box" || (tokens[index] && tokens[index].kind === "name")) {
+    if (["box", Cells.ABSENT].includes(token) || (tokens[index] && tokens[index].kind === "name")) {
       return "a name past its limit";
     }
     const isList = ["box", "size", "at", "within", "sides"].includes(refusal.before());
@@ -441,9 +441,7 @@ const Refusals = (() => {
 
   function layoutOrderHints(refusal) {
     const names = refusal.made("object");
-    const before = refusal.tokens.slice(0, refusal.index).filter((token) => {
-      return token.text === "as";
-    }).length;
+    const before = linesBegun(refusal, refusal.index).length;
     if (before < names.length) {
       const lines = "write one line for each object, in the sequence of the problem";
       return [`the line of \`${names[before]}\` has to stand here: ${lines}`];
@@ -451,9 +449,13 @@ const Refusals = (() => {
     const all = `the problem has ${names.length} objects, and each has its line already`;
     return [`${all}: write no other`];
   }
+  // The numbers of the tokens up to an end that stand behind the name of an object's line.
+  function linesBegun(refusal, end) {
+    return Cells.counted(end).filter((n) => ["as", Cells.ABSENT].includes(refusal.textAt(n)));
+  }
   // The object in whose line the place is.
   function layoutObject(refusal) {
-    const marks = Cells.counted(refusal.index).filter((n) => refusal.textAt(n) === "as");
+    const marks = linesBegun(refusal, refusal.index + 1);
     return marks.length ? refusal.textAt(marks[marks.length - 1] - 1) : "";
   }
   function layoutUnknownHints(refusal) {
@@ -461,8 +463,11 @@ const Refusals = (() => {
     const statement = refusal.objectStatement(name);
     const at = statement.findIndex((token) => token.text === "at");
     const shapes = statement.slice(2, at).filter((token) => {
-      return token.kind === "name";
+      return token.kind === "name" || token.text === Cells.ABSENT;
     }).map((token) => token.text);
+    if (refusal.token === Cells.ABSENT) {
+      return [`\`${name}\` may not be left out: write \`${name} as ${shapes[0]} at ..\``];
+    }
     return [...didYouMean(refusal.token, shapes), ...listed(`shapes of \`${name}\``, shapes)];
   }
   function layoutRangeHints(refusal) {
