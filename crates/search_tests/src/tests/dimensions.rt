@@ -1,5 +1,5 @@
-//! Sweeps, prunings, settles and checks in five and six dimensions, against what was worked out by
-//! hand.
+//! Sweeps in six dimensions, and prunings, settles and checks in five and six, against what was
+//! worked out by hand.
 
 ghost use Rattle.std.specs.Prelude.{◌<◌, ◌≤◌};
 ghost use Rattle.geo_base.specs.Ways.{IsSmallPoint};
@@ -52,20 +52,19 @@ fn last<const K: usize>(lead: usize) -> usize
 
 /// Whether the sweep of a cube, with B fixed at a number, finds the point that has `other` in the dimension d and `each` in every
 /// other one.
-fn finds<const K: usize>(
+fn finds(
     alloc: Global,
     fixed: i64,
     c: Cond,
-    region: &KBox<K>,
-    way: &Way<K>,
+    region: &KBox<6>,
+    way: &Way<6>,
     wanted: (i64, usize, i64),
 ) -> Result<bool, AllocError>
-    requires k { (0 < K) × (K ≤ MAX_DIMS) }
-    requires small { IsSmallPoint K region.now.lo.coordinates
-        × IsSmallPoint K region.now.hi.coordinates }
+    requires small { IsSmallPoint 6 region.now.lo.coordinates
+        × IsSmallPoint 6 region.now.hi.coordinates }
 {
     let (each, d, other) = wanted;
-    let s = state::<K>(alloc, &[(1, 0, 9), (1, fixed, fixed)])?;
+    let s = state::<6>(alloc, &[(1, 0, 9), (1, fixed, fixed)])?;
     match first_point(&s, c, region, way)? {
         Some(p) => Ok(is_at(&p, each, d, other)),
         None => Ok(false),
@@ -74,33 +73,30 @@ fn finds<const K: usize>(
 
 /// Whether the sweeps that begin with that dimension find their points. With all coordinates but one at an end, the one in the
 /// lead stays where the sweep begins. Beside a box of size 2 only the last coordinate moves.
-fn are_found<const K: usize>(alloc: Global, lead: usize) -> Result<bool, AllocError>
-    requires k { (0 < K) × (K ≤ MAX_DIMS) }
-    requires lead { lead < K }
+fn are_found(alloc: Global, lead: usize) -> Result<bool, AllocError>
+    requires { lead < 6 }
 {
     let up = Way::new(lead, true);
     let down = Way::new(lead, false);
-    let end = last::<K>(lead);
-    let small = cube::<K>(0, 2);
-    let large = cube::<K>(0, 3);
-    let high = all_but_one::<K>(alloc, true)?;
-    let low = all_but_one::<K>(alloc, false)?;
-    let two = apart::<K>(alloc, 2)?;
-    let other = apart::<K>(alloc, 2)?;
+    let end = last::<6>(lead);
+    let small = cube::<6>(0, 2);
+    let large = cube::<6>(0, 3);
+    let high = all_but_one::<6>(alloc, true)?;
+    let low = all_but_one::<6>(alloc, false)?;
+    let two = apart::<6>(alloc, 2)?;
+    let other = apart::<6>(alloc, 2)?;
     Ok(
-        finds::<K>(alloc, 0, high, &small, &up, (2, lead, 0))?
-            && finds::<K>(alloc, 0, low, &small, &down, (0, lead, 2))?
-            && finds::<K>(alloc, 0, two, &large, &up, (0, end, 2))?
-            && finds::<K>(alloc, 2, other, &large, &down, (3, end, 1))?,
+        finds(alloc, 0, high, &small, &up, (2, lead, 0))?
+            && finds(alloc, 0, low, &small, &down, (0, lead, 2))?
+            && finds(alloc, 0, two, &large, &up, (0, end, 2))?
+            && finds(alloc, 2, other, &large, &down, (3, end, 1))?,
     )
 }
 
 /// The same for each lead.
-fn are_all_found<const K: usize>(alloc: Global) -> Result<bool, AllocError>
-    requires { (0 < K) × (K ≤ MAX_DIMS) }
-{
-    for lead in 0..K {
-        if !are_found::<K>(alloc, lead)? {
+fn are_all_found(alloc: Global) -> Result<bool, AllocError> {
+    for lead in 0..6 {
+        if !are_found(alloc, lead)? {
             return Ok(false);
         }
     }
@@ -110,7 +106,7 @@ fn are_all_found<const K: usize>(alloc: Global) -> Result<bool, AllocError>
 #[test]
 fn sweeps_find_their_points(rt: HostRuntime) -> Result<(), Fail> {
     let alloc = rt.alloc();
-    assert!(rt; are_all_found::<5>(alloc)? && are_all_found::<6>(alloc)?);
+    assert!(rt; are_all_found(alloc)?);
     Ok(())
 }
 

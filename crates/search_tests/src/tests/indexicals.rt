@@ -1,4 +1,4 @@
-//! Conditions as indexicals, and what a sweep, a pruning and a settle make of them in any number of dimensions.
+//! Conditions as indexicals, what a sweep makes of them in six dimensions, and a pruning and a settle in any.
 
 ghost use Rattle.std.specs.Prelude.{◌≡◌, ◌≤◌, ◌<◌, pos, negsuc, ◌≤ℤ◌, IfOk, length, map};
 ghost use Rattle.geo_base.specs.Ways.{IsSmallPoint};
@@ -72,21 +72,20 @@ pub fn cube<const K: usize>(low: i8, high: i8) -> KBox<K>
     )
 }
 
-fn sweep_with<const K: usize, L: Ledger>(
+fn sweep_with<L: Ledger>(
     blank: Blank,
-    s: &State<K>,
-    list: &[AnyIndexical<K>; 1],
-    region: &KBox<K>,
-    way: &Way<K>,
-) -> Result<Option<Point<K>>, AllocError>
-    requires k { (0 < K) × (K ≤ MAX_DIMS) }
+    s: &State<6>,
+    list: &[AnyIndexical<6>; 1],
+    region: &KBox<6>,
+    way: &Way<6>,
+) -> Result<Option<Point<6>>, AllocError>
     requires name { blank.name ≡ L.name }
     requires parts { blank.parts ≡ L.parts }
     requires some { 0 < blank.parts }
     requires fits { AllFit (map (λ x. x.cond) list.now) s.now }
     requires object { 0 < length s.now }
-    requires small { IsSmallPoint K region.now.lo.coordinates
-        × IsSmallPoint K region.now.hi.coordinates }
+    requires small { IsSmallPoint 6 region.now.lo.coordinates
+        × IsSmallPoint 6 region.now.hi.coordinates }
 {
     let mut steps = Steps::<L>::new(blank);
     sweep(
@@ -102,32 +101,30 @@ fn sweep_with<const K: usize, L: Ledger>(
     )
 }
 
-fn swept<const K: usize>(
-    s: &State<K>,
-    list: &[AnyIndexical<K>; 1],
-    region: &KBox<K>,
-    way: &Way<K>,
-) -> Result<Option<Point<K>>, AllocError>
-    requires k { (0 < K) × (K ≤ MAX_DIMS) }
+fn swept(
+    s: &State<6>,
+    list: &[AnyIndexical<6>; 1],
+    region: &KBox<6>,
+    way: &Way<6>,
+) -> Result<Option<Point<6>>, AllocError>
     requires fits { AllFit (map (λ x. x.cond) list.now) s.now }
     requires object { 0 < length s.now }
-    requires small { IsSmallPoint K region.now.lo.coordinates
-        × IsSmallPoint K region.now.hi.coordinates }
+    requires small { IsSmallPoint 6 region.now.lo.coordinates
+        × IsSmallPoint 6 region.now.hi.coordinates }
 {
-    sweep_with::<K, Brand>(Blank::new(1), s, list, region, way)
+    sweep_with::<Brand>(Blank::new(1), s, list, region, way)
 }
 
 /// The first point of the region at which the condition lets the first object stand, in the way's order; none where it cannot
 /// be asked.
-pub fn first_point<const K: usize>(
-    s: &State<K>,
+pub fn first_point(
+    s: &State<6>,
     c: Cond,
-    region: &KBox<K>,
-    way: &Way<K>,
-) -> Result<Option<Point<K>>, AllocError>
-    requires k { (0 < K) × (K ≤ MAX_DIMS) }
-    requires small { IsSmallPoint K region.now.lo.coordinates
-        × IsSmallPoint K region.now.hi.coordinates }
+    region: &KBox<6>,
+    way: &Way<6>,
+) -> Result<Option<Point<6>>, AllocError>
+    requires small { IsSmallPoint 6 region.now.lo.coordinates
+        × IsSmallPoint 6 region.now.hi.coordinates }
 {
     if s.objects() == 0 || !fits(&c, s) {
         return Ok(None);
