@@ -71,6 +71,7 @@ object_written i low high =
         some = λ e. cc;
         each = (subst IsNameText (sym (shape_at 80 (2 * i - 2) [] p)) (shape_is_name (2 * i - 2) p), (subst IsNameText (sym (shape_at 80 (2 * i - 1) [] q)) (shape_is_name (2 * i - 1) q), tt));
       };
+      present = λ _. refl;
       pieces = pieces_written;
       attributes = tt;
     }
