@@ -211,6 +211,7 @@ STEPS = {
     "examples/check": "true",
     ".ci/try_geost": "echo tried",
     "tools/setup": "echo 'missing: vim (a test)'; exit 1",
+    "tools/page/wasm": 'echo a module >"$1"',
     "tools/test": "printf 'skipped: a test: no vim\\n1 skipped\\n9 passed, 0 failed\\n'",
 }
 GATE = """#!/usr/bin/env bash
@@ -220,11 +221,13 @@ chmod +x crates/geost_cli/out/geost_cli
 """
 
 
-def run_gate(folder: Path, mark: str) -> subprocess.CompletedProcess[str]:
-    """Runs .ci/run where the kit builds a program with this mark in it."""
+def run_gate(folder: Path, mark: str, **steps: str) -> subprocess.CompletedProcess[str]:
+    """Runs .ci/run where the kit builds a program with this mark in it, and some steps say other
+    things than usual."""
     checkout = copy_checkout(folder)
-    for name, lines in STEPS.items():
-        (checkout.top / name).parent.mkdir(exist_ok=True)
+    for name, usual in STEPS.items():
+        lines = steps.get(Path(name).name, usual)
+        (checkout.top / name).parent.mkdir(parents=True, exist_ok=True)
         write_program(checkout.top / name, lines)
     shutil.copy(TOP / ".ci" / "run", checkout.top / ".ci" / "run")
     write_program(folder / "rt", GATE.format(mark=mark).partition("\n")[2])
@@ -237,7 +240,8 @@ def run_gate(folder: Path, mark: str) -> subprocess.CompletedProcess[str]:
 
 
 def check_gate(folder: Path) -> None:
-    """The gate names last what was skipped, and an unproved build does not pass in it."""
+    """The gate names last what was skipped, and neither an unproved build passes in it nor a
+    program of which the page's module is not made."""
     done = run_gate(folder / "proved", "proved")
     want(done.returncode, 0, f"the status of the gate: {done.stderr}")
     last = [
@@ -247,9 +251,13 @@ def check_gate(folder: Path) -> None:
         "2 skipped",
     ]
     want(done.stdout.splitlines()[-4:], last, "the last lines")
+    want("page: its module was made of the program in" in done.stdout, True, "the step is named")
     refused = run_gate(folder / "unproved", "__asan_init")
     want(refused.returncode, 1, "the status of the gate with an unproved build")
     want("tried" in refused.stdout, False, "whether it went on")
+    without = run_gate(folder / "without", "proved", wasm="exit 1")
+    want(without.returncode, 1, "the status of the gate without the page's module")
+    want("passed" in without.stdout, False, "whether it went on to the tests")
 
 
 def check_help(setting: Setting) -> None:
