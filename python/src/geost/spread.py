@@ -51,7 +51,7 @@ class Settings:
     is_shared: bool = True
     parts: int = 8
     open_per_slot: int = 3
-    least: float = 0.5
+    least: float = 0.25
     most: float = 60.0
     first_steps: int = 1000
     memory: int | None = None
