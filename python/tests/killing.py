@@ -18,7 +18,7 @@ from geost.program import Program, usual_program
 SOURCE = Path(geost.__file__).resolve().parents[1]
 # each run of the program takes as long as this, so that there is time to kill something
 PAUSE = 0.05
-PATIENCE = float(os.environ.get("GEOST_PATIENCE", "40"))
+PATIENCE = float(os.environ.get("GEOST_PATIENCE", "150"))
 SHELF = (
     "geost 1 dims 2 shape s box 0 0 size 2 1 ;\n{}rule free : apart ;\n"
     "rule r : within 0..{} 0..0 ; end\n"
