@@ -7,7 +7,9 @@ ghost use Rattle.geo_base.specs.declared.TheConstants.{MAX_DIMS};
 
 use crate::tests::checking::verdict;
 use crate::tests::events::record;
-use crate::tests::indexicals::{cube, first_point, indexicals, is_at, is_box, pruned, settled};
+use crate::tests::indexicals::{
+    cube, first_point, indexicals, is_at, is_box, pruned, region_of, settled,
+};
 use crate::tests::literals::{A, B, of_one, of_two, state};
 use derivation::{Event, Log};
 use geo_base::{KBox, Point, Way};
@@ -165,13 +167,14 @@ fn behind<const K: usize>(alloc: Global, gap: i8) -> Result<Vec<Cond>, AllocErro
     Ok(list)
 }
 
-/// The first two regions that a settle leaves of A and B in 0 to 4 in each dimension, and its events; none where it leaves none,
-/// or cannot begin.
+/// The region that a settle leaves of A, or of B, both in 0 to 4 in each dimension, and its events;
+/// none where it leaves none, or cannot begin.
 fn settle<const K: usize>(
     alloc: Global,
     list: Vec<Cond>,
+    second: bool,
     rec: &mut Log,
-) -> Result<Option<(KBox<K>, KBox<K>)>, AllocError>
+) -> Result<Option<KBox<K>>, AllocError>
     requires { (0 < K) × (K ≤ MAX_DIMS) }
 {
     let s = state::<K>(alloc, &[(1, 0, 4), (1, 0, 4)])?;
@@ -181,28 +184,44 @@ fn settle<const K: usize>(
     let Some(t) = settled(alloc, s, indexicals(alloc, list)?, rec)? else {
         return Ok(None);
     };
-    let left = t.state();
-    if left.objects() < 2 {
-        return Ok(None);
-    }
-    Ok(Some((left.region(A), left.region(B))))
+    Ok(region_of(t.state(), second))
 }
 
-/// Whether A and B are kept apart by 2 in each dimension, and find no room for 5, as the check of what is recorded says too.
-fn are_settled<const K: usize>(alloc: Global) -> Result<bool, AllocError>
+/// Whether a settle leaves A, or B, between these ends in each dimension.
+fn is_left<const K: usize>(
+    alloc: Global,
+    second: bool,
+    ends: (i64, i64),
+) -> Result<bool, AllocError>
     requires { (0 < K) × (K ≤ MAX_DIMS) }
 {
     let mut log = Log::new(alloc);
-    let Some((first, second)) = settle::<K>(alloc, behind::<K>(alloc, 2)?, &mut log)? else {
-        return Ok(false);
-    };
-    if !is_box(&first, (0, 2), 0, (0, 2)) || !is_box(&second, (2, 4), 0, (2, 4)) {
-        return Ok(false);
+    match settle::<K>(alloc, behind::<K>(alloc, 2)?, second, &mut log)? {
+        Some(found) => Ok(is_box(&found, ends, 0, ends)),
+        None => Ok(false),
     }
+}
+
+/// Whether a settle leaves nothing where A and B are kept apart by 5, as the check of what is
+/// recorded says too.
+fn is_dead<const K: usize>(alloc: Global) -> Result<bool, AllocError>
+    requires { (0 < K) × (K ≤ MAX_DIMS) }
+{
     let mut log = Log::new(alloc);
-    let none = settle::<K>(alloc, behind::<K>(alloc, 5)?, &mut log)?.is_none();
+    let none = settle::<K>(alloc, behind::<K>(alloc, 5)?, false, &mut log)?.is_none();
     let s = state::<K>(alloc, &[(1, 0, 4), (1, 0, 4)])?;
     Ok(none && verdict(alloc, &s, &behind::<K>(alloc, 5)?, &log)? == Some(0))
+}
+
+/// Whether A and B are kept apart by 2 in each dimension, and find no room for 5.
+fn are_settled<const K: usize>(alloc: Global) -> Result<bool, AllocError>
+    requires { (0 < K) × (K ≤ MAX_DIMS) }
+{
+    Ok(
+        is_left::<K>(alloc, false, (0, 2))?
+            && is_left::<K>(alloc, true, (2, 4))?
+            && is_dead::<K>(alloc)?,
+    )
 }
 
 #[test]
