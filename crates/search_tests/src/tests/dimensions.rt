@@ -1,5 +1,5 @@
-//! Sweeps in six dimensions, and prunings, settles and checks in five and six, against what was
-//! worked out by hand.
+//! Sweeps and settles in six dimensions, and prunings, each of which sweeps, and checks in five and
+//! six, against what was worked out by hand.
 
 ghost use Rattle.std.specs.Prelude.{◌<◌, ◌≤◌};
 ghost use Rattle.geo_base.specs.Ways.{IsSmallPoint};
@@ -7,9 +7,7 @@ ghost use Rattle.geo_base.specs.declared.TheConstants.{MAX_DIMS};
 
 use crate::tests::checking::verdict;
 use crate::tests::events::record;
-use crate::tests::indexicals::{
-    cube, first_point, indexicals, is_at, is_box, pruned, region_of, settled,
-};
+use crate::tests::indexicals::{cube, first_point, indexicals, is_at, is_box, pruned, settled};
 use crate::tests::literals::{A, B, of_one, of_two, state};
 use derivation::{Event, Log};
 use geo_base::{KBox, Point, Way};
@@ -167,67 +165,46 @@ fn behind<const K: usize>(alloc: Global, gap: i8) -> Result<Vec<Cond>, AllocErro
     Ok(list)
 }
 
-/// The region that a settle leaves of A, or of B, both in 0 to 4 in each dimension, and its events;
-/// none where it leaves none, or cannot begin.
-fn settle<const K: usize>(
+/// The first two regions that a settle leaves of A and B in 0 to 4 in each dimension, and its events; none where it leaves none,
+/// or cannot begin.
+fn settle(
     alloc: Global,
     list: Vec<Cond>,
-    second: bool,
     rec: &mut Log,
-) -> Result<Option<KBox<K>>, AllocError>
-    requires { (0 < K) × (K ≤ MAX_DIMS) }
-{
-    let s = state::<K>(alloc, &[(1, 0, 4), (1, 0, 4)])?;
+) -> Result<Option<(KBox<6>, KBox<6>)>, AllocError> {
+    let s = state::<6>(alloc, &[(1, 0, 4), (1, 0, 4)])?;
     if !is_small(&s) || !all_fit(&list, &s) || list.len() > 1_000_000_000 {
         return Ok(None);
     }
     let Some(t) = settled(alloc, s, indexicals(alloc, list)?, rec)? else {
         return Ok(None);
     };
-    Ok(region_of(t.state(), second))
-}
-
-/// Whether a settle leaves A, or B, between these ends in each dimension.
-fn is_left<const K: usize>(
-    alloc: Global,
-    second: bool,
-    ends: (i64, i64),
-) -> Result<bool, AllocError>
-    requires { (0 < K) × (K ≤ MAX_DIMS) }
-{
-    let mut log = Log::new(alloc);
-    match settle::<K>(alloc, behind::<K>(alloc, 2)?, second, &mut log)? {
-        Some(found) => Ok(is_box(&found, ends, 0, ends)),
-        None => Ok(false),
+    let left = t.state();
+    if left.objects() < 2 {
+        return Ok(None);
     }
+    Ok(Some((left.region(A), left.region(B))))
 }
 
-/// Whether a settle leaves nothing where A and B are kept apart by 5, as the check of what is
-/// recorded says too.
-fn is_dead<const K: usize>(alloc: Global) -> Result<bool, AllocError>
-    requires { (0 < K) × (K ≤ MAX_DIMS) }
-{
+/// Whether A and B are kept apart by 2 in each dimension, and find no room for 5, as the check of what is recorded says too.
+fn are_settled(alloc: Global) -> Result<bool, AllocError> {
     let mut log = Log::new(alloc);
-    let none = settle::<K>(alloc, behind::<K>(alloc, 5)?, false, &mut log)?.is_none();
-    let s = state::<K>(alloc, &[(1, 0, 4), (1, 0, 4)])?;
-    Ok(none && verdict(alloc, &s, &behind::<K>(alloc, 5)?, &log)? == Some(0))
-}
-
-/// Whether A and B are kept apart by 2 in each dimension, and find no room for 5.
-fn are_settled<const K: usize>(alloc: Global) -> Result<bool, AllocError>
-    requires { (0 < K) × (K ≤ MAX_DIMS) }
-{
-    Ok(
-        is_left::<K>(alloc, false, (0, 2))?
-            && is_left::<K>(alloc, true, (2, 4))?
-            && is_dead::<K>(alloc)?,
-    )
+    let Some((first, second)) = settle(alloc, behind::<6>(alloc, 2)?, &mut log)? else {
+        return Ok(false);
+    };
+    if !is_box(&first, (0, 2), 0, (0, 2)) || !is_box(&second, (2, 4), 0, (2, 4)) {
+        return Ok(false);
+    }
+    let mut log = Log::new(alloc);
+    let none = settle(alloc, behind::<6>(alloc, 5)?, &mut log)?.is_none();
+    let s = state::<6>(alloc, &[(1, 0, 4), (1, 0, 4)])?;
+    Ok(none && verdict(alloc, &s, &behind::<6>(alloc, 5)?, &log)? == Some(0))
 }
 
 #[test]
 fn settles_move_both_ends(rt: HostRuntime) -> Result<(), Fail> {
     let alloc = rt.alloc();
-    assert!(rt; are_settled::<5>(alloc)? && are_settled::<6>(alloc)?);
+    assert!(rt; are_settled(alloc)?);
     Ok(())
 }
 

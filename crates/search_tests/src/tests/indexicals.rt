@@ -6,7 +6,7 @@ ghost use Rattle.geo_base.specs.declared.TheConstants.{MAX_DIMS};
 ghost use Rattle.geo_conditions.specs.Conditions.{AllFit, FitsIn};
 ghost use Rattle.geo_state.specs.Trail.{HasSmallIntervals};
 
-use crate::tests::literals::{A, B};
+use crate::tests::literals::A;
 use derivation::{Log, NoRecord, Recorder};
 use fixpoint::Fixpoint;
 use geo_base::{KBox, Point, Steps, Way};
@@ -148,19 +148,6 @@ pub fn pruned<const K: usize>(
     let mut t = Trailed::start(alloc, s, 0)?;
     prune_object(&mut t, A, &list, &[1], &mut NoRecord::new())?;
     Ok(region_of_first(t.state()))
-}
-
-/// The region of the first object, or of the second, if there is one.
-pub fn region_of<const K: usize>(s: &State<K>, second: bool) -> Option<KBox<K>>
-    requires { K ≤ MAX_DIMS }
-{
-    if s.objects() < 2 {
-        None
-    } else if second {
-        Some(s.region(B))
-    } else {
-        Some(s.region(A))
-    }
 }
 
 /// The region of the first object, if there is one.
