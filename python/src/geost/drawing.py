@@ -425,7 +425,9 @@ def draw_time(plan: Plan, look: Look, width: float, time: int = 0, lane: int | N
     row = max(18.0, min(46.0 if lanes.dimension is not None else 28.0, 520 / len(lanes.names)))
     place = Lines(frame, time, lanes, left, width, row)
     parts = draw_lanes(place)
-    parts += [draw_bars(place, look, thing, number) for number, thing in enumerate(plan.things)]
+    for number, thing in enumerate(plan.things):
+        if thing.boxes:
+            parts.append(draw_bars(place, look, thing, number))
     what = f"x{time + 1}" + (
         "" if lanes.dimension is None else f", lanes by x{lanes.dimension + 1}"
     )
