@@ -12,7 +12,7 @@ use crate::tests::literals::{A, B, of_one, of_two, state};
 use derivation::{Event, Log};
 use geo_base::{KBox, Point, Way};
 use geo_conditions::{Cond, Conds, State, all_fit};
-use geo_state::is_small;
+use geo_state::{Trailed, is_small};
 use std::alloc::{AllocError, Global};
 use std::test::Fail;
 
@@ -165,46 +165,70 @@ fn behind<const K: usize>(alloc: Global, gap: i8) -> Result<Vec<Cond>, AllocErro
     Ok(list)
 }
 
-/// The first two regions that a settle leaves of A and B in 0 to 4 in each dimension, and its events; none where it leaves none,
-/// or cannot begin.
-fn settle(
-    alloc: Global,
-    list: Vec<Cond>,
-    rec: &mut Log,
-) -> Result<Option<(KBox<6>, KBox<6>)>, AllocError> {
-    let s = state::<6>(alloc, &[(1, 0, 4), (1, 0, 4)])?;
-    if !is_small(&s) || !all_fit(&list, &s) || list.len() > 1_000_000_000 {
-        return Ok(None);
-    }
-    let Some(t) = settled(alloc, s, indexicals(alloc, list)?, rec)? else {
-        return Ok(None);
-    };
-    let left = t.state();
-    if left.objects() < 2 {
-        return Ok(None);
-    }
-    Ok(Some((left.region(A), left.region(B))))
+/// What a settle leaves of A and B in 0 to 4 in each of so many dimensions, where A is before B with
+/// `gap` between their origins in each, with its events; none where it leaves nothing or cannot begin.
+macro_rules! settle {
+    ($k:literal, $alloc:expr, $gap:expr, $rec:expr) => {{
+        let s = state::<$k>($alloc, &[(1, 0, 4), (1, 0, 4)])?;
+        let list = behind::<$k>($alloc, $gap)?;
+        if !is_small(&s) || !all_fit(&list, &s) || list.len() > 1_000_000_000 {
+            return Ok(None);
+        }
+        settled($alloc, s, indexicals($alloc, list)?, $rec)
+    }};
 }
 
-/// Whether A and B are kept apart by 2 in each dimension, and find no room for 5, as the check of what is recorded says too.
-fn are_settled(alloc: Global) -> Result<bool, AllocError> {
+fn settle_in_five(alloc: Global, gap: i8, rec: &mut Log) -> Result<Option<Trailed<5>>, AllocError> {
+    settle!(5, alloc, gap, rec)
+}
+
+fn settle_in_six(alloc: Global, gap: i8, rec: &mut Log) -> Result<Option<Trailed<6>>, AllocError> {
+    settle!(6, alloc, gap, rec)
+}
+
+/// Whether A is left in 0 to 2 and B in 2 to 4 in each dimension.
+fn are_left_apart<const K: usize>(s: &State<K>) -> bool
+    requires { K ≤ MAX_DIMS }
+{
+    s.objects() == 2
+        && is_box(&s.region(A), (0, 2), 0, (0, 2))
+        && is_box(&s.region(B), (2, 4), 0, (2, 4))
+}
+
+/// Whether the check of these events says that A and B find no room for a gap of 5.
+fn have_no_room<const K: usize>(alloc: Global, log: &Log) -> Result<bool, AllocError>
+    requires { (0 < K) × (K ≤ MAX_DIMS) }
+{
+    let s = state::<K>(alloc, &[(1, 0, 4), (1, 0, 4)])?;
+    Ok(verdict(alloc, &s, &behind::<K>(alloc, 5)?, log)? == Some(0))
+}
+
+fn are_settled_in_five(alloc: Global) -> Result<bool, AllocError> {
     let mut log = Log::new(alloc);
-    let Some((first, second)) = settle(alloc, behind::<6>(alloc, 2)?, &mut log)? else {
-        return Ok(false);
+    let apart = match settle_in_five(alloc, 2, &mut log)? {
+        Some(t) => are_left_apart(t.state()),
+        None => false,
     };
-    if !is_box(&first, (0, 2), 0, (0, 2)) || !is_box(&second, (2, 4), 0, (2, 4)) {
-        return Ok(false);
-    }
     let mut log = Log::new(alloc);
-    let none = settle(alloc, behind::<6>(alloc, 5)?, &mut log)?.is_none();
-    let s = state::<6>(alloc, &[(1, 0, 4), (1, 0, 4)])?;
-    Ok(none && verdict(alloc, &s, &behind::<6>(alloc, 5)?, &log)? == Some(0))
+    let none = settle_in_five(alloc, 5, &mut log)?.is_none();
+    Ok(apart && none && have_no_room::<5>(alloc, &log)?)
+}
+
+fn are_settled_in_six(alloc: Global) -> Result<bool, AllocError> {
+    let mut log = Log::new(alloc);
+    let apart = match settle_in_six(alloc, 2, &mut log)? {
+        Some(t) => are_left_apart(t.state()),
+        None => false,
+    };
+    let mut log = Log::new(alloc);
+    let none = settle_in_six(alloc, 5, &mut log)?.is_none();
+    Ok(apart && none && have_no_room::<6>(alloc, &log)?)
 }
 
 #[test]
 fn settles_move_both_ends(rt: HostRuntime) -> Result<(), Fail> {
     let alloc = rt.alloc();
-    assert!(rt; are_settled(alloc)?);
+    assert!(rt; are_settled_in_five(alloc)? && are_settled_in_six(alloc)?);
     Ok(())
 }
 
