@@ -1,5 +1,5 @@
-//! Sweeps and settles in six dimensions, and prunings, each of which sweeps, and checks in five and
-//! six, against what was worked out by hand.
+//! Sweeps in six dimensions, and prunings, each of which sweeps, settles and checks in five and six,
+//! against what was worked out by hand.
 
 ghost use Rattle.std.specs.Prelude.{◌<◌, ◌≤◌};
 ghost use Rattle.geo_base.specs.Ways.{IsSmallPoint};
