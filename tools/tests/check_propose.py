@@ -12,8 +12,9 @@ from pathlib import Path
 
 import oracle
 from check_examples import cells_in_all
+from geost.parts import at_place, left_out
 from geost.smt import Writer, layout_of_model
-from geost.text import Placed, Problem, at_origin, read_layout, read_problem
+from geost.text import ABSENT, Placed, Problem, Rule, absent, read_layout, read_problem
 from harness import TOP, Case, Cases, Setting, Skipped, run_tool, want, want_in
 
 EXAMPLES = sorted((TOP / "examples").glob("*.geost"))
@@ -61,22 +62,20 @@ def check_layouts(path: Path) -> None:
 
 
 def random_layout(problem: Problem, chance: random.Random) -> list[Placed]:
-    return [
-        Placed(
-            thing.name,
-            chance.choice(thing.shapes),
-            tuple(chance.randint(*chance.choice(pieces)) for pieces in thing.pieces),
-        )
-        for thing in problem.objects
-    ]
+    found = []
+    for thing in problem.objects:
+        shape = chance.choice(thing.shapes)
+        origin = tuple(chance.randint(*chance.choice(pieces)) for pieces in thing.pieces)
+        found.append(absent(thing.name) if shape == ABSENT else Placed(thing.name, shape, origin))
+    return found
 
 
 def at_places(problem: Problem, layout: list[Placed]) -> Problem:
-    things = tuple(
-        replace(thing, shapes=(placed.shape,), pieces=at_origin(placed.origin))
-        for thing, placed in zip(problem.objects, layout)
-    )
-    return replace(problem, objects=things)
+    """The problem that has this layout alone, or none."""
+    pairs = zip(problem.objects, layout)
+    things = tuple(at_place(problem, thing, placed) for thing, placed in pairs)
+    gone = (Rule(f"gone_{number}", said) for number, said in enumerate(left_out(layout)))
+    return replace(problem, objects=things, rules=(*problem.rules, *gone))
 
 
 def check_by_hand() -> None:
