@@ -33,6 +33,8 @@ ONCE = 100_000
 SPLIT, WAITING, RUNNING = "split", "waiting", "running"
 LOOK = 0.5
 LOST_SECONDS = 5.0
+# the seconds that the first cubes may take, most of which are too large, and how soon they rise
+FIRST_SECONDS, RISE = 0.05, 0.1
 
 
 def always() -> bool:
@@ -217,7 +219,8 @@ class Spread:
     def patience(self) -> float:
         """A part of the work that gave answers, so that what is thrown away stays a part of it."""
         useful = (self.counts.spent - self.counts.wasted) / (2 * self.settings.slots)
-        return max(self.settings.least, min(self.settings.most, useful))
+        least = min(self.settings.least, FIRST_SECONDS + RISE * self.counts.spent)
+        return max(least, min(self.settings.most, useful))
 
     def steps(self, node: Node) -> int:
         if node.group is not None:
@@ -279,7 +282,7 @@ class Spread:
             digest_of(settings.program),
             node.steps,
             node.cube.text(self.problem),
-            1e9 if is_last else 4 * self.patience(),
+            1e9 if is_last else 4 * max(self.patience(), self.settings.least),
             settings.memory,
             str(settings.folder.resolve()) if settings.is_shared else None,
             settings.check,
