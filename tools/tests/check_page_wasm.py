@@ -22,6 +22,8 @@ sys.path.insert(0, str(PAGE))
 import origin  # noqa: E402
 import retargeting  # noqa: E402
 
+# (once, since cases run side by side and each run of a script has the same name)
+WASM = runpy.run_path(str(PAGE / "wasm"))
 CLANG = Path(os.environ.get("RATTLE_KIT", "/opt/rattle")) / "toolchain" / "bin" / "clang"
 TARGET = "--target=wasm32-unknown-unknown -O2 -nostdlib --no-default-config".split()
 LINKED = "--no-entry --export-all".split()
@@ -164,9 +166,8 @@ def check_kept(folder: Path) -> None:
     output = folder / "geost.wasm"
     want_in("not proved", make_module(folder / "checkout", output))
     (out / "geost_cli").write_bytes(b"a program")
-    script = runpy.run_path(str(PAGE / "wasm"))
-    checkout = script["Checkout"](folder / "checkout")
-    script["keep"](checkout.kept_module(), b"a module")
+    checkout = WASM["Checkout"](folder / "checkout")
+    WASM["keep"](checkout.kept_module(), b"a module")
     want(make_module(folder / "checkout", output), f"{output}: 8 bytes\n", "the module")
     want(output.read_bytes(), b"a module", "the module that was kept")
     (out / "geost_cli").write_bytes(b"another one")
@@ -193,19 +194,18 @@ def kit_that_builds(folder: Path) -> Path:
 
 def check_compared(folder: Path) -> None:
     """A module is taken where what is linked of it is the program that was proved, and not else."""
-    script = runpy.run_path(str(PAGE / "wasm"))
-    checkout, kit = script["Checkout"](folder), script["Kit"](kit_that_builds(folder / "kit"))
+    checkout, kit = WASM["Checkout"](folder), WASM["Kit"](kit_that_builds(folder / "kit"))
     checkout.program().parent.mkdir(parents=True)
     (folder / "crates.txt").write_text("geost_cli:\n")
     checkout.program().write_text("a module\nlinked\n")
     (folder / "room").mkdir()
-    taken = script["module_of"](checkout, kit, folder / "room")
+    taken = WASM["module_of"](checkout, kit, folder / "room")
     want(taken.read_text(), "a module\n", "the module that clang was given")
     checkout.program().write_text("another module\nlinked\n")
     (folder / "again").mkdir()
     try:
-        script["module_of"](checkout, kit, folder / "again")
-    except script["NotMade"] as refused:
+        WASM["module_of"](checkout, kit, folder / "again")
+    except WASM["NotMade"] as refused:
         want_in("differs from what was built now", str(refused))
         return
     raise Failed("a module of another program is taken")
