@@ -1,5 +1,3 @@
-pub mod Corners
-pub mod Said
 pub mod Left
 pub mod Pairs
 pub mod Rules

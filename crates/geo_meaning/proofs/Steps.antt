@@ -8,7 +8,7 @@ use Rattle.rule_expand.specs.declared.plain.PlainFormula.{PlainFormula}
 use Rattle.rule_expand.specs.declared.plain.PlainProd.{PlainProd}
 use Rattle.rule_expand.specs.declared.plain.PlainSum.{PlainSum}
 use Rattle.rule_expand.specs.Plain.{PlainFormulas, PlainProducts, PlainSums, a_formula, a_product, a_sum}
-use Rattle.rule_expand.specs.PlainTruth.{PlainEnv, plain_all, plain_holds, plain_product, plain_products, plain_some, plain_sum, plain_sums}
+use Rattle.rule_expand.specs.PlainTruth.{PlainEnv, plain_all, plain_holds, plain_product, plain_some, plain_sum, plain_sums}
 use Rattle.rule_expand.specs.PlainView.{plain_formula_view, plain_formulas_view, plain_product_view, plain_products_view, plain_sum_view, plain_sums_view}
 use Rattle.geo_meaning.proofs.Left.{AllLeft, ProductsLeft, SomeLeft, SumsLeft}
 

@@ -1,16 +1,15 @@
 //! Placed objects, box by box.
-ghost use Rattle.std.specs.Prelude.{◌≡◌, ◌<◌, ℕ, ℤ, List, length, map, All};
+ghost use Rattle.std.specs.Prelude.{◌≡◌, ◌<◌, ℕ, ℤ, List, length, map};
 ghost use Rattle.std.specs.Bool.{OnTrue, OnFalse};
 ghost use Rattle.geo_base.specs.Tuple.{spot};
 ghost use Rattle.problem_data.specs.Cells.{BoxHas, IsShaped, IsInRanges, IsCellOf, NoCommonCell, LiesWithin};
-ghost use Rattle.problem_data.specs.Tuple.{boxes_in};
 ghost use Rattle.problem_data.specs.ProblemView.{range_data};
 ghost use Rattle.problem_data.specs.WellFormed.{IsBox};
 
 use crate::boxes::{box_lies_within, box_shares_no_cell};
+use box_ends::boxes;
 use geo_conditions::{Layout, ObjId};
 use problem_data::problem::{BoxDef, Problem, RangeDef};
-use rule_values::shapes::boxes_at;
 
 /// Whether no cell belongs to both objects where the layout puts them.
 pub fn shares_no_cell(problem: &Problem, layout: &Layout, o: ObjId, u: ObjId) -> bool
@@ -69,14 +68,4 @@ pub fn lies_within(problem: &Problem, ranges: &[RangeDef], layout: &Layout, o: O
         }
     }
     true
-}
-
-// The boxes of the object where the layout puts it.
-fn boxes<'a>(problem: &'a Problem, layout: &Layout, o: ObjId) -> &'a [BoxDef]
-    requires layout { IsShaped problem.now layout.now }
-    requires o { o.0 < length problem.now.objects }
-    ensures same { result.now ≡ boxes_in problem.now layout.now o.0 }
-    ensures boxes { All (IsBox problem.now.dims) result.now }
-{
-    boxes_at(problem, o.0 as usize, layout.place(o))
 }

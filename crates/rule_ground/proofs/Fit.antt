@@ -266,7 +266,7 @@ module _ (p : ProblemData) where
       all-flat-in (IsInside p) (apart_of p i) (range_with_len (i + 1) (length p.objects - (i + 1))) (all-range-in (λ j. All (IsInside p) (apart_of p i j)) (i + 1) (length p.objects - (i + 1)) (λ j m n.
       pair-inside i j (omega arith) (omega arith)))))
 
-  unless-by : (b : Bool) (o s : ℕ) (c : CondTree) → o < length p.objects → IsInside p c → IsInside p (cond b (at_least (pos 1) (conds (shape_is_not o s ∷ (c ∷ [])))) c)
+  pub unless-by : (b : Bool) (o s : ℕ) (c : CondTree) → o < length p.objects → IsInside p c → IsInside p (cond b (at_least (pos 1) (conds (shape_is_not o s ∷ (c ∷ [])))) c)
   unless-by true o s c h l = (h, (l, tt))
   unless-by false o s c h l = l
 
@@ -375,7 +375,7 @@ module _ (p : ProblemData) where
       row-fits end_of-Cond h = tt
       row-fits (more_of-Cond c cs) h = (view-fits c h.0, row-fits cs h.1)
 
-    all-fit : (cs : List Cond) → All (IsInside p) (map cond_view cs) → AllFit cs (first_state p)
+    pub all-fit : (cs : List Cond) → All (IsInside p) (map cond_view cs) → AllFit cs (first_state p)
     all-fit [] h = All-nil (λ c. FitsIn c (first_state p))
     all-fit (c ∷ cs) h = All-cons (λ c. FitsIn c (first_state p)) c cs (view-fits c (All-head (IsInside p) (cond_view c) (map cond_view cs) h)) (all-fit cs (All-tail (IsInside p) (cond_view c) (map cond_view cs) h))
 

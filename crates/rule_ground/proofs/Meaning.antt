@@ -150,10 +150,10 @@ no-product : (p : ProblemData) → expansion_fault p ≡ None → first_place mu
 no-product p h = second-none (first_place is_large (rules_expanded p)) (first_place multiplies_coordinates (rules_expanded p)) h
 
 -- the conditions of the program and their trees
-trees-out : (t : Tuple) (cs : List Cond) → AllHold cs t → All (IsTrueOn t) (map cond_view cs)
+pub trees-out : (t : Tuple) (cs : List Cond) → AllHold cs t → All (IsTrueOn t) (map cond_view cs)
 trees-out t cs h = All-map (IsTrueOn t) cond_view cs (λ k d l. view-true t (get_or cs k d) ∙ h k d l)
 
-trees-in : (t : Tuple) (cs : List Cond) → All (IsTrueOn t) (map cond_view cs) → AllHold cs t
+pub trees-in : (t : Tuple) (cs : List Cond) → All (IsTrueOn t) (map cond_view cs) → AllHold cs t
 trees-in t [] h = All-nil (λ (c : Cond). holds c t ≡ true)
 trees-in t (c ∷ cs) h = All-cons (λ (c : Cond). holds c t ≡ true) c cs (sym (view-true t c) ∙ All-head (IsTrueOn t) (cond_view c) (map cond_view cs) h) (trees-in t cs (All-tail (IsTrueOn t) (cond_view c) (map cond_view cs) h))
 

@@ -1,22 +1,31 @@
 -- A problem has few rules and few objects, and each of these few places.
-use Rattle.std.proofs.Common.{◌≡◌, ℕ, ◌<◌, ◌≤◌, true, length, arith}
+use Rattle.std.proofs.Common.{◌≡◌, ℕ, ◌<◌, ◌≤◌, true, length, sym, subst, arith}
 use Rattle.std.proofs.Math.Logic.{⊎_elim}
 use Rattle.std.proofs.lemmas.Bool.{cases_lt}
+use Rattle.std.proofs.lemmas.List.{length-map}
 use Rattle.std.proofs.lemmas.Bool.Decides.{nat_tests}
 use Rattle.problem_data.specs.Problem.{no_object, ProblemData}
 use Rattle.problem_data.specs.Tuple.{object_of}
+use Rattle.problem_data.specs.SomeRules.{numbered}
 use Rattle.problem_data.specs.Accepted.{IsSaid}
 use Rattle.problem_data.specs.WellFormed.{IsWellFormed}
 use Rattle.rule_ground.specs.Shapes.{has_several, HasSmallShapes}
 use Rattle.problem_data.specs.Places.{place_count}
+use Rattle.problem_data.proofs.SomeRules.{few_kept}
 use Rattle.rule_ground.proofs.Settled.{no-places, several-there}
 use Rattle.rule_ground.proofs.Accepted.{accepted-small, accepted-rules}
 
 pub said-small : (p : ProblemData) → IsSaid p → HasSmallShapes p
-said-small p s = accepted-small s.text p s.accepts
+said-small p s =
+    let h = accepted-small s.said.text s.whole s.said.accepts in
+    subst HasSmallShapes (sym s.is) (record { few = h.few; boxes = h.boxes })
 
 pub said-rules : (p : ProblemData) → IsSaid p → length p.rules ≤ 100
-said-rules p s = accepted-rules s.text p s.accepts
+said-rules p s =
+    let n = accepted-rules s.said.text s.whole s.said.accepts in
+    let m = few_kept s.whole s.keep s.kept in
+    let l = length-map s.keep (numbered s.whole.rules) in
+    subst (λ (q : ProblemData). length q.rules ≤ 100) (sym s.is) (omega (arith, n, m, l))
 
 pub few-places : (p : ProblemData) (o : ℕ) → IsWellFormed p → place_count (object_of p o) ≤ 16
 few-places p o w = ⊎_elim

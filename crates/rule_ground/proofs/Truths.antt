@@ -44,7 +44,7 @@ pub turned : (x : ℤ) → negsuc 0 *ℤ x ≡ neg_ℤ x
 unfolding lib.IntN.one
 turned x = *ℤ_comm (negsuc 0) x ∙ *ℤ-negsuc x 0 ∙ ap neg_ℤ (*ℤ-one x)
 
-shifted : (d b c : ℤ) → d ≡ b -ℤ c → le_z d (pos 0) ≡ le_z b c
+pub shifted : (d b c : ℤ) → d ≡ b -ℤ c → le_z d (pos 0) ≡ le_z b c
 shifted d b c e = grind (arith, ints)
 
 ahead : (c x y p q : ℤ) → p ≡ x → q ≡ neg_ℤ y → (a l b : ℤ) → c ≡ (a +ℤ l) -ℤ b → le_z (c +ℤ (p +ℤ (q +ℤ pos 0))) (pos 0) ≡ le_z ((x +ℤ a) +ℤ l) (y +ℤ b)

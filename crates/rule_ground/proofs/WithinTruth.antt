@@ -42,12 +42,12 @@ unless-is p t o s c h i = by_test (has_several p o) refl
         let f = h.each o i.object in
         ap (λ (b : Bool). b || true_on t c) (only-one (place_count (object_of p o)) (spot t o).place s f.first f.last i.first i.last (ltb-false 1 (place_count (object_of p o)) e))
 
-unless-out : (p : ProblemData) (t : Tuple) (o s : ℕ) (c : CondTree) → IsShaped p t → IsPlace p o s → (spot t o).place ≡ s → IsTrueOn t (unless_other p o s c) → IsTrueOn t c
+pub unless-out : (p : ProblemData) (t : Tuple) (o s : ℕ) (c : CondTree) → IsShaped p t → IsPlace p o s → (spot t o).place ≡ s → IsTrueOn t (unless_other p o s c) → IsTrueOn t c
 unless-out p t o s c h i e f =
     let v = not_from_true ((spot t o).place == s) (eq-eqb (spot t o).place s e) in
     ⊎_elim (λ q. absurd (false≢true (sym v ∙ q))) (λ q. q) (or_cases (not ((spot t o).place == s)) (true_on t c) (sym (unless-is p t o s c h i) ∙ f))
 
-unless-in : (p : ProblemData) (t : Tuple) (o s : ℕ) (c : CondTree) → IsShaped p t → IsPlace p o s → ((spot t o).place ≡ s → IsTrueOn t c) → IsTrueOn t (unless_other p o s c)
+pub unless-in : (p : ProblemData) (t : Tuple) (o s : ℕ) (c : CondTree) → IsShaped p t → IsPlace p o s → ((spot t o).place ≡ s → IsTrueOn t c) → IsTrueOn t (unless_other p o s c)
 unless-in p t o s c h i f =
     unless-is p t o s c h i
     ∙ ⊎_elim

@@ -9,14 +9,14 @@ mod flat;
 mod formulas;
 pub mod ground;
 mod laws;
-mod literals;
+pub mod literals;
 mod named;
 mod needs;
 mod optional;
 mod own;
 pub mod quantifiers;
-mod shapes;
-mod within;
+pub mod shapes;
+pub mod within;
 
 pub use beginning::{order, start};
 pub use laws::conditions_are_meant;

@@ -20,7 +20,7 @@ pub struct Placed {
     pub place: u8,
 }
 
-// The boxes that the object has at that place.
+/// The boxes that the object has at that place.
 pub fn boxes<'a>(problem: &'a Problem, at: Placed) -> &'a [BoxDef]
     ensures same { result.now ≡ boxes_at problem.now at.object.0 at.place }
     ensures boxes { All (IsBox problem.now.dims) result.now }
@@ -28,7 +28,7 @@ pub fn boxes<'a>(problem: &'a Problem, at: Placed) -> &'a [BoxDef]
     boxes_at(problem, at.object.0 as usize, at.place)
 }
 
-// Whether the object has several places to choose from.
+/// Whether the object has several places to choose from.
 pub fn has_several(problem: &Problem, o: ObjId) -> bool
     requires o { o.0 < length problem.now.objects }
     ensures { result ≡ has_several problem.now o.0 }
@@ -36,7 +36,7 @@ pub fn has_several(problem: &Problem, o: ObjId) -> bool
     places(problem, o) > 1
 }
 
-// How many places the object has.
+/// How many places the object has.
 pub fn places(problem: &Problem, o: ObjId) -> u8
     requires o { o.0 < length problem.now.objects }
     ensures { result ≡ place_count (object_of problem.now o.0) }
@@ -46,7 +46,7 @@ pub fn places(problem: &Problem, o: ObjId) -> u8
     object.places() as u8
 }
 
-// Appends that the object has another place, where it may have one.
+/// Appends that the object has another place, where it may have one.
 pub fn push_other_shape(problem: &Problem, at: Placed, parts: &mut Conds) -> Result<(), AllocError>
     requires at { IsPlace problem.now at.object.0 at.place }
     ensures { OnOk result (map cond_view parts.new.items.items

@@ -65,8 +65,13 @@ pub fn other_or(alloc: Global, at: Placed, c: Cond) -> Result<Cond, AllocError>
     Ok(Cond::AtLeast(1, parts))
 }
 
-// The condition, where the object has that shape.
-fn unless_other(alloc: Global, problem: &Problem, at: Placed, c: Cond) -> Result<Cond, AllocError>
+/// That the object has another place, or the condition; the condition alone, where it has no other.
+pub fn unless_other(
+    alloc: Global,
+    problem: &Problem,
+    at: Placed,
+    c: Cond,
+) -> Result<Cond, AllocError>
     requires at { IsPlace problem.now at.object.0 at.place }
     ensures { IfOk result (λ r. cond_view r
         ≡ unless_other problem.now at.object.0 at.place (cond_view c)) }
@@ -78,7 +83,7 @@ fn unless_other(alloc: Global, problem: &Problem, at: Placed, c: Cond) -> Result
     }
 }
 
-// The range at a place of a list.
+/// The range at a place of a list.
 pub fn range_in(ranges: &[RangeDef], d: usize) -> RangeDef
     requires ranges { All IsRange (map range_data ranges.now) }
     requires d { d < length ranges.now }

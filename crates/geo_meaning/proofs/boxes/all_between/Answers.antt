@@ -1,6 +1,6 @@
 use Rattle.std.proofs.Common.{ℤ, ◌≤ℤ◌, ◌<ℤ◌, ◌-ℤ◌, pos, arith}
 use Rattle.std.proofs.lemmas.Int.{ints}
-use Rattle.geo_meaning.proofs.Corners.{on_true, on_false}
+use Rattle.box_ends.proofs.Corners.{on_true, on_false}
 use Rattle.geo_meaning.proofs.boxes.all_between.Goals as goal
 
 pub returns-then-lowest-low-clause-no : goal.returns-then-lowest-low-clause-no

@@ -1,12 +1,12 @@
-use Rattle.std.proofs.Common.{ℕ, ℤ, List, ◌≡◌, ◌<◌, ◌≤ℤ◌, map, length, get_or, subst, sym, ◌∙◌, ap, pos, arith, below_more}
+use Rattle.std.proofs.Common.{ℕ, ℤ, List, ◌≡◌, ◌<◌, ◌≤ℤ◌, map, length, get_or, subst, sym, arith, below_more}
 use Rattle.std.proofs.lemmas.List.{get_or-map, length-map}
 use Rattle.geo_base.specs.Boxes.{coordinate}
 use Rattle.geo_base.specs.Tuple.{spot}
 use Rattle.problem_data.specs.declared.problem.RangeDef.{RangeDef}
 use Rattle.problem_data.specs.Problem.{RangeData}
-use Rattle.problem_data.specs.Cells.{range_at, IsIn, IsInRanges}
+use Rattle.problem_data.specs.Cells.{range_at, IsIn}
 use Rattle.problem_data.specs.ProblemView.{range_data}
-use Rattle.geo_meaning.proofs.Corners.{cell_with}
+use Rattle.box_ends.proofs.Corners.{cell_with}
 use Rattle.geo_meaning.proofs.boxes.box_lies_within.Goals as goal
 
 module _ (ranges : List RangeDef) (d : ℕ) (e : RangeDef) (h : d < length ranges) where

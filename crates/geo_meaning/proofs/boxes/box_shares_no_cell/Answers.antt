@@ -1,7 +1,7 @@
 use Rattle.std.proofs.Common.{ℕ, ℤ, arith, below_more}
 use Rattle.geo_base.specs.Tuple.{spot}
 use Rattle.problem_data.specs.Cells.{IsIn}
-use Rattle.geo_meaning.proofs.Corners.{common_cell}
+use Rattle.box_ends.proofs.Corners.{common_cell}
 use Rattle.geo_meaning.proofs.boxes.box_shares_no_cell.Goals as goal
 
 pub returns-clause-no : goal.returns-clause-no

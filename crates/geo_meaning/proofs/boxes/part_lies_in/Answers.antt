@@ -1,8 +1,8 @@
-use Rattle.std.proofs.Common.{ℤ, ◌≤ℤ◌, ◌<ℤ◌, arith}
+use Rattle.std.proofs.Common.{ℤ, ◌≤ℤ◌, arith}
 use Rattle.std.proofs.lemmas.Int.{ints}
 use Rattle.geo_base.specs.Tuple.{spot}
 use Rattle.problem_data.specs.Cells.{IsIn}
-use Rattle.geo_meaning.proofs.Corners.{on_true_map, on_false_map}
+use Rattle.box_ends.proofs.Corners.{on_true_map, on_false_map}
 use Rattle.geo_meaning.proofs.boxes.part_lies_in.Goals as goal
 
 pub returns-clause-yes : goal.returns-clause-yes

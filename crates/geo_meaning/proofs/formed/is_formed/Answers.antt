@@ -1,5 +1,5 @@
-use Rattle.geo_meaning.proofs.Said.{few-rules}
+use Rattle.rule_ground.proofs.Said.{said-rules}
 use Rattle.geo_meaning.proofs.formed.is_formed.Goals as goal
 
 pub returns-clause-rules : goal.returns-clause-rules
-returns-clause-rules c = few-rules c.args.problem.now c.is_said.ensures.said
+returns-clause-rules c = said-rules c.args.problem.now c.is_said.ensures.said

@@ -3,7 +3,7 @@ use Rattle.geo_base.specs.Tuple.{spot}
 use Rattle.problem_data.specs.Problem.{BoxData}
 use Rattle.problem_data.specs.Cells.{BoxHas, box_at, IsInRanges}
 use Rattle.problem_data.specs.ProblemView.{range_data}
-use Rattle.geo_meaning.proofs.Corners.{box_there}
+use Rattle.box_ends.proofs.Corners.{box_there}
 use Rattle.geo_meaning.proofs.objects.lies_within.Goals as goal
 
 pub loop-a-preserved : goal.loop-a-preserved

@@ -2,7 +2,7 @@ use Rattle.std.proofs.Common.{◌<◌, ℕ, ℤ, List, length, subst, sym, arith
 use Rattle.geo_base.specs.Tuple.{spot}
 use Rattle.problem_data.specs.Problem.{BoxData}
 use Rattle.problem_data.specs.Cells.{BoxHas, box_at, IsCellOf}
-use Rattle.geo_meaning.proofs.Corners.{box_there}
+use Rattle.box_ends.proofs.Corners.{box_there}
 use Rattle.geo_meaning.proofs.objects.shares_no_cell.Goals as goal
 
 pub loop-a-preserved : goal.loop-a-preserved

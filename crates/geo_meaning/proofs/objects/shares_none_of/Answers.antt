@@ -2,7 +2,7 @@ use Rattle.std.proofs.Common.{◌<◌, ℕ, ℤ, List, length, subst, sym, arith
 use Rattle.geo_base.specs.Tuple.{spot}
 use Rattle.problem_data.specs.Problem.{BoxData}
 use Rattle.problem_data.specs.Cells.{BoxHas, box_at}
-use Rattle.geo_meaning.proofs.Corners.{box_there}
+use Rattle.box_ends.proofs.Corners.{box_there}
 use Rattle.geo_meaning.proofs.objects.shares_none_of.Goals as goal
 
 pub loop-b-preserved : goal.loop-b-preserved

@@ -1,7 +1,7 @@
 use Rattle.std.proofs.Common.{ℤ, ◌≤ℤ◌, ◌<ℤ◌, arith}
 use Rattle.std.proofs.lemmas.Int.{ints}
-use Rattle.geo_meaning.proofs.Corners.{on_false, common}
-use Rattle.geo_meaning.proofs.boxes.no_common.Goals as goal
+use Rattle.box_ends.proofs.Corners.{on_false, common}
+use Rattle.box_ends.proofs.spans.no_common.Goals as goal
 
 pub returns-else-q_high-p_low-clause-no : goal.returns-else-q_high-p_low-clause-no
 returns-else-q_high-p_low-clause-no c = on_false _ ((x : ℤ) × ((c.args.p_low ≤ℤ x) × (x <ℤ c.args.p_high) × (c.args.q_low ≤ℤ x) × (x <ℤ c.args.q_high)))

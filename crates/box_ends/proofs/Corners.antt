@@ -1,6 +1,6 @@
 -- Cells of boxes, made number by number, and facts that follow a test.
-use Rattle.std.proofs.Common.{◌≡◌, ◌<◌, ◌≤◌, ◌+◌, ◌==◌, ℕ, ℤ, Bool, true, false, List, [], map, length, get_or, if◌then◌else◌, refl, sym, subst, ◌∙◌, ap, arith, inl, inr}
-use Rattle.std.specs.Prelude.{◌⊎◌, ◌≤ℤ◌, ◌<ℤ◌, ◌+ℤ◌, pos}
+use Rattle.std.proofs.Common.{◌≡◌, ◌<◌, ◌==◌, ℕ, ℤ, Bool, true, false, List, [], map, length, get_or, if◌then◌else◌, refl, sym, subst, ◌∙◌, arith}
+use Rattle.std.specs.Prelude.{◌≤ℤ◌, ◌<ℤ◌, ◌+ℤ◌, pos}
 use Rattle.std.specs.Bool.{OnTrue, OnFalse}
 use Rattle.std.specs.Int.{int_max}
 use Rattle.std.specs.List.{range_with_len}
@@ -41,28 +41,27 @@ point k f = map f (range_with_len 0 k)
 pub point_at : (k : ℕ) (f : ℕ → ℤ) (d : ℕ) → d < k → coordinate (point k f) d ≡ f d
 point_at k f d h = get_or-map-range_with_len f 0 k d d (pos 0) h (omega arith)
 
+-- where a box begins in the dimension d, seen from an origin
+abbrev pub low : BoxData → List ℤ → ℕ → ℤ
+low b o d = coordinate o d +ℤ coordinate b.offsets d
+
+-- two boxes with a common number in a dimension have the later of their low ends in common
+pub later_low : (a b : BoxData) (x y : List ℤ) (d : ℕ) → (c : ℤ) × (IsIn a x d c × IsIn b y d c) → IsIn a x d (int_max (low a x d) (low b y d)) × IsIn b y d (int_max (low a x d) (low b y d))
+later_low a b x y d (c, (i, j)) =
+    (record { from = omega (arith, ints, clamps); to = omega (arith, ints, clamps) }, record { from = omega (arith, ints, clamps); to = omega (arith, ints, clamps) })
+
 -- two boxes with a common number in each dimension have a common cell
 pub common_cell : (k : ℕ) (a b : BoxData) (x y : List ℤ) → ((d : ℕ) → d < k → (c : ℤ) × (IsIn a x d c × IsIn b y d c)) → (c : List ℤ) × (BoxHas k a x c × BoxHas k b y c)
 common_cell k a b x y f = (
   point k at,
   (
-    (λ d h. subst (IsIn a x d) (sym (point_at k at d h)) (chosen d h).0),
-    (λ d h. subst (IsIn b y d) (sym (point_at k at d h)) (chosen d h).1),
+    (λ d h. subst (IsIn a x d) (sym (point_at k at d h)) (later_low a b x y d (f d h)).0),
+    (λ d h. subst (IsIn b y d) (sym (point_at k at d h)) (later_low a b x y d (f d h)).1),
   ),
 )
   where
-    lower : BoxData → List ℤ → ℕ → ℤ
-    lower e o d = coordinate o d +ℤ coordinate e.offsets d
-
     at : ℕ → ℤ
-    at d = int_max (coordinate x d +ℤ coordinate a.offsets d) (coordinate y d +ℤ coordinate b.offsets d)
-
-    chosen : (d : ℕ) → d < k → IsIn a x d (int_max (coordinate x d +ℤ coordinate a.offsets d) (coordinate y d +ℤ coordinate b.offsets d)) × IsIn b y d (int_max (coordinate x d +ℤ coordinate a.offsets d) (coordinate y d +ℤ coordinate b.offsets d))
-    chosen d h =
-        let c = f d h in
-        let i : IsIn a x d c.0 = c.1.0 in
-        let j : IsIn b y d c.0 = c.1.1 in
-        (record { from = omega (arith, ints, clamps); to = omega (arith, ints, clamps) }, record { from = omega (arith, ints, clamps); to = omega (arith, ints, clamps) })
+    at d = int_max (low a x d) (low b y d)
 
 -- the box has its low end in each dimension
 pub low_end : (k : ℕ) (b : BoxData) (x : List ℤ) (d : ℕ) → IsBox k b → d < k → IsIn b x d (coordinate x d +ℤ coordinate b.offsets d)

@@ -1,9 +1,9 @@
-use Rattle.std.proofs.Common.{ℤ, ◌≤ℤ◌, ◌<ℤ◌, arith}
+use Rattle.std.proofs.Common.{ℤ, arith}
 use Rattle.std.proofs.lemmas.Int.{ints}
 use Rattle.geo_base.specs.Tuple.{spot}
 use Rattle.problem_data.specs.Cells.{IsIn}
-use Rattle.geo_meaning.proofs.Corners.{on_true_map, on_false_map}
-use Rattle.geo_meaning.proofs.boxes.parts_in.Goals as goal
+use Rattle.box_ends.proofs.Corners.{on_true_map, on_false_map}
+use Rattle.box_ends.proofs.spans.parts_in.Goals as goal
 
 pub returns-clause-yes : goal.returns-clause-yes
 returns-clause-yes c = on_true_map c.no_common.result _ ((x : ℤ) → IsIn c.args.a.now (spot c.args.layout.now c.args.o.0).origin c.args.d x → IsIn c.args.b.now (spot c.args.layout.now c.args.u.0).origin c.args.d x → ⊥) c.no_common.ensures.yes
