@@ -13,3 +13,5 @@ pub mod Taken
 pub mod StatementKinds
 pub mod Distinct
 pub mod NamesMet
+pub mod SomeRules
+pub mod SomeStatements

@@ -10,6 +10,7 @@ use Rattle.problem_data.specs.Problem.{ProblemData}
 use Rattle.problem_data.specs.Parts.{Parts, parts_of}
 use Rattle.problem_data.specs.Faults.{IsFault}
 use Rattle.problem_data.specs.Meaning.{problem_of}
+use Rattle.problem_data.specs.SomeRules.{AreRules, with_rules}
 
 -- how many bytes a text may have
 abbrev pub most_bytes : ℕ
@@ -37,6 +38,14 @@ pub record AreSaid (parts : Parts) : Type 0 where
   pub are : parts_of tree ≡ parts
 
 -- some text says the problem
-pub record IsSaid (problem : ProblemData) : Type 0 where
+pub record IsWhollySaid (problem : ProblemData) : Type 0 where
   pub text : List ℕ
   pub accepts : Accepts text problem
+
+-- some text says the problem, or one that it is with further rules
+pub record IsSaid (problem : ProblemData) : Type 0 where
+  pub whole : ProblemData
+  pub said : IsWhollySaid whole
+  pub keep : List ℕ
+  pub kept : AreRules whole keep
+  pub is : problem ≡ with_rules whole keep

@@ -4,6 +4,7 @@ pub mod Marks
 pub mod Grammar
 pub mod Whole
 pub mod Problem
+pub mod SomeRules
 pub mod Pieces
 pub mod Places
 pub mod TreeCode

@@ -1,17 +1,20 @@
 //! A problem: what a text with no fault says.
 
-ghost use Rattle.std.specs.Prelude.{◌≡◌, ◌<◌, ◌≤◌, length, map};
+ghost use Rattle.std.specs.Prelude.{◌≡◌, ◌<◌, ◌≤◌, ◌-◌, IfOk, length, map};
 ghost use Rattle.problem_data.specs.View.{body_view};
 ghost use Rattle.problem_data.specs.ProblemView.{range_data, attribute_data, param_data, demand_data};
-ghost use Rattle.problem_data.specs.Accepted.{IsSaid};
+ghost use Rattle.problem_data.specs.Accepted.{IsSaid, IsWhollySaid};
 ghost use Rattle.problem_data.specs.Pieces.{hull, pieces_at};
 ghost use Rattle.problem_data.specs.Places.{place_count, is_absent_at};
+ghost use Rattle.problem_data.specs.SomeRules.{AreRules, HasNumbers, numbered, with_rules};
 ghost use Rattle.problem_data.specs.WellFormed.{IsWellFormed};
 
 use crate::tree::{MacroBody, ParamKind, Side};
 use geo_tokens::name::Name;
 use rule_syntax::tree::Formula;
+use std::alloc::{AllocError, Global};
 use std::marker::Model;
+use std::rc::Rc;
 
 /// A box of a shape: in each dimension where it begins, as seen from the origin of an object, and how many cells it has.
 pub struct BoxDef {
@@ -431,11 +434,12 @@ pub enum Demand {
     Plain(Formula),
 }
 
-/// A rule, with the place of its name in the text.
+/// A rule, with the place of its name in the text. Problems with some of the same rules share what
+/// it asks for.
 pub struct RuleDef {
     place: u64,
     name: Name,
-    demand: Demand,
+    demand: Rc<Demand>,
 }
 
 impl Drop for RuleDef {
@@ -457,19 +461,38 @@ impl Model for RuleDef {
 
     ghost coded = { rule_code };
 
-    ghost view = { λ r. record { place = r.place; name = r.name; demand = demand_data r.demand } };
+    ghost view = { λ r. record {
+      place = r.place;
+      name = r.name;
+      demand = demand_data r.demand.value;
+    } };
 }
 
 impl RuleDef {
     /// A rule.
-    pub fn new(place: u64, name: Name, demand: Demand) -> RuleDef
-        ensures { result ≡ record { place = place; name = name; demand = demand_data demand } }
+    pub fn new(alloc: Global, place: u64, name: Name, demand: Demand) -> Result<RuleDef, AllocError>
+        ensures { IfOk result (λ r. r
+            ≡ record { place = place; name = name; demand = demand_data demand }) }
     {
-        RuleDef {
+        let demand = Rc::new(alloc, demand)?;
+        Ok(RuleDef {
             place,
             name,
             demand,
-        }
+        })
+    }
+
+    /// The same rule once more, which shares what it asks for.
+    pub fn share(&self, alloc: Global) -> Result<RuleDef, AllocError>
+        ensures { IfOk result (λ r. r ≡ self.now) }
+    {
+        let name = self.name.try_clone(alloc)?;
+        let demand = self.demand.clone()?;
+        Ok(RuleDef {
+            place: self.place,
+            name,
+            demand,
+        })
     }
 
     /// How many bytes of the text stand before its name.
@@ -490,17 +513,18 @@ impl RuleDef {
     pub fn demand(&self) -> &Demand
         ensures { demand_data result.now ≡ self.now.demand }
     {
-        &self.demand
+        self.demand.as_ref()
     }
 }
 
-/// A problem. Some text says it.
+/// A problem. Some text says it, or one that it is with further rules; such problems share their
+/// shapes, objects, macros and what their rules ask for.
 pub struct Problem {
     version: u8,
     dims: usize,
-    shapes: Vec<ShapeDef>,
-    objects: Vec<ObjectDef>,
-    macros: Vec<MacroDef>,
+    shapes: Rc<Vec<ShapeDef>>,
+    objects: Rc<Vec<ObjectDef>>,
+    macros: Rc<Vec<MacroDef>>,
     rules: Vec<RuleDef>,
     order: Vec<u16>,
     sides: Vec<Side>,
@@ -535,9 +559,9 @@ impl Model for Problem {
     ghost view = { λ p. record {
       version = p.version;
       dims = p.dims;
-      shapes = p.shapes.items;
-      objects = p.objects.items;
-      macros = p.macros.items;
+      shapes = p.shapes.value.items;
+      objects = p.objects.value.items;
+      macros = p.macros.value.items;
       rules = p.rules.items;
       order = p.order.items;
       sides = p.sides.items;
@@ -546,13 +570,25 @@ impl Model for Problem {
     ghost invariant = { λ p. IsSaid (record {
       version = p.version;
       dims = p.dims;
-      shapes = p.shapes.items;
-      objects = p.objects.items;
-      macros = p.macros.items;
+      shapes = p.shapes.value.items;
+      objects = p.objects.value.items;
+      macros = p.macros.value.items;
       rules = p.rules.items;
       order = p.order.items;
       sides = p.sides.items;
     }) };
+}
+
+// The rules of these numbers, from 1.
+fn shared_rules(alloc: Global, rules: &[RuleDef], keep: &[u16]) -> Result<Vec<RuleDef>, AllocError>
+    requires { HasNumbers (length rules.now) keep.now }
+    ensures { IfOk result (λ v. v.items ≡ map (numbered rules.now) keep.now) }
+{
+    let mut shared = Vec::new(alloc);
+    for n in keep {
+        shared.push(rules[*n as usize - 1].share(alloc)?)?;
+    }
+    Ok(shared)
 }
 
 impl Problem {
@@ -560,19 +596,19 @@ impl Problem {
     pub fn new(
         version: u8,
         dims: usize,
-        shapes: Vec<ShapeDef>,
-        objects: Vec<ObjectDef>,
-        macros: Vec<MacroDef>,
+        shapes: Rc<Vec<ShapeDef>>,
+        objects: Rc<Vec<ObjectDef>>,
+        macros: Rc<Vec<MacroDef>>,
         rules: Vec<RuleDef>,
         order: Vec<u16>,
         sides: Vec<Side>,
     ) -> Problem
-        requires { IsSaid (record {
+        requires { IsWhollySaid (record {
           version = version;
           dims = dims;
-          shapes = shapes.items;
-          objects = objects.items;
-          macros = macros.items;
+          shapes = shapes.value.items;
+          objects = objects.value.items;
+          macros = macros.value.items;
           rules = rules.items;
           order = order.items;
           sides = sides.items;
@@ -580,9 +616,9 @@ impl Problem {
         ensures { result ≡ record {
           version = version;
           dims = dims;
-          shapes = shapes.items;
-          objects = objects.items;
-          macros = macros.items;
+          shapes = shapes.value.items;
+          objects = objects.value.items;
+          macros = macros.value.items;
           rules = rules.items;
           order = order.items;
           sides = sides.items;
@@ -600,7 +636,8 @@ impl Problem {
         }
     }
 
-    /// What holds of every problem: some text says it, so it is well formed. It does nothing.
+    /// What holds of every problem: some text says it, or one that it is with further rules, so it
+    /// is well formed. It does nothing.
     pub fn is_said(&self)
         ensures said { IsSaid self.now }
         ensures formed { IsWellFormed self.now }
@@ -626,21 +663,21 @@ impl Problem {
     pub fn shapes(&self) -> &[ShapeDef]
         ensures { result.now ≡ self.now.shapes }
     {
-        self.shapes.as_slice()
+        self.shapes.as_ref().as_slice()
     }
 
     /// The objects, in file order.
     pub fn objects(&self) -> &[ObjectDef]
         ensures { result.now ≡ self.now.objects }
     {
-        self.objects.as_slice()
+        self.objects.as_ref().as_slice()
     }
 
     /// The macros, in file order.
     pub fn macros(&self) -> &[MacroDef]
         ensures { result.now ≡ self.now.macros }
     {
-        self.macros.as_slice()
+        self.macros.as_ref().as_slice()
     }
 
     /// The rules, in file order.
@@ -663,4 +700,25 @@ impl Problem {
     {
         self.sides.as_slice()
     }
+}
+
+/// The problem with the rules of these numbers alone, from 1 in file order. It shares its parts with
+/// the whole one.
+pub fn with_rules(alloc: Global, problem: &Problem, keep: &[u16]) -> Result<Problem, AllocError>
+    requires { AreRules problem.now keep.now }
+    ensures { IfOk result (λ q. q ≡ with_rules problem.now keep.now) }
+{
+    let rules = shared_rules(alloc, problem.rules(), keep)?;
+    let order = Vec::from_slice(alloc, problem.search_order())?;
+    let sides = Vec::from_slice(alloc, problem.sides())?;
+    Ok(Problem {
+        version: problem.version,
+        dims: problem.dims,
+        shapes: problem.shapes.clone()?,
+        objects: problem.objects.clone()?,
+        macros: problem.macros.clone()?,
+        rules,
+        order,
+        sides,
+    })
 }
