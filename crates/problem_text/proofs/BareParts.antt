@@ -1,4 +1,5 @@
--- Statements without places: taking places away changes neither which statements there are nor what they mean.
+-- Statements without places: taking places away changes neither which statements there are nor what
+-- they mean.
 use Rattle.std.proofs.Common.{◌≡◌, ℕ, List, [], ◌∷◌, map, Option, Some, None, option_map, refl, ap, ◌∙◌}
 use Rattle.std.specs.Prelude.{is_some}
 use Rattle.std.specs.List.{filter_map, cons_option}

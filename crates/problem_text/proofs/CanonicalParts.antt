@@ -1,6 +1,7 @@
--- The statements of a canonical text by their kinds, and that they mean the problem, places aside.
+-- The statements of a text of a problem by their kinds, and that they mean the problem, places
+-- aside.
 use Rattle.std.proofs.Common.{◌≡◌, ℕ, List, [], ◌∷◌, ◌++◌, map, length, Option, Some, None, Bool, true, false, refl, ap, ◌∙◌}
-use Rattle.std.specs.Prelude.{pos, not, is_some, replicate, if◌then◌else◌}
+use Rattle.std.specs.Prelude.{pos, is_some, replicate, if◌then◌else◌}
 use Rattle.std.specs.List.{filter_map, cons_option, list_any, range_with_len, position_or_len}
 use Rattle.std.specs.Str.{bytes_eq}
 use Rattle.std.proofs.lemmas.List.{append-nil}
@@ -12,7 +13,7 @@ use Rattle.problem_data.specs.Parts.{Parts, parts_of, as_shape, as_object, as_or
 use Rattle.problem_data.specs.Faults.{shape_names, object_names}
 use Rattle.problem_data.specs.Meaning as meaning
 use Rattle.problem_data.specs.Problem.{BoxData, ShapeData, RangeData, ObjectData, MacroData, DemandData, apart, within, plain, RuleData, ProblemData, runs_down}
-use Rattle.problem_text.specs.Canonical.{name_at, counts_from, shape_spelling, object_spelling, macro_spelling, rule_spelling, order_spelling, sides_spelling}
+use Rattle.problem_text.specs.Canonical.{name_at, counts_from, needs_order, needs_sides, MayState, shape_spelling, object_spelling, macro_spelling, rule_spelling, order_spelling, sides_spelling}
 use Rattle.problem_text.specs.Canonical as canonical
 use Rattle.problem_text.specs.ReadBack.{bare_macro, bare_demand, bare_rule, bare_problem}
 use Rattle.problem_text.proofs.PrintingParts.{absent_of, int_of, name_of, range_of, pieces_of, box_of, attribute_of, param_of, side_of, demand_of, bare_body}
@@ -43,17 +44,22 @@ rule_tree_of r = record { name = name_of r.name; demand = demand_of r.demand }
 abbrev pub one_if : {A : Type 0} → Bool → A → List A
 one_if needed a = if needed then a ∷ [] else []
 
-abbrev pub canonical_parts : ProblemData → Parts
-canonical_parts p = record {
+-- the statements where the search order is stated or not, and the sides are stated or not
+abbrev pub stated_parts : (with_order with_sides : Bool) → ProblemData → Parts
+stated_parts with_order with_sides p = record {
   version = int_of (pos p.version);
   dims = int_of (pos p.dims);
   shapes = map shape_tree_of p.shapes;
   objects = map (object_tree_of (canonical.shape_names p)) p.objects;
-  orders = one_if (not (counts_from 0 p.order)) (order_tree_of (canonical.object_names p) p.order);
-  sides = one_if (list_any runs_down p.sides) (sides_tree_of p.sides);
+  orders = one_if with_order (order_tree_of (canonical.object_names p) p.order);
+  sides = one_if with_sides (sides_tree_of p.sides);
   macros = map macro_tree_of p.macros;
   rules = map rule_tree_of p.rules;
 }
+
+-- the statements of the canonical text
+abbrev pub canonical_parts : ProblemData → Parts
+canonical_parts p = stated_parts (needs_order p) (needs_sides p) p
 
 -- ---- which statements there are
 
@@ -85,7 +91,7 @@ module _ {B : Type 0} (pick : StatementTree → Option B) where
   where_one true l b e = ap (λ o. cons_option o []) e
   where_one false l b e = refl
 
-module _ (p : ProblemData) where
+module _ (with_order with_sides : Bool) (p : ProblemData) where
   abbrev shapes : List Line
   shapes = map (λ s. (shape_of s, shape_spelling s)) p.shapes
 
@@ -96,18 +102,18 @@ module _ (p : ProblemData) where
   macros = map (λ m. (macro_of m, macro_spelling m)) p.macros
 
   abbrev an_order_line : List Line
-  an_order_line = line_where (not (counts_from 0 p.order)) (order_of (canonical.object_names p) p.order, order_spelling (canonical.object_names p) p.order)
+  an_order_line = line_where with_order (order_of (canonical.object_names p) p.order, order_spelling (canonical.object_names p) p.order)
 
   abbrev sides_line : List Line
-  sides_line = line_where (list_any runs_down p.sides) (sides_of p.sides, sides_spelling p.sides)
+  sides_line = line_where with_sides (sides_of p.sides, sides_spelling p.sides)
 
   abbrev rules : List Line
   rules = map (λ r. (rule_of r, rule_spelling r)) p.rules
 
-  split_picks : {B : Type 0} (pick : StatementTree → Option B) → picks pick (all_statements p) ≡ picks pick shapes ++ (picks pick objects ++ (picks pick macros ++ ((picks pick an_order_line ++ picks pick sides_line) ++ picks pick rules)))
+  split_picks : {B : Type 0} (pick : StatementTree → Option B) → picks pick (all_statements with_order with_sides p) ≡ picks pick shapes ++ (picks pick objects ++ (picks pick macros ++ ((picks pick an_order_line ++ picks pick sides_line) ++ picks pick rules)))
   split_picks pick =
-      picks_both pick shapes (objects ++ (macros ++ (ways p ++ rules))) ∙ (λ i. picks pick shapes ++ (picks_both pick objects (macros ++ (ways p ++ rules)) ∙ (λ j. picks pick objects ++ (picks_both pick macros (ways p ++ rules)
-      ∙ (λ k. picks pick macros ++ (picks_both pick (ways p) rules ∙ (λ l. picks_both pick an_order_line sides_line l ++ picks pick rules)) k)) j)) i)
+      picks_both pick shapes (objects ++ (macros ++ (ways with_order with_sides p ++ rules))) ∙ (λ i. picks pick shapes ++ (picks_both pick objects (macros ++ (ways with_order with_sides p ++ rules)) ∙ (λ j. picks pick objects ++ (picks_both pick macros (ways with_order with_sides p ++ rules)
+      ∙ (λ k. picks pick macros ++ (picks_both pick (ways with_order with_sides p) rules ∙ (λ l. picks_both pick an_order_line sides_line l ++ picks pick rules)) k)) j)) i)
 
   module _ {B : Type 0} (pick : StatementTree → Option B) where
     no_shapes : ((s : ShapeData) → pick (shape_of s) ≡ None) → picks pick shapes ≡ []
@@ -123,61 +129,61 @@ module _ (p : ProblemData) where
     no_rules e = picks_none pick rule_of rule_spelling e p.rules
 
     no_order : pick (order_of (canonical.object_names p) p.order) ≡ None → picks pick an_order_line ≡ []
-    no_order e = where_none pick (not (counts_from 0 p.order)) (order_of (canonical.object_names p) p.order, order_spelling (canonical.object_names p) p.order) e
+    no_order e = where_none pick with_order (order_of (canonical.object_names p) p.order, order_spelling (canonical.object_names p) p.order) e
 
     no_sides : pick (sides_of p.sides) ≡ None → picks pick sides_line ≡ []
-    no_sides e = where_none pick (list_any runs_down p.sides) (sides_of p.sides, sides_spelling p.sides) e
+    no_sides e = where_none pick with_sides (sides_of p.sides, sides_spelling p.sides) e
 
-  shapes_there : picks as_shape (all_statements p) ≡ map shape_tree_of p.shapes
+  shapes_there : picks as_shape (all_statements with_order with_sides p) ≡ map shape_tree_of p.shapes
   shapes_there =
       split_picks as_shape
       ∙ (λ i. picks_all as_shape shape_of shape_spelling shape_tree_of (λ s. refl) p.shapes i ++ (no_objects as_shape (λ o. refl) i ++ (no_macros as_shape (λ m. refl) i ++ ((no_order as_shape refl i ++ no_sides as_shape refl i) ++ no_rules as_shape (λ r. refl) i))))
       ∙ append-nil (map shape_tree_of p.shapes)
 
-  objects_there : picks as_object (all_statements p) ≡ map (object_tree_of (canonical.shape_names p)) p.objects
+  objects_there : picks as_object (all_statements with_order with_sides p) ≡ map (object_tree_of (canonical.shape_names p)) p.objects
   objects_there =
       split_picks as_object
       ∙ (λ i. no_shapes as_object (λ s. refl) i ++ (picks_all as_object (object_of (canonical.shape_names p)) (object_spelling (canonical.shape_names p)) (object_tree_of (canonical.shape_names p)) (λ o. refl) p.objects i
       ++ (no_macros as_object (λ m. refl) i ++ ((no_order as_object refl i ++ no_sides as_object refl i) ++ no_rules as_object (λ r. refl) i))))
       ∙ append-nil (map (object_tree_of (canonical.shape_names p)) p.objects)
 
-  macros_there : picks as_macro (all_statements p) ≡ map macro_tree_of p.macros
+  macros_there : picks as_macro (all_statements with_order with_sides p) ≡ map macro_tree_of p.macros
   macros_there =
       split_picks as_macro
       ∙ (λ i. no_shapes as_macro (λ s. refl) i ++ (no_objects as_macro (λ o. refl) i ++ (picks_all as_macro macro_of macro_spelling macro_tree_of (λ m. refl) p.macros i ++ ((no_order as_macro refl i ++ no_sides as_macro refl i) ++ no_rules as_macro (λ r. refl) i))))
       ∙ append-nil (map macro_tree_of p.macros)
 
-  orders_there : picks as_order (all_statements p) ≡ one_if (not (counts_from 0 p.order)) (order_tree_of (canonical.object_names p) p.order)
+  orders_there : picks as_order (all_statements with_order with_sides p) ≡ one_if with_order (order_tree_of (canonical.object_names p) p.order)
   orders_there =
-      let one = one_if (not (counts_from 0 p.order)) (order_tree_of (canonical.object_names p) p.order) in
+      let one = one_if with_order (order_tree_of (canonical.object_names p) p.order) in
       split_picks as_order
       ∙ (λ i. no_shapes as_order (λ s. refl) i ++ (no_objects as_order (λ o. refl) i ++ (no_macros as_order (λ m. refl) i
-      ++ ((where_one as_order (not (counts_from 0 p.order)) (order_of (canonical.object_names p) p.order, order_spelling (canonical.object_names p) p.order) (order_tree_of (canonical.object_names p) p.order) refl i ++ no_sides as_order refl i) ++ no_rules as_order (λ r. refl) i))))
+      ++ ((where_one as_order with_order (order_of (canonical.object_names p) p.order, order_spelling (canonical.object_names p) p.order) (order_tree_of (canonical.object_names p) p.order) refl i ++ no_sides as_order refl i) ++ no_rules as_order (λ r. refl) i))))
       ∙ append-nil (one ++ []) ∙ append-nil one
 
-  sides_there : picks as_sides (all_statements p) ≡ one_if (list_any runs_down p.sides) (sides_tree_of p.sides)
+  sides_there : picks as_sides (all_statements with_order with_sides p) ≡ one_if with_sides (sides_tree_of p.sides)
   sides_there =
       split_picks as_sides
       ∙ (λ i. no_shapes as_sides (λ s. refl) i ++ (no_objects as_sides (λ o. refl) i ++ (no_macros as_sides (λ m. refl) i
-      ++ ((no_order as_sides refl i ++ where_one as_sides (list_any runs_down p.sides) (sides_of p.sides, sides_spelling p.sides) (sides_tree_of p.sides) refl i) ++ no_rules as_sides (λ r. refl) i))))
-      ∙ append-nil (one_if (list_any runs_down p.sides) (sides_tree_of p.sides))
+      ++ ((no_order as_sides refl i ++ where_one as_sides with_sides (sides_of p.sides, sides_spelling p.sides) (sides_tree_of p.sides) refl i) ++ no_rules as_sides (λ r. refl) i))))
+      ∙ append-nil (one_if with_sides (sides_tree_of p.sides))
 
-  rules_there : picks as_rule (all_statements p) ≡ map rule_tree_of p.rules
+  rules_there : picks as_rule (all_statements with_order with_sides p) ≡ map rule_tree_of p.rules
   rules_there =
       split_picks as_rule
       ∙ (λ i. no_shapes as_rule (λ s. refl) i ++ (no_objects as_rule (λ o. refl) i ++ (no_macros as_rule (λ m. refl) i ++ ((no_order as_rule refl i ++ no_sides as_rule refl i) ++ picks_all as_rule rule_of rule_spelling rule_tree_of (λ r. refl) p.rules i))))
 
--- the statements of the canonical text
-pub parts_canonical : (p : ProblemData) → parts_of (tree_of p) ≡ canonical_parts p
-parts_canonical p = λ i. record {
+-- the statements of the text
+pub parts_stated : (with_order with_sides : Bool) (p : ProblemData) → parts_of (tree_of with_order with_sides p) ≡ stated_parts with_order with_sides p
+parts_stated with_order with_sides p = λ i. record {
   version = int_of (pos p.version);
   dims = int_of (pos p.dims);
-  shapes = shapes_there p i;
-  objects = objects_there p i;
-  orders = orders_there p i;
-  sides = sides_there p i;
-  macros = macros_there p i;
-  rules = rules_there p i;
+  shapes = shapes_there with_order with_sides p i;
+  objects = objects_there with_order with_sides p i;
+  orders = orders_there with_order with_sides p i;
+  sides = sides_there with_order with_sides p i;
+  macros = macros_there with_order with_sides p i;
+  rules = rules_there with_order with_sides p i;
 }
 
 -- ---- what they mean
@@ -194,11 +200,12 @@ abbrev pub HavePositions : List (List ℕ) → List ObjectData → Type 0
 HavePositions names [] = Unit {0}
 HavePositions names (o ∷ others) = ArePositions names o.shapes × HavePositions names others
 
--- What is true of a problem that a text says: positions of shapes and objects are the first ones of their names, an order that counts is file order, and sides without
--- a high one are low in each dimension.
+-- What is true of a problem that a text says: positions of shapes and objects are the first ones of
+-- their names, an order that counts is file order, and sides without a high one are low in each
+-- dimension.
 pub record IsConsistent (p : ProblemData) : Type 0 where
   pub shapes : HavePositions (canonical.shape_names p) p.objects
-  pub order : counts_from 0 p.order ≡ false → ArePositions (canonical.object_names p) p.order
+  pub order : ArePositions (canonical.object_names p) p.order
   pub file_order : counts_from 0 p.order ≡ true → range_with_len 0 (length (canonical.object_names p)) ≡ p.order
   pub low_sides : list_any runs_down p.sides ≡ false → replicate p.dims Low ≡ p.sides
 
@@ -251,24 +258,24 @@ demand_back (plain f) = refl
 rule_back : (r : RuleData) → meaning.rule_of (rule_tree_of r) ≡ bare_rule r
 rule_back r = λ i. record { place = 0; name = r.name; demand = demand_back r.demand i }
 
-order_back : (b : Bool) (names : List (List ℕ)) (order : List ℕ) → (b ≡ true → range_with_len 0 (length names) ≡ order) → (b ≡ false → ArePositions names order) → meaning.order_of names (one_if (not b) (order_tree_of names order)) ≡ order
-order_back true names order file at = file refl
-order_back false names order file at = positions_back names order (at refl)
+order_back : (b : Bool) (names : List (List ℕ)) (order : List ℕ) → ArePositions names order → (b ≡ false → range_with_len 0 (length names) ≡ order) → meaning.order_of names (one_if b (order_tree_of names order)) ≡ order
+order_back true names order at file = positions_back names order at
+order_back false names order at file = file refl
 
 sides_back : (b : Bool) (k : ℕ) (sides : List Side) → (b ≡ false → replicate k Low ≡ sides) → meaning.sides_of k (one_if b (sides_tree_of sides)) ≡ sides
 sides_back true k sides low = map_back meaning.side_of side_of (λ s. refl) sides
 sides_back false k sides low = low refl
 
--- the canonical statements of a consistent problem mean it, places aside
-pub canonical_meaning : (p : ProblemData) → IsConsistent p → meaning.problem_of (canonical_parts p) ≡ bare_problem p
-canonical_meaning p c = λ i. record {
+-- the statements of a text of a consistent problem mean it, places aside
+pub stated_meaning : (with_order with_sides : Bool) (p : ProblemData) → IsConsistent p → MayState with_order with_sides p → meaning.problem_of (stated_parts with_order with_sides p) ≡ bare_problem p
+stated_meaning with_order with_sides p c may = λ i. record {
   version = p.version;
   dims = p.dims;
   shapes = map_back meaning.shape_of shape_tree_of shape_back p.shapes i;
   objects = (ap (λ names. map (meaning.object_of names) (map (object_tree_of (canonical.shape_names p)) p.objects)) (shape_names_back p.shapes) ∙ objects_back (canonical.shape_names p) p.objects c.shapes) i;
   macros = map_after meaning.macro_of macro_tree_of bare_macro macro_back p.macros i;
   rules = map_after meaning.rule_of rule_tree_of bare_rule rule_back p.rules i;
-  order = (ap (λ names. meaning.order_of names (one_if (not (counts_from 0 p.order)) (order_tree_of (canonical.object_names p) p.order))) (object_names_back (canonical.shape_names p) p.objects)
-      ∙ order_back (counts_from 0 p.order) (canonical.object_names p) p.order c.file_order c.order) i;
-  sides = sides_back (list_any runs_down p.sides) p.dims p.sides c.low_sides i;
+  order = (ap (λ names. meaning.order_of names (one_if with_order (order_tree_of (canonical.object_names p) p.order))) (object_names_back (canonical.shape_names p) p.objects)
+      ∙ order_back with_order (canonical.object_names p) p.order c.order (λ e. c.file_order (may.file_order e))) i;
+  sides = sides_back with_sides p.dims p.sides (λ e. c.low_sides (may.low_sides e)) i;
 }

@@ -1,11 +1,12 @@
 -- A problem that a text says is consistent.
 use Rattle.std.proofs.Common.{◌≡◌, ℕ, zero, suc, ◌+◌, ◌<◌, ◌≤◌, List, [], ◌∷◌, length, map, take, Some, true, false, ◌==◌, inl, inr, refl, sym, ap, ◌∙◌, subst, arith}
 use Rattle.std.specs.Prelude.{slice_get, slice_index_or, replicate, nat_le}
-use Rattle.std.specs.List.{list_any, range_with_len, position_or_len}
+use Rattle.std.specs.List.{All, list_any, range_with_len, position_or_len}
 use Rattle.std.specs.Str.{bytes_eq}
-use Rattle.std.proofs.lemmas.Bool.{cases_Bool, eqb-true, eqb-false, leb-true, leb-false, and_parts}
+use Rattle.std.proofs.lemmas.Bool.{cases_Bool, cases_lt, eqb-true, eqb-false, leb-true, leb-false, and_parts}
 use Rattle.std.proofs.lemmas.List.{length-map, take-map, get_or-take, length-take-le}
 use Rattle.rule_syntax.specs.declared.tree.PlacedName.{PlacedName}
+use Rattle.geo_tokens.specs.Names.{AllDifferent}
 use Rattle.rule_print.proofs.Respelled.{AllOf}
 use Rattle.geo_tokens.specs.declared.fault.FaultWord.TheVariants as words
 use Rattle.problem_data.specs.declared.fault.Fault.{Fault}
@@ -14,16 +15,19 @@ use Rattle.problem_data.specs.declared.tree.Side.TheVariants.{Low, High}
 use Rattle.problem_data.specs.declared.tree.SideText.{SideText}
 use Rattle.problem_data.specs.Tree.{ObjectTree, OrderTree, SidesTree}
 use Rattle.problem_data.specs.Least.{fault}
-use Rattle.problem_data.specs.Parts.{Parts, parts_of}
+use Rattle.problem_data.specs.Parts.{Parts}
 use Rattle.problem_data.specs.Faults.{Among, Repeated, text_of, first_place, side_place, OrderFault, SidesFault, IsComplete, IsFault, objects, orders, sides, shape_names, object_name, object_names, count_of}
 use Rattle.problem_data.specs.Meaning as meaning
-use Rattle.problem_data.specs.Problem.{ProblemData, runs_down}
+use Rattle.problem_data.specs.Problem.{ObjectData, runs_down}
+use Rattle.problem_data.specs.WellFormed.{IsWellFormed}
+use Rattle.problem_data.proofs.Sound.{position_reads, position_first, texts_differ}
 use Rattle.problem_text.specs.Canonical.{name_at, counts_from}
-use Rattle.problem_text.proofs.PrintingParts.{all_as}
+use Rattle.problem_text.specs.Canonical as canonical
+use Rattle.problem_text.proofs.PrintingParts.{name_of, all_as}
 use Rattle.problem_text.proofs.ReadStatements.{mapped}
-use Rattle.problem_text.proofs.Positions.{Made, range_counts}
+use Rattle.problem_text.proofs.Positions.{Made}
 use Rattle.problem_text.proofs.CanonicalParts.{IsPosition, ArePositions, HavePositions, IsConsistent}
-use Rattle.problem_text.proofs.SaysAgain.{Says, object_shapes_made, order_made, shape_names_of, object_names_of}
+use Rattle.problem_text.proofs.SaysAgain.{object_shapes_made, order_made, shape_names_of, object_names_of}
 
 position_is : (names : List (List ℕ)) (n : PlacedName) → Made names n → IsPosition names (meaning.position_of names n)
 position_is names n m = ap (λ (b : List ℕ). position_or_len (bytes_eq b) names) m.is
@@ -35,6 +39,24 @@ positions_are names (n ∷ ns) h = (position_is names n h.0, positions_are names
 objects_are : (names : List (List ℕ)) (os : List ObjectTree) → AllOf (λ (o : ObjectTree). AllOf (Made names) o.shapes) os → HavePositions names (map (meaning.object_of names) os)
 objects_are names [] h = tt
 objects_are names (o ∷ os) h = (positions_are names o.shapes h.0, objects_are names os h.1)
+
+-- where names are different each stands at its first position
+module _ (names : List (List ℕ)) (differ : AllDifferent names) where
+  pub position_there : (i : ℕ) → i < length names → IsPosition names i
+  position_there i less =
+      let n : PlacedName = name_of (name_at names i) in
+      let k : ℕ = meaning.position_of names n in
+      let first : k ≤ i = position_first names n i [] less refl in
+      let inside : k < length names = omega (arith, first, less) in
+      let reads : name_at names k ≡ name_at names i = position_reads names n [] inside in
+      elim (cases_lt k i) [
+        | inl before ↦ absurd (differ k i [] before less reads)
+        | inr behind ↦ omega (arith, first, behind)
+      ]
+
+  pub positions_there : (is : List ℕ) → All (λ i. i < length names) is → ArePositions names is
+  positions_there [] h = tt
+  positions_there (i ∷ is) h = (position_there i (h 0 0 (omega arith)), positions_there is (λ k d l. h (suc k) d (omega (arith, l))))
 
 -- ---- numbers
 
@@ -151,10 +173,6 @@ module _ (q : Parts) (faultless : (f : Fault) → IsFault q f → ⊥) where
       let same : length names ≡ length js = equal_both (length names) (length js) least most in
       ap (λ n. range_with_len 0 n) same ∙ range
 
-  order_of_positions : (os : List OrderTree) → os ≡ q.orders → counts_from 0 (meaning.order_of names os) ≡ false → ArePositions names (meaning.order_of names os)
-  order_of_positions [] e counts = absurd (let t : counts_from 0 (range_with_len 0 (length names)) ≡ true = range_counts 0 (length names) in let z : true ≡ false = sym t ∙ counts in cc)
-  order_of_positions (o ∷ os) e counts = positions_are names o.names (order_made q faultless o os (sym e))
-
   -- ---- sides
 
   abbrev dims : ℕ
@@ -178,14 +196,14 @@ module _ (q : Parts) (faultless : (f : Fault) → IsFault q f → ⊥) where
       ] in
       ap (λ n. replicate n Low) (sym counted) ∙ all_low s.sides low
 
-  pub parts_consistent : IsConsistent (meaning.problem_of q)
-  parts_consistent =
+  pub parts_consistent : IsWellFormed (meaning.problem_of q) → IsConsistent (meaning.problem_of q)
+  parts_consistent well =
+      let objects_differ : AllDifferent (canonical.object_names (meaning.problem_of q)) = subst (λ (ns : List (List ℕ)). AllDifferent ns) (sym (object_names_of q)) (texts_differ (map object_name q.objects) (λ f w. faultless f (objects (inl (inr w))))) in
+      let size : length (canonical.object_names (meaning.problem_of q)) ≡ length (meaning.problem_of q).objects = length-map (meaning.problem_of q).objects (λ (o : ObjectData). o.name) in
+      let order_inside : All (λ j. j < length (canonical.object_names (meaning.problem_of q))) (meaning.order_of names q.orders) = subst (λ n. All (λ j. j < n) (meaning.order_of names q.orders)) (sym size) well.order in
       record {
         shapes = subst (λ (ns : List (List ℕ)). HavePositions ns (map (meaning.object_of (shape_names q.shapes)) q.objects)) (sym (shape_names_of q)) (objects_are (shape_names q.shapes) q.objects (object_shapes_made q faultless));
-        order = λ e. subst (λ (ns : List (List ℕ)). ArePositions ns (meaning.order_of names q.orders)) (sym (object_names_of q)) (order_of_positions q.orders refl e);
+        order = positions_there (canonical.object_names (meaning.problem_of q)) objects_differ (meaning.order_of names q.orders) order_inside;
         file_order = λ e. subst (λ (ns : List (List ℕ)). range_with_len 0 (length ns) ≡ meaning.order_of names q.orders) (sym (object_names_of q)) (file_order_of q.orders refl e);
         low_sides = λ e. low_sides_of q.sides refl e;
       }
-
-pub says_consistent : (text : List ℕ) (p : ProblemData) → Says text p → IsConsistent p
-says_consistent text p s = subst IsConsistent s.is (parts_consistent (parts_of s.tree) s.faultless)

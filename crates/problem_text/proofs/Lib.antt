@@ -13,8 +13,10 @@ pub mod SaysAgain
 pub mod BareParts
 pub mod CanonicalParts
 pub mod Consistent
+pub mod StatedOrder
 pub mod Said
 pub mod Listed
 pub mod SameZeros
 pub mod SameFaults
+pub mod Places
 pub mod CanonicalRight

@@ -1,5 +1,5 @@
--- Members with commas between them that are still to be spelled: from the first one on, or behind it. And one member more: what was
--- spelled, and what is left to spell, is the whole.
+-- Members with commas between them that are still to be spelled: from the first one on, or behind
+-- it. And one member more: what was spelled, and what is left to spell, is the whole.
 use Rattle.std.proofs.Common.{◌≡◌, ◌<◌, ◌≤◌, ◌+◌, ◌++◌, ◌∷◌, [], ℕ, List, Bool, true, false, drop, length, get_or, append_assoc, refl, sym, ap, ◌∙◌}
 use Rattle.std.specs.Prelude.{if◌then◌else◌, not}
 use Rattle.std.proofs.lemmas.List.{append-nil, drop_more, get_or_default}

@@ -19,7 +19,7 @@ use Rattle.problem_data.specs.Meaning as meaning
 use Rattle.problem_data.specs.Problem.{ObjectData, no_object, ProblemData}
 use Rattle.problem_text.specs.Canonical as canonical
 use Rattle.problem_data.specs.WellFormed.{IsObject, IsWellFormed}
-use Rattle.problem_data.specs.Accepted.{Accepts, AreSaid, IsSaid}
+use Rattle.problem_data.specs.Accepted.{Accepts, AreSaid, IsWhollySaid, IsSaid}
 use Rattle.problem_text.specs.NameTable.{shape_name, is_optional, absent_names, place_names, absent_positions, named_object, name_table}
 use Rattle.problem_data.proofs.NoFault.{all_mapped, within_limit}
 use Rattle.problem_data.proofs.Sound.{texts_differ}
@@ -31,7 +31,7 @@ use Rattle.problem_text.proofs.PrintingProblem.{CanWriteProblem}
 use Rattle.problem_text.proofs.SaysAgain.{says_of, says_written, shape_names_of, object_names_of}
 
 -- statements of a text without a fault say the problem that they spell
-pub said_right : (q : Parts) → AreSaid q → ((f : Fault) → IsFault q f → ⊥) → (p : ProblemData) → p ≡ problem_of q → IsSaid p
+pub said_right : (q : Parts) → AreSaid q → ((f : Fault) → IsFault q f → ⊥) → (p : ProblemData) → p ≡ problem_of q → IsWhollySaid p
 said_right q s right p e = record {
   text = s.text;
   accepts = record {
@@ -145,13 +145,13 @@ module _ (text : List ℕ) (p : ProblemData) (a : Accepts text p) where
 
 -- what holds of the shapes alone
 pub said_shape_texts : (p : ProblemData) → IsSaid p → All IsNameText (map shape_name p.shapes)
-said_shape_texts p s = named_shapes s.text p s.accepts
+said_shape_texts p s = subst (λ (u : ProblemData). All IsNameText (map shape_name u.shapes)) (sym s.is) (named_shapes s.said.text s.whole s.said.accepts)
 
 pub said_shapes_differ : (p : ProblemData) → IsSaid p → AllDifferent (map shape_name p.shapes)
-said_shapes_differ p s = shape_names_differ s.text p s.accepts
+said_shapes_differ p s = subst (λ (u : ProblemData). AllDifferent (map shape_name u.shapes)) (sym s.is) (shape_names_differ s.said.text s.whole s.said.accepts)
 
 pub said_few_shapes : (p : ProblemData) → IsSaid p → length p.shapes ≤ 256
-said_few_shapes p s = few_shapes s.text p s.accepts
+said_few_shapes p s = subst (λ (u : ProblemData). length u.shapes ≤ 256) (sym s.is) (few_shapes s.said.text s.whole s.said.accepts)
 
 pub said_table : (p : ProblemData) → IsSaid p → IsNameTable (name_table p)
-said_table p s = accepted_table s.text p s.accepts
+said_table p s = subst (λ (u : ProblemData). IsNameTable (name_table u)) (sym s.is) (accepted_table s.said.text s.whole s.said.accepts)

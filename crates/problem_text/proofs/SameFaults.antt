@@ -1,4 +1,5 @@
--- Statements that are the same but for places have the same faults, each at the place of its own item.
+-- Statements that are the same but for places have the same faults, each at the place of its own
+-- item.
 use Rattle.std.proofs.Common.{◌≡◌, ℕ, ◌≤◌, ◌-◌, ℤ, pos, ◌+ℤ◌, ◌≤ℤ◌, ◌<ℤ◌, List, length, take, map, Option, None, Some, inl, inr, refl, sym, ap, ◌∙◌, subst}
 use Rattle.std.specs.Prelude.{◌⊎◌, slice_get}
 use Rattle.std.specs.List.{Contains}
@@ -11,15 +12,15 @@ use Rattle.problem_data.specs.declared.fault.Fault.{Fault}
 use Rattle.problem_data.specs.declared.tree.Int.{Int}
 use Rattle.problem_data.specs.declared.tree.RangeText.{RangeText}
 use Rattle.problem_data.specs.declared.tree.AttributeText.{AttributeText}
-use Rattle.problem_data.specs.Tree.{BoxTree, ShapeTree, ObjectTree, OrderTree, MacroTree, DemandTree, apart, within, plain, RuleTree}
+use Rattle.problem_data.specs.Tree.{BoxTree, ShapeTree, ObjectTree, MacroTree, DemandTree, apart, within, plain, RuleTree}
 use Rattle.problem_data.specs.Least.{fault}
 use Rattle.problem_data.specs.Limits.{IsSmall, IsSize, IsFieldName, most_shapes, most_objects, most_object_shapes, most_pieces, most_attributes, most_macros, most_params, most_rules}
 use Rattle.problem_data.specs.Divisors.{body_zeros, formula_zeros}
-use Rattle.problem_data.specs.Faults.{Among, text_of, PastLimit, Repeated, NamesFault, NotMade, first_place, Miscounted, int_place, range_place, OffsetFault, SizeFault, OffsetsFault, SizesFault, UpsideDown, RangeFault, RangesFault, PastPiece, IsLast, TooNear, PieceFault, PiecesFault, pieces_place, OriginFault, PastBox, BoxFault, ShapeFault, ShapesFault, FieldFault, AttributesFault, AbsentFault, ObjectFault, ObjectsFault, SecondOrder, Incomplete, OrderFault, DivisorFault, MacroFault, MacrosFault, DemandFault, RuleFault, RulesFault, shape_name, object_name, attribute_name, macro_name, param_name, rule_name}
+use Rattle.problem_data.specs.Faults.{Among, text_of, PastLimit, Repeated, NamesFault, NotMade, first_place, Miscounted, int_place, range_place, OffsetFault, SizeFault, OffsetsFault, SizesFault, UpsideDown, RangeFault, RangesFault, PastPiece, IsLast, TooNear, PieceFault, PiecesFault, pieces_place, OriginFault, PastBox, BoxFault, ShapeFault, ShapesFault, FieldFault, AttributesFault, AbsentFault, ObjectFault, ObjectsFault, DivisorFault, MacroFault, MacrosFault, DemandFault, RuleFault, RulesFault, shape_name, object_name, attribute_name, macro_name, param_name, rule_name}
 use Rattle.problem_data.proofs.InLists.{get_back}
 use Rattle.problem_text.proofs.Consistent.{map_at}
 use Rattle.problem_text.proofs.PrintingParts.{bare_absent, bare_int, bare_range, bare_pieces, bare_box, bare_attribute, bare_param, bare_demand}
-use Rattle.problem_text.proofs.BareParts.{bare_shape, bare_object, bare_order, bare_macro_tree, bare_rule_tree, map_after, map_both}
+use Rattle.problem_text.proofs.BareParts.{bare_shape, bare_object, bare_macro_tree, bare_rule_tree, map_after, map_both}
 use Rattle.problem_text.proofs.SameZeros.{bodies_count, formulas_alike, one_there}
 
 -- where there is a fault of the first kind there is one of the second
@@ -206,27 +207,6 @@ module _ (k : ℕ) (made : List (List ℕ)) where
   objects_carried xs ys e = or_carried (NamesFault most_objects (map object_name xs)) (NamesFault most_objects (map object_name ys)) (Among (λ before. ObjectFault k made) xs) (Among (λ before. ObjectFault k made) ys)
       (names_carried most_objects (map object_name xs) (map object_name ys) (names_alike bare_object object_name (λ o. refl) xs ys e))
       (among_carried bare_object (λ before. ObjectFault k made) (λ before. ObjectFault k made) (λ before others x y t e. object_carried x y e) xs ys e)
-
--- ---- the order
-
-module _ (made : List (List ℕ)) where
-  incomplete_carried : (x y : OrderTree) → map bare_name x.names ≡ map bare_name y.names → Carries (Incomplete made x) (Incomplete made y)
-  incomplete_carried x y e f h = (
-    fault y.place words.Order,
-    ((λ c. h.0 (λ name there. subst (λ (us : List (List ℕ)). Contains us name) (sym (texts_alike x.names y.names e)) (c name there))), refl),
-  )
-
-  order_carried : (before others : List OrderTree) (x y : OrderTree) → map bare_order before ≡ map bare_order others → bare_order x ≡ bare_order y → Carries (OrderFault made before x) (OrderFault made others y)
-  order_carried before others x y t e =
-      let names : map bare_name x.names ≡ map bare_name y.names = ap (λ (o : OrderTree). o.names) e in
-      or_carried (SecondOrder before x) (SecondOrder others y) (λ f. Repeated x.names f ⊎ NotMade made x.names f ⊎ Incomplete made x f) (λ f. Repeated y.names f ⊎ NotMade made y.names f ⊎ Incomplete made y f)
-      (λ f h. (fault y.place words.Twice, (subst (λ (n : ℕ). 1 ≤ n) (length_alike bare_order before others t) h.0, refl)))
-      (or_carried (Repeated x.names) (Repeated y.names) (λ f. NotMade made x.names f ⊎ Incomplete made x f) (λ f. NotMade made y.names f ⊎ Incomplete made y f)
-      (repeated_carried x.names y.names names)
-      (or_carried (NotMade made x.names) (NotMade made y.names) (Incomplete made x) (Incomplete made y) (not_made_carried made x.names y.names names) (incomplete_carried x y names)))
-
-  pub orders_carried : (xs ys : List OrderTree) → map bare_order xs ≡ map bare_order ys → Carries (Among (OrderFault made) xs) (Among (OrderFault made) ys)
-  orders_carried = among_carried bare_order (OrderFault made) (OrderFault made) order_carried
 
 -- ---- macros and rules
 

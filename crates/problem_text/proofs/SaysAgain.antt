@@ -1,7 +1,6 @@
 -- A problem that a text says can be written.
-use Rattle.std.proofs.Common.{◌≡◌, ℕ, ◌≤◌, List, [], ◌∷◌, map, length, Some, Bool, true, false, ◌==◌, inl, inr, refl, sym, ap, ◌∙◌, subst}
+use Rattle.std.proofs.Common.{◌≡◌, ℕ, ◌≤◌, List, [], ◌∷◌, map, length, Some, Bool, ◌==◌, inl, inr, refl, sym, ap, subst}
 use Rattle.std.specs.Prelude.{is_some}
-use Rattle.std.specs.List.{range_with_len}
 use Rattle.geo_tokens.specs.declared.token.Token.{Token}
 use Rattle.geo_tokens.specs.Class.{number_in}
 use Rattle.geo_tokens.specs.Cut.{IsTokens}
@@ -14,7 +13,7 @@ use Rattle.rule_print.proofs.ReadBack.{tokens_true}
 use Rattle.problem_data.specs.declared.fault.Fault.{Fault}
 use Rattle.problem_data.specs.Tree.{ShapeTree, ObjectTree, OrderTree, MacroTree, RuleTree, StatementTree, a_shape, an_object, an_order, some_sides, a_macro, a_rule, ProblemTree}
 use Rattle.problem_data.specs.Grammar.{problem_tree, is_second, StatementWords, ProblemWords}
-use Rattle.problem_data.specs.Parts.{Parts, parts_of, as_shape, as_object, as_order, as_macro, as_rule}
+use Rattle.problem_data.specs.Parts.{Parts, parts_of, as_shape, as_object, as_macro, as_rule}
 use Rattle.problem_data.specs.Faults.{Among, ObjectFault, OrderFault, IsFault, objects, orders, shape_names, object_names, count_of}
 use Rattle.problem_data.specs.Meaning as meaning
 use Rattle.problem_data.specs.Problem.{ShapeData, ObjectData, ProblemData}
@@ -24,10 +23,10 @@ use Rattle.problem_text.proofs.PrintingParts.{all_as}
 use Rattle.problem_text.proofs.PrintingStatements.{CanWriteShape, CanWriteNames, CanWriteObject, CanWriteMacro, CanWriteRule}
 use Rattle.problem_text.proofs.PrintingProblem.{CanWriteProblem}
 use Rattle.problem_text.proofs.ReadStatements.{mapped, some_mapped, AreNames, ObjectRead, StatementRead, statement_read}
-use Rattle.problem_text.proofs.Positions.{Made, all_made, each_faultless, all_filtered, all_with, range_counts}
+use Rattle.problem_text.proofs.Positions.{Made, all_made, each_faultless, all_filtered, all_with}
 
--- The text has at most 1,048,576 bytes, is cut into tokens that are spelled by the grammar with at most 64 levels, its
--- statements have no fault, and they spell this problem.
+-- The text has at most 1,048,576 bytes, is cut into tokens that are spelled by the grammar with at
+-- most 64 levels, its statements have no fault, and they spell this problem.
 pub record Says (text : List ℕ) (p : ProblemData) : Type 0 where
   pub short : length text ≤ 1048576
   pub tokens : List Token
@@ -83,14 +82,6 @@ an_object_read second (some_sides y) x e h = absurd cc
 an_object_read second (a_macro y) x e h = absurd cc
 an_object_read second (a_rule y) x e h = absurd cc
 
-an_order_read : (second : Bool) (s : StatementTree) (x : OrderTree) → as_order s ≡ Some x → StatementRead second s → AreNames x.names
-an_order_read second (a_shape y) x e h = absurd cc
-an_order_read second (an_object y) x e h = absurd cc
-an_order_read second (an_order y) x e h = let is : y ≡ x = cc in subst (λ (u : OrderTree). AreNames u.names) is h
-an_order_read second (some_sides y) x e h = absurd cc
-an_order_read second (a_macro y) x e h = absurd cc
-an_order_read second (a_rule y) x e h = absurd cc
-
 a_macro_read : (second : Bool) (s : StatementTree) (x : MacroTree) → as_macro s ≡ Some x → StatementRead second s → CanWriteMacro (meaning.macro_of x)
 a_macro_read second (a_shape y) x e h = absurd cc
 a_macro_read second (an_object y) x e h = absurd cc
@@ -145,11 +136,6 @@ module _ (q : Parts) (faultless : (f : Fault) → IsFault q f → ⊥) where
   pub order_made : (o : OrderTree) (others : List OrderTree) → q.orders ≡ o ∷ others → AllOf (Made (object_names q.objects)) o.names
   order_made o others e = all_made (object_names q.objects) o.names (λ f a. faultless f (orders (subst (λ (us : List OrderTree). Among (OrderFault (object_names q.objects)) us f) (sym e) (record { index = 0; item = o; there = refl; wrong = inr (inr (inl a)) }))))
 
-order_written : (names : List (List ℕ)) (os : List OrderTree) → AllOf (λ (o : OrderTree). AreNames o.names) os → ((o : OrderTree) (others : List OrderTree) → os ≡ o ∷ others → AllOf (Made names) o.names)
-    → canonical.counts_from 0 (meaning.order_of names os) ≡ false → CanWriteNames names (meaning.order_of names os)
-order_written names [] h made e = absurd (let t : canonical.counts_from 0 (range_with_len 0 (length names)) ≡ true = range_counts 0 (length names) in let z : true ≡ false = sym t ∙ e in cc)
-order_written names (o ∷ os) h made e = can_write_names names o.names h.0 (made o os refl)
-
 module _ (t : ProblemTree) (read : TreeRead t) (faultless : (f : Fault) → IsFault (parts_of t) f → ⊥) where
   -- the text is of version 2
   abbrev second : Bool
@@ -170,8 +156,6 @@ module _ (t : ProblemTree) (read : TreeRead t) (faultless : (f : Fault) → IsFa
     shapes = mapped CanWriteShape meaning.shape_of (parts_of t).shapes (all_filtered as_shape (StatementRead second) (λ s. CanWriteShape (meaning.shape_of s)) (a_shape_read second) t.statements read.statements);
     objects = subst (λ (names : List (List ℕ)). AllOf (CanWriteObject second names) (map (meaning.object_of (shape_names (parts_of t).shapes)) (parts_of t).objects)) (sym (shape_names_of (parts_of t))) objects_written;
     macros = mapped CanWriteMacro meaning.macro_of (parts_of t).macros (all_filtered as_macro (StatementRead second) (λ m. CanWriteMacro (meaning.macro_of m)) (a_macro_read second) t.statements read.statements);
-    order = λ e. subst (λ (names : List (List ℕ)). CanWriteNames names (meaning.order_of (object_names (parts_of t).objects) (parts_of t).orders)) (sym (object_names_of (parts_of t)))
-        (order_written (object_names (parts_of t).objects) (parts_of t).orders (all_filtered as_order (StatementRead second) (λ o. AreNames o.names) (an_order_read second) t.statements read.statements) (order_made (parts_of t) faultless) e);
     rules = mapped CanWriteRule meaning.rule_of (parts_of t).rules (all_filtered as_rule (StatementRead second) (λ r. CanWriteRule (meaning.rule_of r)) (a_rule_read second) t.statements read.statements);
   }
 

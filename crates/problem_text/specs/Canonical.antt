@@ -1,5 +1,6 @@
--- The canonical text of a problem: its statements by kind, in file order, each on a line of its own.
-use Rattle.std.specs.Prelude.{ℕ, suc, ℤ, pos, negsuc, List, [], ◌∷◌, ◌++◌, map, flat_map, slice_index_or, Bool, true, false, not, ◌==◌, ◌&&◌, if◌then◌else◌}
+-- The canonical text of a problem: its statements by kind, in file order, each on a line of its
+-- own.
+use Rattle.std.specs.Prelude.{◌≡◌, ◌<◌, ℕ, suc, ℤ, pos, negsuc, List, [], ◌∷◌, ◌++◌, length, map, flat_map, slice_index_or, Bool, true, false, not, ◌==◌, ◌&&◌, if◌then◌else◌}
 use Rattle.std.specs.List.{list_any}
 use Rattle.geo_tokens.specs.declared.token.Keyword.{Keyword}
 use Rattle.geo_tokens.specs.declared.token.Keyword.TheVariants as keywords
@@ -142,10 +143,36 @@ line_if needed ps = if needed then line_text ps else []
 abbrev pub head_spelling : ProblemData → List Written
 head_spelling p = word keywords.Geost ∷ number p.version ∷ word keywords.Dims ∷ number p.dims ∷ []
 
--- The first line, the shapes, the objects and the macros; the search order where it is not file order, and the sides where
--- one is high; the rules, and the word `end`.
+-- The text that states the search order or not, and the sides or not: the first line, the shapes,
+-- the objects and the macros; the order and the sides where they are stated; the rules, and the
+-- word `end`.
+abbrev pub text_stating : (order sides : Bool) → ProblemData → List ℕ
+text_stating order sides p =
+    line_text (head_spelling p) ++ (flat_map (λ s. line_text (shape_spelling s)) p.shapes
+    ++ (flat_map (λ o. line_text (object_spelling (shape_names p) o)) p.objects
+    ++ (flat_map (λ m. line_text (macro_spelling m)) p.macros
+    ++ (line_if order (order_spelling (object_names p) p.order)
+    ++ (line_if sides (sides_spelling p.sides)
+    ++ (flat_map (λ r. line_text (rule_spelling r)) p.rules
+    ++ line_text (word keywords.End ∷ [])))))))
+
+-- the search order is not file order
+abbrev pub needs_order : ProblemData → Bool
+needs_order p = not (counts_from 0 p.order)
+
+-- a side is high
+abbrev pub needs_sides : ProblemData → Bool
+needs_sides p = list_any runs_down p.sides
+
+-- the canonical text: it states the order where that is not file order, and the sides where one is
+-- high
 abbrev pub problem_text : ProblemData → List ℕ
-problem_text p =
-    line_text (head_spelling p) ++ (flat_map (λ s. line_text (shape_spelling s)) p.shapes ++ (flat_map (λ o. line_text (object_spelling (shape_names p) o)) p.objects
-    ++ (flat_map (λ m. line_text (macro_spelling m)) p.macros ++ (line_if (not (counts_from 0 p.order)) (order_spelling (object_names p) p.order)
-    ++ (line_if (list_any runs_down p.sides) (sides_spelling p.sides) ++ (flat_map (λ r. line_text (rule_spelling r)) p.rules ++ line_text (word keywords.End ∷ [])))))))
+problem_text p = text_stating (needs_order p) (needs_sides p) p
+
+-- The text that states the order or not, and the sides or not, can be read as the problem: an order
+-- that is stated has an object, one that is left out is file order, and sides that are left out are
+-- all low.
+pub record MayState (order sides : Bool) (p : ProblemData) : Type 0 where
+  pub some : order ≡ true → 0 < length p.order
+  pub file_order : order ≡ false → counts_from 0 p.order ≡ true
+  pub low_sides : sides ≡ false → list_any runs_down p.sides ≡ false

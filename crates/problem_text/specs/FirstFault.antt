@@ -1,4 +1,5 @@
--- What the first fault of a text is that is not accepted. A text is looked at in four phases, its length, its tokens, its grammar and its statements; the first phase with a fault decides.
+-- What the first fault of a text is that is not accepted. A text is looked at in four phases, its
+-- length, its tokens, its grammar and its statements; the first phase with a fault decides.
 use Rattle.std.specs.Prelude.{◌≡◌, ℕ, ◌<◌, ◌≤◌, List, length, Result, Ok, Err}
 use Rattle.geo_tokens.specs.declared.token.Token.{Token}
 use Rattle.geo_tokens.specs.declared.fault.FaultWord.{FaultWord}
@@ -31,7 +32,8 @@ AnswersProblem (Ok p) text = Accepts text p
 AnswersProblem (Err (faults.At place word)) text = HasFirstFault text place word
 AnswersProblem (Err faults.Memory) text = Unit {0}
 
--- a call's answer to statements: the problem that they spell, or their first fault, unless memory ran out
+-- a call's answer to statements: the problem that they spell, or their first fault, unless memory
+-- ran out
 abbrev pub AnswersParts : Result Problem TextFault → Parts → Type 0
 AnswersParts (Ok p) parts = ((f : Fault) → IsFault parts f → ⊥) × (p ≡ problem_of parts)
 AnswersParts (Err (faults.At place word)) parts = IsFirst (IsFault parts) (fault place word)

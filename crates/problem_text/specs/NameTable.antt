@@ -1,5 +1,5 @@
--- The names of a problem. Where some object may be absent the word `absent` stands behind the names of the shapes, for the
--- place at which it is.
+-- The names of a problem. Where some object may be absent the word `absent` stands behind the names
+-- of the shapes, for the place at which it is.
 use Rattle.std.specs.Prelude.{ℕ, List, [], ◌∷◌, ◌++◌, map, length, Bool, true, false}
 use Rattle.std.specs.List.{list_any}
 use Rattle.geo_tokens.specs.declared.token.Keyword.TheVariants as keywords

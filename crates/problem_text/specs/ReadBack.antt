@@ -1,5 +1,5 @@
 -- That a canonical text says the same problem, places aside.
-use Rattle.std.specs.Prelude.{◌≡◌, List, map}
+use Rattle.std.specs.Prelude.{◌≡◌, ◌<◌, ℕ, List, map, All, AllPairs}
 use Rattle.geo_tokens.specs.declared.token.Token.{Token}
 use Rattle.geo_tokens.specs.Cut.{IsTokens}
 use Rattle.rule_print.specs.Spelled.{bare_expr, bare_formula}
@@ -34,18 +34,37 @@ bare_rule r = record { place = 0; name = r.name; demand = bare_demand r.demand }
 abbrev pub bare_problem : ProblemData → ProblemData
 bare_problem p = record p { macros = map bare_macro p.macros; rules = map bare_rule p.rules }
 
--- The canonical text is cut into tokens that spell statements by the grammar, with at most 64 levels. They have no fault, and they
--- mean the same problem, places aside.
-pub record IsSpelled (p : ProblemData) : Type 0 where
+-- The text is cut into tokens that spell statements by the grammar, with at most 64 levels. They
+-- have no fault, and they mean the problem, places aside.
+pub record SpellsProblem (text : List ℕ) (p : ProblemData) : Type 0 where
   pub tokens : List Token
   pub tree : ProblemTree
-  pub cut : IsTokens (problem_text p) tokens
-  pub spells : IsWhole (ProblemWords (problem_text p)) 64 tokens tree
+  pub cut : IsTokens text tokens
+  pub spells : IsWhole (ProblemWords text) 64 tokens tree
   pub right : (f : Fault) → IsFault (parts_of tree) f → ⊥
   pub same : bare_problem (problem_of (parts_of tree)) ≡ bare_problem p
 
--- The canonical text says the same problem, places aside.
-pub record ReadsBack (p : ProblemData) : Type 0 where
+-- The text is accepted, as a problem that is p, places aside.
+pub record IsReadAs (text : List ℕ) (p : ProblemData) : Type 0 where
   pub again : ProblemData
-  pub accepts : Accepts (problem_text p) again
+  pub accepts : Accepts text again
   pub same : bare_problem again ≡ bare_problem p
+
+-- The canonical text spells the problem.
+abbrev pub IsSpelled : ProblemData → Type 0
+IsSpelled p = SpellsProblem (problem_text p) p
+
+-- The canonical text says the same problem, places aside.
+abbrev pub ReadsBack : ProblemData → Type 0
+ReadsBack p = IsReadAs (problem_text p) p
+
+-- ---- places
+
+-- each macro has its place behind those of the macros before it
+abbrev pub MacrosRise : ProblemData → Type 0
+MacrosRise p = AllPairs (λ (m n : MacroData). m.place < n.place) p.macros
+
+-- Macros have their places one behind the other, and rules behind all macros.
+pub record IsInOrder (p : ProblemData) : Type 0 where
+  pub macros : MacrosRise p
+  pub rules : All (λ (r : RuleData). All (λ (m : MacroData). m.place < r.place) p.macros) p.rules

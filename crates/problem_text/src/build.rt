@@ -24,6 +24,7 @@ use problem_data::tree::{Int, ObjectText, OrderText, ShapeText};
 use statement_faults::first::count_of;
 use statement_faults::names::met_names;
 use std::alloc::{AllocError, Global};
+use std::rc::Rc;
 
 /// The search order, where the names of the objects differ.
 fn order_among(
@@ -57,6 +58,13 @@ fn objects_among(
     build_objects(alloc, &names, objects)
 }
 
+/// A list that problems share.
+fn shared<T: Drop>(alloc: Global, list: Vec<T>) -> Result<Rc<Vec<T>>, AllocError>
+    ensures { IfOk result (λ r. r.value ≡ list) }
+{
+    Ok(Rc::new(alloc, list)?)
+}
+
 /// The version that is stated, where it is small.
 fn version_of(version: Int) -> u8
     requires { count_of version.value < 256 }
@@ -84,9 +92,9 @@ pub fn build(alloc: Global, said: Parts) -> Result<Problem, AllocError>
     let version = version_of(version);
     let k = count_of(dims);
     let order = order_among(alloc, objects.as_slice(), orders.as_slice())?;
-    let objects = objects_among(alloc, shapes.as_slice(), objects)?;
-    let shapes = build_shapes(alloc, shapes)?;
-    let macros = build_macros(alloc, macros)?;
+    let objects = shared(alloc, objects_among(alloc, shapes.as_slice(), objects)?)?;
+    let shapes = shared(alloc, build_shapes(alloc, shapes)?)?;
+    let macros = shared(alloc, build_macros(alloc, macros)?)?;
     let rules = build_rules(alloc, rules)?;
     let sides = build_sides(alloc, k, sides.as_slice())?;
     Ok(Problem::new(version, k, shapes, objects, macros, rules, order, sides))

@@ -80,8 +80,9 @@ fn add_objects(
     Ok(())
 }
 
-/// The number of dimensions of a problem, the names of its shapes, and the names of its objects with the positions of their
-/// shapes, each list in file order; where some object may be absent, with the word `absent` behind the shapes.
+/// The number of dimensions of a problem, the names of its shapes, and the names of its objects
+/// with the positions of their shapes, each list in file order; where some object may be absent,
+/// with the word `absent` behind the shapes.
 pub fn names(alloc: Global, problem: &Problem) -> Result<Names, AllocError>
     ensures { IfOk result (λ n. n ≡ name_table problem.now) }
 {

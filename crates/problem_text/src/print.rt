@@ -20,9 +20,10 @@ use problem_data::problem::Problem;
 use std::alloc::Global;
 use text::canonical_text;
 
-/// Writes the canonical text of a problem. After a fault a front part of it was written, and nothing where memory ran out and
-/// the sink itself needs none. The canonical text spells statements without a fault that mean the same problem, places aside. So
-/// where it has at most 1,048,576 bytes it is read back as that problem.
+/// Writes the canonical text of a problem. After a fault a front part of it was written, and
+/// nothing where memory ran out and the sink itself needs none. The canonical text spells
+/// statements without a fault that mean the same problem, places aside. So where it has at most
+/// 1,048,576 bytes it is read back as that problem.
 pub fn print_problem<W: Sink>(
     alloc: Global,
     problem: &Problem,

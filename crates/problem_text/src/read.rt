@@ -21,8 +21,9 @@ use std::alloc::Global;
 /// How many bytes a text may have.
 pub const MOST_BYTES: usize = 1_048_576;
 
-/// The problem that a text spells, or its first fault: `long` at 1,048,576 where the text has more bytes; else its first
-/// token fault; else the first fault of its grammar; else the first fault of its statements.
+/// The problem that a text spells, or its first fault: `long` at 1,048,576 where the text has more
+/// bytes; else its first token fault; else the first fault of its grammar; else the first fault of
+/// its statements.
 pub fn read_problem(alloc: Global, text: &[u8]) -> Result<Problem, TextFault>
     ensures answer { AnswersProblem result text.now }
     ensures only { IsOnlyProblem result text.now }

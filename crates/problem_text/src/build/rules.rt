@@ -70,7 +70,7 @@ fn build_rule(alloc: Global, rule: RuleText) -> Result<RuleDef, AllocError>
     let RuleText { name, body } = rule;
     let demand = build_demand(alloc, body)?;
     let PlacedName { place, name } = name;
-    Ok(RuleDef::new(place, name, demand))
+    RuleDef::new(alloc, place, name, demand)
 }
 
 /// The rules.

@@ -1,4 +1,4 @@
-use Rattle.std.proofs.Common.{◌≡◌, ◌≤◌, ℕ, List, map, length, inl, inr, sym, ◌∙◌, subst, arith}
+use Rattle.std.proofs.Common.{◌≡◌, ◌≤◌, ℕ, List, Vec, Global, map, length, inl, inr, sym, ap, ◌∙◌, subst, arith}
 use Rattle.std.proofs.lemmas.List.{length-map}
 use Rattle.rule_syntax.specs.declared.tree.PlacedName.{PlacedName}
 use Rattle.problem_data.specs.declared.tree.ShapeText.{ShapeText}
@@ -61,11 +61,17 @@ module _ (said : PartsText) (v k : ℕ) (objects_in : List ObjectText) (shapes_i
       → record { version = v; dims = k; shapes = shapes; objects = objects; macros = macros; rules = rules; order = order; sides = sides } ≡ problem_of (parts_view said)
   built in_shapes in_macros in_rules = λ i. record { version = is_version i; dims = is_k i; shapes = in_shapes i; objects = in_objects i; macros = in_macros i; rules = in_rules i; order = in_order i; sides = in_sides i }
 
+-- what is shared is what was built
+of_shared : {X : Type 0} (v : Vec X Global) (w : Vec X Global) (xs : List X) → v ≡ w → w.items ≡ xs → v.items ≡ xs
+of_shared v w xs e h = ap (λ u. u.items) e ∙ h
+
 pub new-requires : goal.new-requires
 new-requires c = said_right (parts_view c.args.said) c.requires.said c.requires.right _
-    (built c.args.said c.version_of-version.result c.count_of-k.result c.as_slice.result.now c.as_slice-3.result.now c.as_slice-2.result.now c.as_slice-4.result.now c.in_ok-shapes.shapes.items c.in_ok-objects.objects.items c.in_ok-macros.macros.items c.in_ok-rules.rules.items c.in_ok-order.order.items c.in_ok-sides.sides.items
-    c.version_of-version.ensures c.count_of-k.ensures c.as_slice.ensures.value c.as_slice-3.ensures.value c.as_slice-2.ensures.value c.as_slice-4.ensures.value c.in_ok-order.ensures c.in_ok-objects.ensures c.in_ok-sides.ensures c.in_ok-shapes.ensures c.in_ok-macros.ensures c.in_ok-rules.ensures)
+    (built c.args.said c.version_of-version.result c.count_of-k.result c.as_slice.result.now c.as_slice-3.result.now c.as_slice-2.result.now c.as_slice-4.result.now c.in_ok-shapes.shapes.value.items c.in_ok-objects.objects.value.items c.in_ok-macros.macros.value.items c.in_ok-rules.rules.items c.in_ok-order.order.items c.in_ok-sides.sides.items
+    c.version_of-version.ensures c.count_of-k.ensures c.as_slice.ensures.value c.as_slice-3.ensures.value c.as_slice-2.ensures.value c.as_slice-4.ensures.value c.in_ok-order.ensures
+    (of_shared _ _ _ c.in_ok-objects.ensures c.in_ok-objects_among.ensures) c.in_ok-sides.ensures (of_shared _ _ _ c.in_ok-shapes.ensures c.in_ok-build_shapes.ensures) (of_shared _ _ _ c.in_ok-macros.ensures c.in_ok-build_macros.ensures) c.in_ok-rules.ensures)
 
 pub returns : goal.returns
-returns c = c.new.ensures ∙ built c.args.said c.version_of-version.result c.count_of-k.result c.as_slice.result.now c.as_slice-3.result.now c.as_slice-2.result.now c.as_slice-4.result.now c.in_ok-shapes.shapes.items c.in_ok-objects.objects.items c.in_ok-macros.macros.items c.in_ok-rules.rules.items c.in_ok-order.order.items c.in_ok-sides.sides.items
-    c.version_of-version.ensures c.count_of-k.ensures c.as_slice.ensures.value c.as_slice-3.ensures.value c.as_slice-2.ensures.value c.as_slice-4.ensures.value c.in_ok-order.ensures c.in_ok-objects.ensures c.in_ok-sides.ensures c.in_ok-shapes.ensures c.in_ok-macros.ensures c.in_ok-rules.ensures
+returns c = c.new.ensures ∙ built c.args.said c.version_of-version.result c.count_of-k.result c.as_slice.result.now c.as_slice-3.result.now c.as_slice-2.result.now c.as_slice-4.result.now c.in_ok-shapes.shapes.value.items c.in_ok-objects.objects.value.items c.in_ok-macros.macros.value.items c.in_ok-rules.rules.items c.in_ok-order.order.items c.in_ok-sides.sides.items
+    c.version_of-version.ensures c.count_of-k.ensures c.as_slice.ensures.value c.as_slice-3.ensures.value c.as_slice-2.ensures.value c.as_slice-4.ensures.value c.in_ok-order.ensures
+    (of_shared _ _ _ c.in_ok-objects.ensures c.in_ok-objects_among.ensures) c.in_ok-sides.ensures (of_shared _ _ _ c.in_ok-shapes.ensures c.in_ok-build_shapes.ensures) (of_shared _ _ _ c.in_ok-macros.ensures c.in_ok-build_macros.ensures) c.in_ok-rules.ensures
