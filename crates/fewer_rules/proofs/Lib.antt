@@ -1,0 +1,9 @@
+pub mod Truth
+pub mod Expanded
+pub mod Names
+pub mod Forms
+pub mod Fewer
+pub mod Parts
+pub mod Rules
+pub mod Layouts
+pub mod NoFault
