@@ -1,0 +1,9 @@
+pub mod Bare
+pub mod Expanded
+pub mod Forms
+pub mod Ground
+pub mod Rules
+pub mod Names
+pub mod Sight
+pub mod Order
+pub mod Again
