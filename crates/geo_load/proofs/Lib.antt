@@ -1,0 +1,9 @@
+pub mod Members
+pub mod Laws
+pub mod Alike
+pub mod OneLoading
+pub mod Crossing
+pub mod Walls
+pub mod Rows
+pub mod Presence
+pub mod Loaded
