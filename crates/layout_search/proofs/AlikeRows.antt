@@ -1,4 +1,5 @@
--- Lists of conditions that stand for the same trees refute the same, so they make the same nodes of a derivation valid.
+-- Lists of conditions that stand for the same trees refute the same, so they make the same nodes of
+-- a derivation valid.
 use Rattle.std.proofs.Common.{◌≡◌, ℕ, zero, suc, ◌+◌, Bool, false, not, ◌&&◌, ◌||◌, List, [], ◌∷◌, ◌++◌, map, refl, sym, ap, ◌∙◌, Option, Some, None}
 use Rattle.std.specs.Prelude.{slice_get, true}
 use Rattle.geo_conditions.specs.declared.cond.Cond.{Cond}

@@ -15,7 +15,8 @@ set-twice [] i a b = refl
 set-twice (x ∷ l) zero a b = refl
 set-twice (x ∷ l) (suc i) a b = ap (λ u. x ∷ u) (set-twice l i a b)
 
--- while the object o is put, the layout is the old one but for its spot, of which the place and the first d coordinates are those of each tuple of a kind
+-- while the object o is put, the layout is the old one but for its spot, of which the place and the
+-- first d coordinates are those of each tuple of a kind
 pub record IsPut (Is : Tuple → Type 0) (k : ℕ) (o : ℕ) (old now : Tuple) (d : ℕ) : Type 0 where
   pub place : ℕ
   pub origin : List ℤ

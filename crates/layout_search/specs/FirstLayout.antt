@@ -52,7 +52,8 @@ pub record IsFirstSolution (p : ProblemData) (cs : List Cond) (t : Tuple) : Type
 abbrev pub HasNoSolution : ProblemData → List Cond → Type 0
 HasNoSolution p cs = (t : Tuple) → IsWideTuple p t → AllHold cs t → ⊥
 
--- the listing of one layout among the first n members of the walk: its full member, and the word that ends it
+-- the listing of one layout among the first n members of the walk: its full member, and the word
+-- that ends it
 abbrev pub Lists : {R : Type 0} → ProblemData → List Cond → ℕ → Outcome R → Type 0
 Lists p cs n (Found t) = IsListing (walk_of p cs) 1 n (values (variables_for p) t ∷ []) More
 Lists p cs n (Nothing r) = IsListing (walk_of p cs) 1 n [] End
@@ -82,8 +83,8 @@ with_record (Found t) r = Found t
 with_record (Nothing _) r = Nothing r
 with_record OutOfBudget r = OutOfBudget
 
--- where nothing is found, the events that the recorder kept are a derivation, which is valid on the first state; and there are at most as
--- many conditions as the numbers of a derivation can name
+-- where nothing is found, the events that the recorder kept are a derivation, which is valid on the
+-- first state; and there are at most as many conditions as the numbers of a derivation can name
 abbrev pub Derives : {R : Type 0} → ProblemData → List Cond → (R → List Event) → Outcome R → Type 0
 Derives p cs list (Found t) = Unit {0}
 Derives p cs list (Nothing r) = IsDerivation cs (first_state p) (list r) × (length cs ≤ 10 ^ 9)

@@ -13,7 +13,8 @@ use Rattle.rule_ground.specs.Order.{variables_for, ComesBefore}
 abbrev pub FullMembersAreLayouts : ProblemData → List Cond → Type 0
 FullMembersAreLayouts p cs = (q : List ℤ) → (IsIn (walk_of p cs) q × (is_full (walk_of p cs) q ≡ true)) ↔ ((t : Tuple) × IsLayout p t × (values (variables_for p) t ≡ q))
 
--- what a listing after a tuple holds are the values of layouts; they stand in the stated order, and come after that tuple
+-- what a listing after a tuple holds are the values of layouts; they stand in the stated order, and
+-- come after that tuple
 abbrev pub ListsLayouts : ProblemData → List Cond → Type 0
 ListsLayouts p cs = (after : Option Tuple) (most n : ℕ) (found : List (List ℤ)) (word : EndWord) → IsListing (walk_after p cs after) most n found word
     → (ts : List Tuple) × (map (values (variables_for p)) ts ≡ found) × All (IsLayout p) ts × AllPairs (ComesBefore p) ts × IfSome after (λ t. All (ComesBefore p t) ts)

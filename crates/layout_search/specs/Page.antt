@@ -42,8 +42,9 @@ WrotePage p W most n old new e = (ts : List Tuple) × IsPage p W most n ts (word
 abbrev pub WrotePagesFront : ProblemData → Tree → ℕ → ℕ → Option (List ℕ) → Option (List ℕ) → Type 0
 WrotePagesFront p W most n old new = (ts : List Tuple) × (word : EndWord) × IsPage p W most n ts word × AppendsFront old new (blocks_of p ts)
 
--- Ok: the blocks of the listing were written, whole, and it ends so. Else a front part of them was, and Failed exactly where the count of
--- faults rose. Over a quiet sink memory is wanted only before the first block
+-- Ok: the blocks of the listing were written, whole, and it ends so. Else a front part of them was,
+-- and Failed exactly where the count of faults rose. Over a quiet sink memory is wanted only before
+-- the first block
 pub record WritesPage (p : ProblemData) (W : Tree) (most n : ℕ) (written_old written_new : Option (List ℕ)) (faults_old faults_new : ℕ) (quiet_old quiet_new : Bool) (result : Result Ending PutFault) : Type 0 where
   pub bytes : MatchResult result (WrotePage p W most n written_old written_new) (λ _. WrotePagesFront p W most n written_old written_new)
   pub cause : PutCause faults_old faults_new result

@@ -1,7 +1,7 @@
 //! Calls by the number of dimensions.
 
-/// A call for as many dimensions as there are: of each number of dimensions there is a copy of the function, whose first argument
-/// among its types that number is.
+/// A call for as many dimensions as there are: of each number of dimensions there is a copy of the
+/// function, whose first argument among its types that number is.
 #[macro_export]
 macro_rules! in_dimensions {
     ($dims:expr, $call:ident::<$($more:ty),*>($($argument:expr),*)) => {

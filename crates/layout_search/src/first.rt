@@ -28,7 +28,8 @@ const RECORDED_EVENTS: usize = 8_000_000;
 pub enum Outcome<R: Recorder> {
     /// This is the first layout.
     Found(Layout),
-    /// There is no layout. What the recorder kept is one derivation, which is valid on the first state.
+    /// There is no layout. What the recorder kept is one derivation, which is valid on the first
+    /// state.
     Nothing(R),
     /// The walk goes on past the budget, and no layout was met before.
     OutOfBudget,
@@ -54,16 +55,18 @@ pub struct Searched<R: Recorder> {
     pub conditions: Vec<Cond>,
 }
 
-// What a search with a record found, where that had room for all events, and the conditions that the search was given.
+// What a search with a record found, where that had room for all events, and the conditions that
+// the search was given.
 #[derive(Drop)]
 struct Tried {
     outcome: Option<Outcome<Log>>,
     conditions: Vec<Cond>,
 }
 
-/// The first layout of the problem in its search order, where these are its conditions: the first full member of the walk
-/// among its first `budget` members. A member is a prefix of values with which the conditions still leave a supported state.
-/// Where there is none, the search's record shows it. The conditions are given back.
+/// The first layout of the problem in its search order, where these are its conditions: the first
+/// full member of the walk among its first `budget` members. A member is a prefix of values with
+/// which the conditions still leave a supported state. Where there is none, the search's record
+/// shows it. The conditions are given back.
 pub fn search_first(
     alloc: Global,
     problem: &Problem,
@@ -149,8 +152,8 @@ fn unrecorded_in<const K: usize>(
 /// there is none, the search's record shows it. K is the number of dimensions. The conditions are
 /// given back.
 ///
-/// A search of few members and events is made once. A longer one is made again without a record, whose size nothing bounds, and
-/// only where it ends without a solution once more with one.
+/// A search of few members and events is made once. A longer one is made again without a record,
+/// whose size nothing bounds, and only where it ends without a solution once more with one.
 pub fn first_solution<const K: usize>(
     alloc: Global,
     problem: &Problem,

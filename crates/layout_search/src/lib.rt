@@ -1,5 +1,5 @@
-//! Searches for layouts of a problem over its conditions, within a budget: the first layout, and a listing that is written while
-//! its layouts are found.
+//! Searches for layouts of a problem over its conditions, within a budget: the first layout, and a
+//! listing that is written while its layouts are found.
 #![tactic(auto)]
 
 mod bounded;

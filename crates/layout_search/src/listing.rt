@@ -31,10 +31,11 @@ pub enum Ending {
     OutOfBudget,
 }
 
-/// Writes the blocks of the first `most` layouts of the problem, where these are its conditions, among the first `budget`
-/// members of its walk, behind the tuple `after` where one is given; each block as soon as it is found. Says how the listing
-/// ends. After a fault a front part of the listing was written. All memory is taken before the first block: where the sink wants
-/// none, memory is wanted only where nothing was written.
+/// Writes the blocks of the first `most` layouts of the problem, where these are its conditions,
+/// among the first `budget` members of its walk, behind the tuple `after` where one is given; each
+/// block as soon as it is found. Says how the listing ends. After a fault a front part of the
+/// listing was written. All memory is taken before the first block: where the sink wants none,
+/// memory is wanted only where nothing was written.
 pub fn write_listing<W: Sink>(
     alloc: Global,
     problem: &Problem,
@@ -86,8 +87,8 @@ fn write_in<const K: usize, W: Sink>(
     write_layouts(problem, &mut search, &mut layout, most, sink)
 }
 
-// Writes the blocks of the next `most` layouts of a search that has not set off. It takes no memory: each layout is put into
-// the one that is handed in.
+// Writes the blocks of the next `most` layouts of a search that has not set off. It takes no
+// memory: each layout is put into the one that is handed in.
 fn write_layouts<const K: usize, W: Sink>(
     problem: &Problem,
     search: &mut Search<K, Fixpoint<K>, NoRecord>,

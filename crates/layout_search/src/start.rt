@@ -89,7 +89,8 @@ fn propagator_of<const K: usize>(
     Fixpoint::start(alloc, list, objects)
 }
 
-/// A layout with room for those of the problem: each object at its first place, with the origin at zero.
+/// A layout with room for those of the problem: each object at its first place, with the origin at
+/// zero.
 pub fn room_for_layout(alloc: Global, problem: &Problem) -> Result<Layout, AllocError>
     ensures { IfOk result (IsShaped problem.now) }
 {

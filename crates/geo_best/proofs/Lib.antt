@@ -1,0 +1,3 @@
+pub mod EndsKept
+pub mod Steps
+pub mod OneWay
