@@ -1,0 +1,5 @@
+pub mod LeftOut
+pub mod Tuples
+pub mod Refusing
+pub mod OneWay
+pub mod Ended
