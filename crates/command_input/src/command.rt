@@ -30,6 +30,23 @@ pub enum Command<'a> {
     All(PageRequest<'a>),
     /// What the search for the first layout, within this number of members, finds of the problem that is made from a seed.
     Make(u32, u64),
+    /// The layout that ends first in this dimension, counted from 1, each round of the search within
+    /// this number of members.
+    Best(u8, u64),
+    /// Whether a derivation shows that no layout ends below this number in this dimension, counted
+    /// from 1.
+    CheckBest(u8, i64),
+    /// In which sequence the objects of a layout go in along this dimension, counted from 1.
+    Load(u8),
+    /// Which rules refuse together, each round of the search within this number of members.
+    Why(u64),
+    /// The problem as JSON.
+    ToJson,
+    /// The problem that a JSON text spells, in its canonical spelling.
+    FromJson,
+    /// The first layout of the problem that a JSON text spells, as JSON, within this number of
+    /// members.
+    FirstJson(u64),
 }
 
 /// The words have none of the forms.
@@ -48,6 +65,7 @@ pub enum Status {
     ReadFault,
     WriteFault,
     Memory,
+    BadDimension,
 }
 
 impl Status {
@@ -65,6 +83,7 @@ impl Status {
             Status::ReadFault => 6,
             Status::WriteFault => 7,
             Status::Memory => 8,
+            Status::BadDimension => 9,
         }
     }
 }

@@ -4,3 +4,4 @@ mod Giving
 pub mod Lifting
 pub mod OneRefusal
 pub mod Ending
+pub mod InDimension

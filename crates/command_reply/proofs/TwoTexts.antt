@@ -9,7 +9,6 @@ use Rattle.geo_tokens.specs.declared.fault.FaultWord.{FaultWord}
 use Rattle.geo_tokens.specs.declared.fault.FaultWord.TheVariants as words
 use Rattle.geo_tokens.specs.FirstEnd.{HasNoEnd, IsFirstEnd}
 use Rattle.geo_tokens.proofs.Ends.{only_end}
-use Rattle.geo_base.specs.Tuple.{Tuple}
 use Rattle.problem_data.specs.Problem.{ProblemData}
 use Rattle.problem_data.specs.Accepted.{Accepts}
 use Rattle.problem_text.specs.FirstFault.{HasFirstFault, long, no_token, no_statements, in_statements}
@@ -45,6 +44,13 @@ long-layout p text more place word l (layouts.long h at is) = layouts.long (omeg
 long-layout p text more place word l (layouts.no_token s f) = absurd (omega (arith, l, s))
 long-layout p text more place word l (layouts.no_lines s list t f) = absurd (omega (arith, l, s))
 long-layout p text more place word l (layouts.in_lines t says f) = absurd (let s : length text ≤ 1048576 = says.short in omega (arith, l, s))
+
+-- what a second text that is too long is refused for, it is refused for with more behind it
+abbrev pub StaysRefused : (ProblemData → List ℕ → ℕ → ℕ → FaultWord → Type 0) → Type 0
+StaysRefused Second = (p : ProblemData) (text more : List ℕ) (from place : ℕ) (word : FaultWord) → 1048576 < length text → Second p text from place word → Second p (text ++ more) from place word
+
+pub stays-layout : StaysRefused layouts.HasFaultFrom
+stays-layout p text more from place word l f = record { within = f.within; first = long-layout p text more f.within word l f.first; at = f.at }
 
 -- ---- one way to cut an input in two
 
@@ -127,13 +133,13 @@ module _ (input bytes : List ℕ) (h : AreFirstTexts input bytes) where
       | inr y ↦ absurd (let e = ap length (t.both ∙ ap (λ (z : List ℕ). first ++ z) y.1 ∙ append-nil first) in omega (arith, s, l, e))
     ]
 
-    refused-cut : (place : ℕ) (word : FaultWord) → IsRefusedPair layouts.HasFaultFrom bytes place word → IsRefusedPair layouts.HasFaultFrom input place word
-    refused-cut place word (endless e a w) = endless (endless-in input bytes h.rest h.front l e.none) a w
-    refused-cut place word (in_first first second t f) = refused-first input bytes h.rest h.front layouts.HasFaultFrom first second place word l t f
-    refused-cut place word (in_second first second t p a f) =
+    refused-cut : (Second : ProblemData → List ℕ → ℕ → ℕ → FaultWord → Type 0) → StaysRefused Second → (place : ℕ) (word : FaultWord) → IsRefusedPair Second bytes place word → IsRefusedPair Second input place word
+    refused-cut Second stays place word (endless e a w) = endless (endless-in input bytes h.rest h.front l e.none) a w
+    refused-cut Second stays place word (in_first first second t f) = refused-first input bytes h.rest h.front Second first second place word l t f
+    refused-cut Second stays place word (in_second first second t p a f) =
         let s = spelled-short first p a.spells in
         in_second first (second ++ h.rest) (texts-on input bytes h.rest h.front first second t (omega (arith, s, l))) p a
-        (record { within = f.within; first = long-layout p second h.rest f.within word (long-second first second t s) f.first; at = f.at })
+        (stays p second h.rest (length first) place word (long-second first second t s) f)
 
     given-cut : (g : Given) → IsGiven bytes g → ⊥
     given-cut g h =
@@ -141,16 +147,16 @@ module _ (input bytes : List ℕ) (h : AreFirstTexts input bytes) where
         let n : length h.second ≤ 1048576 = h.spells.says.short in
         omega (arith, m, n)
 
-  same-input : h.rest ≡ [] → bytes ≡ input
+  pub same-input : h.rest ≡ [] → bytes ≡ input
   same-input none = sym (h.front ∙ ap (λ (z : List ℕ). bytes ++ z) none ∙ append-nil bytes)
 
-  lift-refused : (place : ℕ) (word : FaultWord) → IsRefusedPair layouts.HasFaultFrom bytes place word → IsRefusedPair layouts.HasFaultFrom input place word
-  lift-refused place word r = elim h.whole [
-    | inl none ↦ subst (λ (u : List ℕ). IsRefusedPair layouts.HasFaultFrom u place word) (same-input none) r
-    | inr cut ↦ refused-cut cut.0 cut.1 place word r
+  pub lift-refused : (Second : ProblemData → List ℕ → ℕ → ℕ → FaultWord → Type 0) → StaysRefused Second → (place : ℕ) (word : FaultWord) → IsRefusedPair Second bytes place word → IsRefusedPair Second input place word
+  lift-refused Second stays place word r = elim h.whole [
+    | inl none ↦ subst (λ (u : List ℕ). IsRefusedPair Second u place word) (same-input none) r
+    | inr cut ↦ refused-cut cut.0 cut.1 Second stays place word r
   ]
 
-  lift-given : (g : Given) → IsGiven bytes g → IsGiven input g
+  pub lift-given : (g : Given) → IsGiven bytes g → IsGiven input g
   lift-given g k = elim h.whole [
     | inl none ↦ subst (λ (u : List ℕ). IsGiven u g) (same-input none) k
     | inr cut ↦ absurd (given-cut cut.0 cut.1 g k)
@@ -158,7 +164,7 @@ module _ (input bytes : List ℕ) (h : AreFirstTexts input bytes) where
 
   lift-answer : (r : Result Given TextFault) → AnswersGiven r bytes → AnswersGiven r input
   lift-answer (Ok g) k = lift-given g k
-  lift-answer (Err (faults.At place word)) k = lift-refused place word k
+  lift-answer (Err (faults.At place word)) k = lift-refused layouts.HasFaultFrom stays-layout place word k
   lift-answer (Err faults.Memory) k = tt
 
 -- what was read of the two texts that were taken

@@ -1,7 +1,7 @@
--- Which texts are accepted, and what the first fault of another text is. Behind the phases of reading come those of the rules:
--- names and kinds, then rules without macros that are too large, then such that multiply coordinates, then conditions that are
--- too many or have too large numbers.
-use Rattle.std.specs.Prelude.{◌≡◌, ◌≤◌, ◌^◌, ◌↔◌, ℕ, List, length, map, None, Some, Result, Ok, Err}
+-- Which texts are accepted, and what the first fault of another text is. Behind the phases of
+-- reading come those of the rules: names and kinds, then rules without macros that are too large,
+-- then such that multiply coordinates, then conditions that are too many or have too large numbers.
+use Rattle.std.specs.Prelude.{◌≡◌, ◌≤◌, ◌↔◌, ℕ, List, length, map, None, Some, Result, Ok, Err}
 use Rattle.geo_tokens.specs.declared.fault.FaultWord.{FaultWord}
 use Rattle.geo_tokens.specs.declared.fault.TextFault.{TextFault}
 use Rattle.geo_tokens.specs.declared.fault.TextFault.TheVariants as faults
@@ -15,14 +15,14 @@ use Rattle.problem_data.specs.Cells.{IsTuple, IsWideTuple}
 use Rattle.rule_values.specs.Calm.{AreCalm}
 use Rattle.geo_conditions.specs.declared.cond.Cond.{Cond}
 use Rattle.linear_conditions.specs.CondTree.{cond_view}
-use Rattle.rule_ground.specs.Ground.{conditions, ground_fault}
+use Rattle.rule_ground.specs.Ground.{conditions, ground_fault, most_conditions}
 use Rattle.geo_conditions.specs.Conditions.{AllFit, AllHold}
 use Rattle.problem_data.specs.Layouts.{IsLayout}
 use Rattle.rule_ground.specs.Start.{first_state}
 use Rattle.command_reply.specs.declared.accepted.Accepted.{Accepted}
 
--- the text spells the problem, the names of its rules are right, each rule without macros keeps within its limits, and so do
--- the conditions of all rules
+-- the text spells the problem, the names of its rules are right, each rule without macros keeps
+-- within its limits, and so do the conditions of all rules
 pub record IsAccepted (text : List ℕ) (p : ProblemData) : Type 0 where
   pub spells : Accepts text p
   pub names : AreNamesRight p
@@ -47,7 +47,7 @@ pub record HasRead (text : List ℕ) (a : Accepted) : Type 0 where
   pub are : AreConditions a.problem a.conditions.items
   pub fit : AllFit a.conditions.items (first_state a.problem)
   pub meaning : (t : Tuple) → IsWideTuple a.problem t → AllHold a.conditions.items t ↔ IsLayout a.problem t
-  pub few : length a.conditions.items ≤ 10 ^ 9
+  pub few : length a.conditions.items ≤ most_conditions
   pub asks : (t : Tuple) → AllAskSame a.problem t a.problem.rules (map plain_rule_data a.rules.items)
   pub calm : (t : Tuple) → IsTuple a.problem t → AreCalm a.problem t (map plain_rule_data a.rules.items)
 

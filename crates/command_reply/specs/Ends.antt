@@ -1,9 +1,8 @@
 -- The four ways in which a run may end, over what the outside tells of itself.
-use Rattle.std.specs.Prelude.{◌≡◌, ◌⊎◌, ℕ, List, Option, Result, MatchResult, Bool, true, codes}
+use Rattle.std.specs.Prelude.{◌≡◌, ◌⊎◌, ℕ, List, Option, Bool, true, codes}
 use Rattle.std.specs.Io.KnownBytes.{Appends, Keeps}
-use Rattle.geo_chan.specs.declared.outside.PutFault.{PutFault}
-use Rattle.geo_chan.specs.Causes.{Rose, PutCause}
-use Rattle.geo_chan.specs.Written.{AppendsFront, WantsUnwritten}
+use Rattle.geo_chan.specs.Causes.{Rose}
+use Rattle.geo_chan.specs.Written.{AppendsFront}
 use Rattle.command_input.specs.Reading.{Tells}
 use Rattle.command_input.specs.declared.command.Status.{Status}
 use Rattle.command_input.specs.declared.command.Status.TheVariants.{BadWords, ReadFault, WriteFault, Memory}
@@ -28,9 +27,9 @@ pub record Began (begins : List ℕ → List ℕ → Type 0) (left written_old w
 abbrev pub WroteFront : (List ℕ → List ℕ → Type 0) → Option (List ℕ) → Option (List ℕ) → Option (List ℕ) → Type 0
 WroteFront begins left old new = Keeps old new ⊎ Began begins left old new
 
--- The four ways. Read fault: exactly where the source's count rose, and nothing was written. Write fault: exactly where the
--- sink's count rose. Want of memory. Every other status: an answer was written, whole. So a fault is never taken for want of memory,
--- nor want of memory for a fault.
+-- The four ways. Read fault: exactly where the source's count rose, and nothing was written. Write
+-- fault: exactly where the sink's count rose. Want of memory. Every other status: an answer was
+-- written, whole. So a fault is never taken for want of memory, nor want of memory for a fault.
 abbrev pub Ends : (List ℕ → List ℕ → Status → Type 0) → (List ℕ → List ℕ → Type 0) → Option (List ℕ) → ℕ → ℕ → Option (List ℕ) → Option (List ℕ) → ℕ → ℕ → Status → Type 0
 Ends answer begins left reads reads_new old new writes writes_new ReadFault = Rose reads reads_new × (writes_new ≡ writes) × Keeps old new
 Ends answer begins left reads reads_new old new writes writes_new WriteFault = (reads_new ≡ reads) × Rose writes writes_new × WroteFront begins left old new

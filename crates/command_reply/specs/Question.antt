@@ -5,9 +5,10 @@ use Rattle.command_input.specs.declared.command.Status.{Status}
 use Rattle.command_input.specs.declared.command.Status.TheVariants.{Answered, No, Budget}
 use Rattle.command_reply.specs.Reply.{IsAnswered}
 
--- What a command asks: `answer` are the texts that answer an input, each with the status of the run; `differ` is what two answers
--- with one status may have in place of being one; `faultless` are the inputs whose texts have no fault; and at most `most` bytes are
--- taken, and nothing is read where that is none.
+-- What a command asks: `answer` are the texts that answer an input, each with the status of the
+-- run; `differ` is what two answers with one status may have in place of being one; `faultless` are
+-- the inputs whose texts have no fault; and at most `most` bytes are taken, and nothing is read
+-- where that is none.
 pub record Question : Type 1 where
   pub answer : List ℕ → List ℕ → Status → Type 0
   pub differ : List ℕ → Status → List ℕ → List ℕ → Type 0
@@ -18,8 +19,8 @@ pub record Question : Type 1 where
 abbrev pub IsVerdict : Status → Type 0
 IsVerdict s = (s ≡ Answered) ⊎ ((s ≡ No) ⊎ (s ≡ Budget))
 
--- an input has one status, and with it one text but for what may differ; texts without a fault have a verdict; and no command takes
--- more than a first text, a derivation, and the piece behind them
+-- an input has one status, and with it one text but for what may differ; texts without a fault have
+-- a verdict; and no command takes more than a first text, a derivation, and the piece behind them
 pub record IsSound (q : Question) : Type 0 where
   pub one_status : (input text other : List ℕ) (status another : Status) → q.answer input text status → q.answer input other another → status ≡ another
   pub one_text : (input text other : List ℕ) (status : Status) → q.answer input text status → q.answer input other status → (text ≡ other) ⊎ q.differ input status text other

@@ -14,6 +14,7 @@ refusal place word = codes "refused " ++ (decimal place ++ (codes " " ++ (fault_
 abbrev pub RefusedAnswer : List ℕ → List ℕ → Type 0
 RefusedAnswer input text = (place : ℕ) × (word : FaultWord) × IsRefused input place word × (text ≡ refusal place word)
 
--- The two texts are refused, and this is their first fault. `Second` tells the first faults of a text behind a problem.
+-- The two texts are refused, and this is their first fault. `Second` tells the first faults of a
+-- text behind a problem.
 abbrev pub RefusedPairAnswer : (ProblemData → List ℕ → ℕ → ℕ → FaultWord → Type 0) → List ℕ → List ℕ → Type 0
 RefusedPairAnswer Second input text = (place : ℕ) × (word : FaultWord) × IsRefusedPair Second input place word × (text ≡ refusal place word)

@@ -33,8 +33,9 @@ WroteReply says old new status = (text : List ℕ) × says text status × Append
 abbrev pub WroteFrontOfReply : (List ℕ → Status → Type 0) → Option (List ℕ) → Option (List ℕ) → Type 0
 WroteFrontOfReply says old new = (text : List ℕ) × (status : Status) × says text status × AppendsFront old new text
 
--- Ok: a text that the reply may come to was written, with its status. Else a front part of one was, and Failed exactly where
--- the count of faults rose. Over a quiet sink memory is wanted only where nothing was written
+-- Ok: a text that the reply may come to was written, with its status. Else a front part of one was,
+-- and Failed exactly where the count of faults rose. Over a quiet sink memory is wanted only where
+-- nothing was written
 pub record WritesReply (says : List ℕ → Status → Type 0) (written_old written_new : Option (List ℕ)) (faults_old faults_new : ℕ)
     (quiet_old quiet_new : Bool) (result : Result Status PutFault) : Type 0 where
   pub bytes : MatchResult result (WroteReply says written_old written_new) (λ _. WroteFrontOfReply says written_old written_new)

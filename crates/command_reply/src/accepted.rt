@@ -20,9 +20,9 @@ pub struct Accepted {
     pub conditions: Vec<Cond>,
 }
 
-// The problem that a text spells, or the first fault of the text: one of reading, else a wrong name or kind, else a rule that
-// without macros is too large or multiplies coordinates, else one with which the conditions are too many or their numbers too
-// large.
+// The problem that a text spells, or the first fault of the text: one of reading, else a wrong name
+// or kind, else a rule that without macros is too large or multiplies coordinates, else one with
+// which the conditions are too many or their numbers too large.
 pub fn read_accepted(alloc: Global, text: &[u8]) -> Result<Accepted, TextFault>
     ensures { AnswersAccepted result text.now }
 {

@@ -1,5 +1,5 @@
-//! What the commands share: the problem and the layout that an input gives, what a command asks and answers, and one way to carry any
-//! of them out.
+//! What the commands share: the problem and the layout that an input gives, what a command asks and
+//! answers, and one way to carry any of them out.
 #![tactic(auto)]
 
 mod accepted;
@@ -12,6 +12,6 @@ mod text_sink;
 pub use accepted::{Accepted, read_accepted};
 pub use deciding::{Deciding, carry_out};
 pub use given::Given;
-pub use reply::{Reply, TextReply, refuse, reply_of, spelled};
-pub use taking::{take_given, take_problem};
+pub use reply::{Reply, TextReply, bad_dimension, refuse, reply_of, spelled};
+pub use taking::{take_given, take_given_in, take_problem};
 pub use text_sink::TextSink;

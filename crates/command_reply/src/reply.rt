@@ -1,6 +1,6 @@
 //! What a command replies, and how that is written.
 
-ghost use Rattle.std.specs.Prelude.{◌≡◌, Ok, ℕ, List, IfOk};
+ghost use Rattle.std.specs.Prelude.{◌≡◌, Ok, ℕ, List, IfOk, codes};
 ghost use Rattle.geo_chan.specs.Piece.{pieces_text};
 ghost use Rattle.geo_tokens.specs.declared.fault.FaultWord.{FaultWord as FaultWordOf};
 ghost use Rattle.geo_tokens.specs.declared.fault.TextFault.TheVariants as faults;
@@ -22,8 +22,8 @@ pub trait Reply {
     /// That it can be written.
     ghost ready: { Self → Type 0 };
 
-    /// Writes one of these texts, and gives its status. After a fault a front part of one was written. Over a quiet sink memory is
-    /// wanted only where nothing was written.
+    /// Writes one of these texts, and gives its status. After a fault a front part of one was
+    /// written. Over a quiet sink memory is wanted only where nothing was written.
     fn write<W: Sink>(self, alloc: Global, sink: &mut W) -> Result<Status, PutFault>
         requires { ready self }
         ensures { WritesReply (says self) (W.written sink.old) (W.written sink.new)
@@ -67,7 +67,8 @@ pub fn reply_of(
     })
 }
 
-/// What came of spelling into memory: a text in memory has no faults, so all that can stop it is want of memory.
+/// What came of spelling into memory: a text in memory has no faults, so all that can stop it is
+/// want of memory.
 pub fn spelled(written: Result<(), PutFault>) -> Result<(), AllocError>
     ensures { IfOk result (λ done. written ≡ Ok done) }
 {
@@ -75,6 +76,15 @@ pub fn spelled(written: Result<(), PutFault>) -> Result<(), AllocError>
         Ok(()) => Ok(()),
         Err(_) => Err(AllocError),
     }
+}
+
+/// The reply to a problem that has not the dimension that is asked for.
+pub fn bad_dimension(alloc: Global) -> Result<TextReply, AllocError>
+    ensures text { IfOk result (λ reply. reply.text.items ≡ codes "bad dimension\n") }
+    ensures status { IfOk result (λ reply. reply.status ≡ Status.BadDimension) }
+{
+    let pieces = [Piece::Bytes(b"bad dimension\n")];
+    reply_of(alloc, Status::BadDimension, &pieces)
 }
 
 /// The reply to a text with that fault. Want of memory stays one.

@@ -3,10 +3,11 @@
 ghost use Rattle.std.specs.Prelude.{IfOk, ℕ, List};
 ghost use Rattle.command_input.specs.Reading.{ReadCause, TakesAtMost, Tells};
 ghost use Rattle.command_reply.specs.Accepted.{AnswersAccepted};
+ghost use Rattle.command_reply.specs.Dimension.{AnswersGivenIn};
 ghost use Rattle.command_reply.specs.Given.{AnswersGiven};
 
 use crate::accepted::{Accepted, read_accepted};
-use crate::given::{Given, read_given};
+use crate::given::{Given, read_given, read_given_in};
 use command_input::{ReadFault, read_first_text, read_two_texts};
 use geo_chan::Source;
 use geo_tokens::fault::TextFault;
@@ -38,4 +39,20 @@ pub fn take_given<S: Source>(
 {
     let text = read_two_texts(alloc, source)?;
     Ok(read_given(alloc, &text))
+}
+
+/// The problem of the input and the layout behind it, or the first fault of the two. None, where
+/// the problem has fewer than `d` dimensions: that comes before the faults of the layout.
+pub fn take_given_in<S: Source>(
+    alloc: Global,
+    source: &mut S,
+    d: u8,
+) -> Result<Result<Option<Given>, TextFault>, ReadFault>
+    ensures answer { IfOk result (λ read. (input : List ℕ) × Tells (S.left source.old) input
+        × AnswersGivenIn d read input) }
+    ensures most { TakesAtMost 2097153 (S.left source.old) (S.left source.new) }
+    ensures cause { ReadCause (S.faults source.old) (S.faults source.new) result }
+{
+    let text = read_two_texts(alloc, source)?;
+    Ok(read_given_in(alloc, &text, d))
 }

@@ -5,7 +5,8 @@ ghost use Rattle.std.specs.Prelude.{◌≡◌, [], Some};
 use geo_chan::{PutFault, Sink};
 use std::alloc::Global;
 
-/// A text in memory, which grows as it is written on. It has no faults; where no memory is left it wants some.
+/// A text in memory, which grows as it is written on. It has no faults; where no memory is left it
+/// wants some.
 #[derive(Drop)]
 pub struct TextSink {
     bytes: Vec<u8>,

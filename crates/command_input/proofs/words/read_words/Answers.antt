@@ -14,5 +14,5 @@ four (x ∷ y ∷ z ∷ w ∷ v ∷ xs) a b c d l m e f g h = absurd (omega arit
 
 pub returns-in-len4-clause-none : goal.returns-in-len4-clause-none
 returns-in-len4-clause-none c =
-    let e = four c.args.words.now c.name-item-then-words-lt5.result c.most-item-then-words-lt5.result c.budget-item.result c.token-item.result c.in-len4.len_at_least c.in-len4.len_below c.name-item-then-words-lt5.is c.most-item-then-words-lt5.is c.budget-item.is c.token-item.is in
+    let e = four c.args.words.now c.name-item-then-words-lt5.result c.most-item.result c.budget-item.result c.token-item.result c.in-len4.len_at_least c.in-len4.len_below c.name-item-then-words-lt5.is c.most-item.is c.budget-item.is c.token-item.is in
     subst (λ (ws : List _). OnErr c.read_four.result (HasNoForm (map string_bytes ws))) (sym e) c.read_four.ensures.none

@@ -1,4 +1,4 @@
-use Rattle.std.proofs.Common.{List, map, subst, arith}
+use Rattle.std.proofs.Common.{List, map, subst}
 use Rattle.std.proofs.lemmas.Result.{err_from_is_err_and}
 use Rattle.geo_base.specs.Tuple.{Tuple}
 use Rattle.problem_data.specs.Cells.{IsTuple}
@@ -32,7 +32,7 @@ returns c = record {
   are = c.in_ok-conditions.ensures.conditions.0;
   fit = c.in_ok-conditions.ensures.fit;
   meaning = c.in_ok-conditions.ensures.meaning;
-  few = (let few = c.in_ok-conditions.ensures.few in omega (arith, few));
+  few = c.in_ok-conditions.ensures.few;
   asks = c.in_ok-rules.ensures.meaning;
   calm = subst (λ (rs : List PlainRule). (t : Tuple) → IsTuple c.in_ok-problem.problem t → AreCalm c.in_ok-problem.problem t (map plain_rule_data rs)) c.as_slice.ensures.value c.in_ok-conditions.ensures.calm;
 }
