@@ -17,6 +17,7 @@ use Rattle.command_input.specs.declared.command.Status.TheVariants.{
   ReadFault,
   WriteFault,
   Memory,
+  BadDimension,
 }
 use Rattle.command_reply.specs.Question.{IsSound, IsVerdict}
 use Rattle.command_reply.proofs.OneRefusal.{one_fault_from, one_refused_pair_text}
@@ -47,6 +48,7 @@ one_status input t u BadToken r a b = absurd a
 one_status input t u ReadFault r a b = absurd a
 one_status input t u WriteFault r a b = absurd a
 one_status input t u Memory r a b = absurd a
+one_status input t u BadDimension r a b = absurd a
 one_status input t u s _ a b = absurd b
 
 same_drawing : (input t u : List ℕ) → DrawsTuple input t → DrawsTuple input u → t ≡ u

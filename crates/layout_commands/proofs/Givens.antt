@@ -1,7 +1,6 @@
 -- What two texts give is one, and what gives something is not refused.
 use Rattle.std.proofs.Common.{◌≡◌, ℕ, List, sym, subst}
 use Rattle.geo_base.specs.Tuple.{Tuple}
-use Rattle.geo_tokens.specs.declared.fault.FaultWord.{FaultWord}
 use Rattle.layout_text.specs.FirstFault as layouts
 use Rattle.layout_text.proofs.OneLayout.{layout_once, layout_or_fault}
 use Rattle.problem_data.specs.Problem.{ProblemData}

@@ -6,7 +6,6 @@ use Rattle.geo_base.specs.Tuple.{Tuple}
 use Rattle.geo_meaning.specs.Judged.{IsFirstBroken}
 use Rattle.layout_text.specs.FirstFault as layouts
 use Rattle.problem_data.specs.Problem.{ProblemData}
-use Rattle.problem_data.specs.Layouts.{IsLayout}
 use Rattle.command_input.specs.declared.command.Status.{Status}
 use Rattle.command_input.specs.declared.command.Status.TheVariants.{
   Answered,
@@ -18,6 +17,7 @@ use Rattle.command_input.specs.declared.command.Status.TheVariants.{
   ReadFault,
   WriteFault,
   Memory,
+  BadDimension,
 }
 use Rattle.command_reply.specs.Question.{IsSound, IsVerdict}
 use Rattle.command_reply.proofs.OneRefusal.{one_fault_from, one_refused_pair_text}
@@ -56,6 +56,7 @@ one_status input t u BadToken r a b = absurd a
 one_status input t u ReadFault r a b = absurd a
 one_status input t u WriteFault r a b = absurd a
 one_status input t u Memory r a b = absurd a
+one_status input t u BadDimension r a b = absurd a
 one_status input t u s _ a b = absurd b
 
 -- two rules that are the first broken one are one

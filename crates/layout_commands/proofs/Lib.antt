@@ -1,3 +1,5 @@
 pub mod Givens
 pub mod Judges
 pub mod Draws
+pub mod Loads
+pub mod Named

@@ -36,8 +36,8 @@ pub record JudgesBroken (input text : List ℕ) : Type 0 where
   pub broken : IsFirstBroken problem tuple number
   pub says : text ≡ broken_rule (rule_name problem number)
 
--- `judge`. `good` where every rule holds on the tuple, else the name of the first rule that does not;
--- other texts are refused at their first fault.
+-- `judge`. `good` where every rule holds on the tuple, else the name of the first rule that does
+-- not; other texts are refused at their first fault.
 abbrev pub JudgeAnswer : List ℕ → List ℕ → Status → Type 0
 JudgeAnswer input text Answered = JudgesGood input text
 JudgeAnswer input text No = JudgesBroken input text
