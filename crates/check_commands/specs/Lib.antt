@@ -1,2 +1,4 @@
+pub mod Claims
 pub mod Check
+pub mod CheckBest
 pub mod Checks

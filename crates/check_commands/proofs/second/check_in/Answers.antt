@@ -8,9 +8,8 @@ returns-in-Ok-clause-answer g c =
     let whole = checked_whole _ g.row.K c.start-check.result.feeder _ _ _ x.2 _ c.in-Ok.is in (
       x.0,
       x.1,
-      finds_as c.requires.accepted.0 c.args.accepted.now c.requires.accepted.1 _ _ _ _ c.args.second.now.place c.verdict.result
-          (c.start-check.ensures.names ∙ c.in_ok-names.ensures)
-          (c.in_ok-give_text.ensures.conditions ∙ c.start-check.ensures.conditions ∙ c.as_slice-conditions.ensures.value) c.in_ok-first.ensures.value (c.verdict.ensures _ _ _ whole),
+      finds_as c.args.problem.now c.args.conditions.now c.is_said.ensures.formed c.requires.fit _ _ _ _ c.args.second.now.place c.verdict.result (c.start-check.ensures.names ∙ c.in_ok-names.ensures)
+          (c.in_ok-give_text.ensures.conditions ∙ c.start-check.ensures.conditions) c.in_ok-first.ensures.value (c.verdict.ensures _ _ _ whole),
     )
 
 pub returns-clause-answer : goal.returns-clause-answer
@@ -19,5 +18,5 @@ returns-clause-answer g c =
     let wrong = has_fault _ g.row.K c.start-check.result.feeder _ _ _ x.2 c.in-Err.fault c.in-Err.is in (
       x.0,
       x.1,
-      finds_fault c.args.accepted.now.problem c.args.accepted.now.conditions.items _ _ _ c.args.second.now.place c.in-Err.fault (c.start-check.ensures.names ∙ c.in_ok-names.ensures) c.start-check.ensures.place wrong,
+      finds_fault c.args.problem.now c.args.conditions.now _ _ _ c.args.second.now.place c.in-Err.fault (c.start-check.ensures.names ∙ c.in_ok-names.ensures) c.start-check.ensures.place wrong,
     )

@@ -1,15 +1,21 @@
-use Rattle.std.proofs.Common.{rules, ◌≡◌, ◌≤◌, ℕ, [], length, take, true, refl, sym, ap, ◌∙◌, subst, arith, Ok}
+use Rattle.std.proofs.Common.{rules, ◌≡◌, ◌≤◌, ℕ, List, [], length, take, true, refl, sym, ap, ◌∙◌, subst, arith, Ok}
 use Rattle.std.proofs.lemmas.Grind.{common_steps}
 use Rattle.command_input.specs.Reading.{TakesAtMost}
-use Rattle.check_commands.proofs.Pieces.{first_given, piece_taken, next_given, most_given, all_checked, fault_found, ok_or_err}
+use Rattle.geo_conditions.specs.Reach.{Reach}
+use Rattle.stream_check.specs.Streaming.{IsChecking}
+use Rattle.check_commands.proofs.Pieces.{HasGiven, first_given, piece_taken, next_given, most_given, all_checked, fault_found, ok_or_err}
 use Rattle.check_commands.proofs.second.give_text.Goals as goal
 use Rattle.check_commands.proofs.second.give_text.Goals.{in_default, in_default-2}
 
 pub giving-init : goal.giving-init
 giving-init g c = record {
-  given = first_given g.row.K _ _ _ _ _ _ _ _ _ _
-      (λ first h. piece_taken g.row.K _ _ _ _ _ _ c.args.text.now.bytes.now _ _ c.take-progress.result c.take-progress.ensures.checking c.take-progress.ensures.open c.take-progress.ensures.checked c.take-progress.ensures.refused refl refl
-      first [] [] h);
+  given = subst
+      (λ (piece : List ℕ). HasGiven g.row.K (λ (first : List Reach). IsChecking first g.row.K c.args.check.now.feeder c.args.check.now.checker c.args.check.now.log [] []) c.args.check.now.feeder.names.now
+      c.args.check.now.feeder.place c.args.text.now.is_whole (g.S.Source.left c.args.source.now) (g.S.Source.left c.args.source.now) piece c.take-progress.result c.take-progress.new.self.feeder c.take-progress.new.self.checker c.take-progress.new.self.log)
+      c.bytes.ensures
+      (first_given g.row.K _ _ _ _ _ _ _ _ _ _
+      (λ first h. piece_taken g.row.K _ _ _ _ _ _ c.bytes.result.now _ _ c.take-progress.result c.take-progress.ensures.checking c.take-progress.ensures.open c.take-progress.ensures.checked c.take-progress.ensures.refused refl refl
+      first [] [] h));
   names = c.take-progress.ensures.names;
   place = c.take-progress.ensures.place;
   conditions = c.take-progress.ensures.conditions;
