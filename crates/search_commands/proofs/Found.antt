@@ -25,7 +25,6 @@ use Rattle.command_reply.proofs.Ending.{Refuses, answers_told}
 use Rattle.command_input.specs.declared.command.Status.{Status}
 use Rattle.command_input.specs.declared.command.Status.TheVariants.{Refused}
 use Rattle.geo_tokens.specs.declared.fault.TextFault.{TextFault}
-use Rattle.geo_tokens.specs.declared.fault.TextFault.TheVariants as faults
 
 module _ {R : Type 0} (n : ℕ) (input : List ℕ) (a : Accepted) (read : HasRead input a) (o : Outcome R) (lists : Lists a.problem a.conditions.items n o) (finds : Finds a.problem o) where
   pub layout_found : (t : Tuple) → o ≡ Found t → FindsLayout n input a.problem a.conditions.items t

@@ -1,6 +1,10 @@
 pub mod Shown
 pub mod Found
 pub mod OneFirst
+pub mod Ends
+pub mod OneBest
+pub mod OneWhy
+pub mod CoreLines
 pub mod OnePage
 pub mod Listed
 pub mod Refuting

@@ -26,6 +26,7 @@ use Rattle.command_input.specs.declared.command.Status.TheVariants.{
   ReadFault,
   WriteFault,
   Memory,
+  BadDimension,
 }
 use Rattle.command_reply.specs.Accepted.{IsAccepted, AreConditions}
 use Rattle.command_reply.specs.Question.{IsSound, IsVerdict}
@@ -54,7 +55,8 @@ use Rattle.search_commands.proofs.Shown.{shows-alike}
 layout_or_none : (n : ℕ) (input : List ℕ) (p q : ProblemData) (cs ds : List Cond) (t : Tuple) → FindsLayout n input p cs t → FindsNone n input q ds → ⊥
 layout_or_none n input p q cs ds t a b = subst HasNoLayout (same_problem input q p b.accepted a.accepted) b.none t a.first.layout
 
--- under conditions of the same problem no listing finds a layout where another is out of budget, and none ends there
+-- under conditions of the same problem no listing finds a layout where another is out of budget,
+-- and none ends there
 layout_or_spent : (n : ℕ) (input : List ℕ) (p q : ProblemData) (cs ds : List Cond) (t : Tuple) → FindsLayout n input p cs t → RunsOut n input q ds → ⊥
 layout_or_spent n input p q cs ds t a b =
     let e : q ≡ p = same_problem input q p b.accepted a.accepted in
@@ -99,7 +101,7 @@ module _ (lines : ProblemData → Tuple → List ℕ) (Says : ProblemData → Li
   none_spent : (t u : List ℕ) → WritesNone Says n input t → WritesSpent spent n input u → ⊥
   none_spent t u a b = none_or_spent n input a.problem b.problem a.conditions b.conditions a.found b.found
 
-  found_status : (t u : List ℕ) (s r : Status) → Answers t s → Answers u r → s ≡ r
+  pub found_status : (t u : List ℕ) (s r : Status) → Answers t s → Answers u r → s ≡ r
   found_status t u Answered Answered a b = refl
   found_status t u No No a b = refl
   found_status t u Budget Budget a b = refl
@@ -121,18 +123,19 @@ module _ (lines : ProblemData → Tuple → List ℕ) (Says : ProblemData → Li
   found_status t u ReadFault r a b = absurd a
   found_status t u WriteFault r a b = absurd a
   found_status t u Memory r a b = absurd a
+  found_status t u BadDimension r a b = absurd a
   found_status t u s _ a b = absurd b
 
-  same_layout : (t u : List ℕ) → WritesLayout lines n input t → WritesLayout lines n input u → t ≡ u
+  pub same_layout : (t u : List ℕ) → WritesLayout lines n input t → WritesLayout lines n input u → t ≡ u
   same_layout t u a b =
       let same : b.problem ≡ a.problem = same_problem input b.problem a.problem b.found.accepted a.found.accepted in
       let other : u ≡ lines a.problem b.tuple = subst (λ (z : ProblemData). u ≡ lines z b.tuple) same b.says in
       a.says ∙ sym (other ∙ ap (lines a.problem) (one_layout a.problem a.tuple b.tuple a.found.first (subst (λ (z : ProblemData). IsFirstLayout z b.tuple) same b.found.first)))
 
-  same_spent : (t u : List ℕ) → WritesSpent spent n input t → WritesSpent spent n input u → t ≡ u
+  pub same_spent : (t u : List ℕ) → WritesSpent spent n input t → WritesSpent spent n input u → t ≡ u
   same_spent t u a b = a.says ∙ sym (b.says ∙ ap spent (same_problem input b.problem a.problem b.found.accepted a.found.accepted))
 
-  found_verdict : (text : List ℕ) (s : Status) → (p : ProblemData) × IsAccepted input p → Answers text s → IsVerdict s
+  pub found_verdict : (text : List ℕ) (s : Status) → (p : ProblemData) × IsAccepted input p → Answers text s → IsVerdict s
   found_verdict text Answered given a = inl refl
   found_verdict text No given a = inr (inl refl)
   found_verdict text Budget given a = inr (inr refl)

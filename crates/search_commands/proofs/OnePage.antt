@@ -20,6 +20,7 @@ use Rattle.problem_data.specs.Cells.{IsWideTuple}
 use Rattle.problem_data.specs.Layouts.{IsLayout}
 use Rattle.problem_data.specs.WellFormed.{IsWellFormed}
 use Rattle.problem_data.proofs.Accepted.{accepted_well_formed}
+use Rattle.problem_data.proofs.SomeRules.{wholly_said}
 use Rattle.problem_data.proofs.Hulls.{tuple_is_wide}
 use Rattle.rule_ground.specs.Order.{order_of, variables_for}
 use Rattle.rule_ground.specs.Start.{first_state}
@@ -36,6 +37,7 @@ use Rattle.command_input.specs.declared.command.Status.TheVariants.{
   ReadFault,
   WriteFault,
   Memory,
+  BadDimension,
 }
 use Rattle.command_reply.specs.Accepted.{IsAccepted, AreConditions}
 use Rattle.command_reply.specs.Question.{IsSound, IsVerdict}
@@ -98,7 +100,7 @@ one_tuple input p None (Some t) u a f g = absurd f
 one_tuple input p (Some word) None u a f g = absurd f
 one_tuple input p (Some word) (Some t) None a f g = absurd g
 one_tuple input p (Some word) (Some t) (Some u) a f g =
-    ap Some (one_token p (accepted_well_formed input p a.spells) (record { text = input; accepts = a.spells }) t u f.tuple g.tuple (sym f.spelled ∙ g.spelled))
+    ap Some (one_token p (accepted_well_formed input p a.spells) (wholly_said p (record { text = input; accepts = a.spells })) t u f.tuple g.tuple (sym f.spelled ∙ g.spelled))
 
 -- a token that is one of a tuple is not bad
 pub token_or_none : (p : ProblemData) (token : Option (List ℕ)) (after : Option Tuple) → IsFrom p token after → IsNoToken p token → ⊥
@@ -150,6 +152,7 @@ module _ (most n : ℕ) (token : Option (List ℕ)) (input : List ℕ) where
   one_status t u ReadFault r a b = absurd a
   one_status t u WriteFault r a b = absurd a
   one_status t u Memory r a b = absurd a
+  one_status t u BadDimension r a b = absurd a
   one_status t u s _ a b = absurd b
 
   one_text : (t u : List ℕ) (s : Status) → AllAnswer most n token input t s → AllAnswer most n token input u s → (t ≡ u) ⊎ ⊥

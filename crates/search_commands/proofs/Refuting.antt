@@ -1,5 +1,5 @@
 -- A text, and behind it the lines of a derivation, to whatever end.
-use Rattle.std.proofs.Common.{◌≡◌, ◌++◌, ℕ, List, refl, ap, sym, ◌∙◌, subst, append_assoc, Option, Ok, Err}
+use Rattle.std.proofs.Common.{◌++◌, ℕ, List, refl, ap, sym, ◌∙◌, subst, append_assoc, Option, Ok, Err}
 use Rattle.std.specs.Prelude.{Bool}
 use Rattle.std.specs.Io.KnownBytes.{Appends}
 use Rattle.geo_chan.specs.Written.{Writes, Wrote}

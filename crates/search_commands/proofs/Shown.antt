@@ -1,4 +1,5 @@
--- What a search records where it finds no layout: its events have names in the table of the problem, and their lines show that there is none.
+-- What a search records where it finds no layout: its events have names in the table of the
+-- problem, and their lines show that there is none.
 use Rattle.std.proofs.Common.{◌≡◌, ◌∙◌, ℕ, zero, suc, ◌+◌, ◌<◌, ◌≤◌, ◌^◌, Bool, true, false, if◌then◌else◌, List, [], length, refl, sym, ap, subst, arith}
 use Rattle.std.specs.Prelude.{◌++◌}
 use Rattle.std.specs.List.{All}

@@ -37,8 +37,8 @@ last_status More = Answered
 last_status End = Answered
 last_status OutOfBudget = Budget
 
--- the text is the blocks of the layouts that are listed, as many as `most` among the first n members
--- of the walk behind the token's tuple, and the line that ends the listing
+-- the text is the blocks of the layouts that are listed, as many as `most` among the first n
+-- members of the walk behind the token's tuple, and the line that ends the listing
 pub record ListsLayouts (most n : ℕ) (token : Option (List ℕ)) (input text : List ℕ) (status : Status) : Type 0 where
   pub problem : ProblemData
   pub conditions : List Cond

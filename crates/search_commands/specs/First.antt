@@ -38,10 +38,14 @@ pub record SaysNone (p : ProblemData) (cs : List Cond) (text : List ℕ) : Type 
   pub shows : ShowsNone p cs events
   pub says : text ≡ printed (name_table p) events
 
+-- the same behind other lines
+abbrev pub IsNoneBehind : ProblemData → List Cond → List ℕ → List ℕ → Type 0
+IsNoneBehind p cs lines text = (derivation : List ℕ) × SaysNone p cs derivation × (text ≡ lines ++ derivation)
+
 -- ---- What is found of a text: the listing of one layout among the first N members of the walk.
 
--- the text is a problem with these conditions, and this is its first layout: it satisfies every rule
--- by its cells and its formula, and precedes every other layout
+-- the text is a problem with these conditions, and this is its first layout: it satisfies every
+-- rule by its cells and its formula, and precedes every other layout
 pub record FindsLayout (n : ℕ) (input : List ℕ) (p : ProblemData) (cs : List Cond) (t : Tuple) : Type 0 where
   pub accepted : IsAccepted input p
   pub are : AreConditions p cs
@@ -82,8 +86,8 @@ pub record WritesSpent (lines : ProblemData → List ℕ) (n : ℕ) (input text 
   pub found : RunsOut n input problem conditions
   pub says : text ≡ lines problem
 
--- `first N`. The first layout; or `none`, where there is no layout, and a valid derivation behind it;
--- or `budget`. Any other text is refused at its first fault.
+-- `first N`. The first layout; or `none`, where there is no layout, and a valid derivation behind
+-- it; or `budget`. Any other text is refused at its first fault.
 abbrev pub FirstAnswer : ℕ → List ℕ → List ℕ → Status → Type 0
 FirstAnswer n input text Answered = WritesLayout block_of n input text
 FirstAnswer n input text No = WritesNone SaysNone n input text

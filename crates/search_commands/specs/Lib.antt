@@ -4,3 +4,5 @@ pub mod Refuted
 pub mod All
 pub mod Listing
 pub mod Summed
+pub mod Best
+pub mod Why

@@ -1,5 +1,5 @@
 -- What is replied where a problem may have no layout.
-use Rattle.std.specs.Prelude.{◌≡◌, ◌++◌, ℕ, List}
+use Rattle.std.specs.Prelude.{◌++◌, ℕ, List}
 use Rattle.command_input.specs.declared.command.Status.{Status}
 use Rattle.command_reply.specs.Reply.{IsSaid}
 use Rattle.derivation_text.specs.Lines.{AreNamed}

@@ -1,15 +1,22 @@
-//! The commands that search: `first`, `make` and `all`.
+//! The commands that search: `first`, `best`, `why`, `make` and `all`.
 #![tactic(auto)]
 
 mod all;
+mod best;
+mod blocks;
 mod budget;
+mod core_lines;
 mod first;
 mod listing;
 mod make;
 mod refutation;
 mod search_reply;
-mod shorter;
+mod shortening;
+mod why;
 
 pub use all::All;
+pub use best::Best;
 pub use first::First;
 pub use make::Make;
+pub use shortening::shorter;
+pub use why::Why;

@@ -3,7 +3,8 @@
 use geo_conditions::{Cond, Layout};
 use problem_data::problem::Problem;
 
-/// Layouts that are to be listed: as many as `most`, among `budget` members of the walk behind a tuple, where one is given.
+/// Layouts that are to be listed: as many as `most`, among `budget` members of the walk behind a
+/// tuple, where one is given.
 #[derive(Drop)]
 pub struct Listing {
     pub problem: Problem,

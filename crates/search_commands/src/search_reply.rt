@@ -1,4 +1,5 @@
-//! The reply to a search: a text, or a text and a derivation behind it that shows that there is no layout.
+//! The reply to a search: a text, or a text and a derivation behind it that shows that there is no
+//! layout.
 
 ghost use Rattle.search_commands.specs.Refuted.{is_search_ready, search_says};
 

@@ -1,8 +1,8 @@
-use Rattle.std.proofs.Common.{◌≡◌, ◌++◌, length, ap, sym, ◌∙◌, rules}
+use Rattle.std.proofs.Common.{◌≡◌, ◌++◌, length, ap, ◌∙◌, rules}
 use Rattle.command_reply.proofs.Ending.{answers_told, replied}
 use Rattle.search_commands.specs.Make.{MakeAnswer, counts}
 use Rattle.search_commands.specs.Summed.{answer_lines, outcome_status}
-use Rattle.search_commands.proofs.Found.{read_conditions, shaped_found, summed}
+use Rattle.search_commands.proofs.Found.{shaped_found, summed}
 use Rattle.search_commands.proofs.make.summed.Goals as goal
 
 pub summary-requires : goal.summary-requires

@@ -17,8 +17,9 @@ use problem_data::problem::Problem;
 use rule_ground::start::start_state;
 use std::alloc::{AllocError, Global};
 
-// A derivation under these conditions that shows that none of the problem's tuples satisfies them: the given one, or a shorter
-// one where one is found that was checked.
+/// A derivation under these conditions that shows that none of the problem's tuples satisfies them:
+/// the given one, or a shorter one where one is found that was checked. The error is want of
+/// memory.
 pub fn shorter(
     alloc: Global,
     problem: &Problem,
