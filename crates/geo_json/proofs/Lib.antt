@@ -1,0 +1,4 @@
+pub mod Shown
+pub mod Ascii
+pub mod Tokens
+pub mod Plain

@@ -1,0 +1,3 @@
+pub mod SheetOf
+pub mod Ascii
+pub mod LayoutJson
