@@ -1,0 +1,10 @@
+pub mod Formulas
+pub mod Problems
+pub mod Semicolons
+pub mod Free
+pub mod Right
+pub mod Ends
+pub mod Stated
+pub mod Reread
+pub mod Spelled
+pub mod Return
