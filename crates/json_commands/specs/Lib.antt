@@ -1,0 +1,3 @@
+pub mod ToJson
+pub mod Reading
+pub mod FromJson

@@ -1,0 +1,4 @@
+mod AsciiLines
+mod JsonLines
+mod Plain
+pub mod FirstJsons
