@@ -1,10 +1,10 @@
 -- How a run ends, from how its command did.
-use Rattle.std.proofs.Common.{◌≡◌, inl, inr, ℕ, List, refl}
+use Rattle.std.proofs.Common.{inl, inr, ℕ, List, refl}
 use Rattle.std.specs.Prelude.{Option, codes}
 use Rattle.geo_chan.specs.Written.{AppendsFront}
 use Rattle.command_input.specs.declared.command.Command.{Command}
 use Rattle.command_input.specs.declared.command.Status.{Status}
-use Rattle.command_input.specs.declared.command.Status.TheVariants.{BadWords, ReadFault, WriteFault, Memory}
+use Rattle.command_input.specs.declared.command.Status.TheVariants.{BadWords, WriteFault, Memory}
 use Rattle.command_input.specs.Words.{HasForm, HasNoForm}
 use Rattle.command_reply.specs.Ends.{WroteFront, Ends, EndsUnread}
 use Rattle.command_reply.proofs.Ending.{ends_as, some_input}

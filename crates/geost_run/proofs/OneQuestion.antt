@@ -1,5 +1,5 @@
 -- Words ask one question.
-use Rattle.std.proofs.Common.{◌≡◌, inl, inr, ℕ, List, refl, ap, subst, sym, ◌∙◌, arith}
+use Rattle.std.proofs.Common.{◌≡◌, inl, inr, ℕ, ℤ, List, refl, subst, sym, ◌∙◌, arith}
 use Rattle.std.specs.Option.{option_copied}
 use Rattle.command_input.specs.declared.command.Command.{Command}
 use Rattle.command_input.specs.declared.command.Command.TheVariants.{
@@ -10,18 +10,31 @@ use Rattle.command_input.specs.declared.command.Command.TheVariants.{
   Draw,
   All,
   Make,
+  Best,
+  CheckBest,
+  Load,
+  Why,
+  ToJson,
+  FromJson,
+  FirstJson,
 }
 use Rattle.command_input.specs.declared.command.Status.{Status}
 use Rattle.command_input.specs.Words.{HasForm}
-use Rattle.command_input.proofs.OneForm.{one_number, one_page, one_seed, same_mark}
+use Rattle.command_input.proofs.OneForm.{one_best, one_check_best, one_first_json, one_load, one_number, one_page, one_seed, one_why, same_mark}
 use Rattle.command_reply.specs.Question.{Question, IsSound}
+use Rattle.check_commands.specs.CheckBest.{check_best_question}
+use Rattle.json_search_commands.specs.FirstJson.{first_json_question}
+use Rattle.layout_commands.specs.Load.{load_question}
 use Rattle.search_commands.specs.All.{all_question}
+use Rattle.search_commands.specs.Best.{best_question}
 use Rattle.search_commands.specs.First.{first_question}
 use Rattle.search_commands.specs.Make.{make_question}
+use Rattle.search_commands.specs.Why.{why_question}
 use Rattle.geost_run.specs.Answer.{Answer, AreAlike}
 use Rattle.geost_run.specs.Questions.{AnswerTo, question_of}
 
--- what answers the second question answers the first, and so with what has no fault; and as many bytes are taken
+-- what answers the second question answers the first, and so with what has no fault; and as many
+-- bytes are taken
 pub record AreSame (q r : Question) : Type 0 where
   pub answers : (input text : List ℕ) (status : Status) → r.answer input text status → q.answer input text status
   pub faultless : (input : List ℕ) → r.faultless input → q.faultless input
@@ -45,6 +58,17 @@ same_make words seed n other m f g =
     let e = one_seed words seed n other m f g in
     then_same (make_question seed n) (make_question other n) (make_question other m) (same_by (λ (s : ℕ). make_question s n) seed other e.0) (same_by (make_question other) n m e.1)
 
+same_best : (words : List (List ℕ)) (d n e m : ℕ) → HasForm words (Best d n) → HasForm words (Best e m) → AreSame (best_question d n) (best_question e m)
+same_best words d n e m f g =
+    let h = one_best words d n e m f g in
+    then_same (best_question d n) (best_question e n) (best_question e m) (same_by (λ (k : ℕ). best_question k n) d e h.0) (same_by (best_question e) n m h.1)
+
+same_check_best : (words : List (List ℕ)) (d : ℕ) (x : ℤ) (e : ℕ) (y : ℤ) → HasForm words (CheckBest d x) → HasForm words (CheckBest e y) → AreSame (check_best_question d x) (check_best_question e y)
+same_check_best words d x e y f g =
+    let h = one_check_best words d x e y f g in
+    then_same (check_best_question d x) (check_best_question e x) (check_best_question e y) (same_by (λ (k : ℕ). check_best_question k x) d e h.0)
+    (same_by (check_best_question e) x y h.1)
+
 -- the commands of the same words ask the same: one line a command
 pub one_question : (words : List (List ℕ)) (c d : Command) → HasForm words c → HasForm words d → AreSame (question_of c) (question_of d)
 one_question words (First n) (First m) f g = same_by first_question n m (one_number words n m f g)
@@ -59,6 +83,13 @@ one_question words (All x) (All y) f g =
     (same_by (λ (k : ℕ). all_question k x.budget (option_copied x.token)) x.most y.most e.0) (same_by (λ (k : ℕ). all_question y.most k (option_copied x.token)) x.budget y.budget e.1))
     (same_by (all_question y.most y.budget) (option_copied x.token) (option_copied y.token) e.2)
 one_question words (Make seed n) (Make other m) f g = same_make words seed n other m f g
+one_question words (Best d n) (Best e m) f g = same_best words d n e m f g
+one_question words (CheckBest d x) (CheckBest e y) f g = same_check_best words d x e y f g
+one_question words (Load d) (Load e) f g = same_by load_question d e (one_load words d e f g)
+one_question words (Why n) (Why m) f g = same_by why_question n m (one_why words n m f g)
+one_question words ToJson ToJson f g = same (question_of ToJson)
+one_question words FromJson FromJson f g = same (question_of FromJson)
+one_question words (FirstJson n) (FirstJson m) f g = same_by first_json_question n m (one_first_json words n m f g)
 one_question words c d f g = absurd (let e = same_mark words c d f g in omega (arith, e))
 
 -- an answer to words that have the form of a command is one to the command

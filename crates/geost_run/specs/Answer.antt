@@ -22,7 +22,8 @@ pub record CommandAnswer (words : List (List ℕ)) (input text : List ℕ) (stat
   pub form : HasForm words command
   pub answers : AnswerTo command input text status
 
--- The text and the status that these words and this input have. It is all that a reader has to believe.
+-- The text and the status that these words and this input have. It is all that a reader has to
+-- believe.
 abbrev pub Answer : List (List ℕ) → List ℕ → List ℕ → Status → Type 0
 Answer words input text status = CommandAnswer words input text status ⊎ BadWordsAnswer words text status
 
@@ -42,7 +43,7 @@ pub record MayDiffer (words : List (List ℕ)) (input : List ℕ) (status : Stat
   pub form : HasForm words command
   pub differ : (question_of command).differ input status text other
 
--- The texts that these words and this input have with a status are one, but for what the command leaves open: behind the `none` of
--- `first` each valid derivation may stand.
+-- The texts that these words and this input have with a status are one, but for what the command
+-- leaves open: behind the `none` of `first` each valid derivation may stand.
 abbrev pub AreAlike : List (List ℕ) → List ℕ → Status → List ℕ → List ℕ → Type 0
 AreAlike words input status text other = (text ≡ other) ⊎ MayDiffer words input status text other

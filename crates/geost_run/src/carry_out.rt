@@ -7,11 +7,13 @@ ghost use Rattle.command_reply.specs.Ends.{Ends, WantsFirst};
 ghost use Rattle.command_reply.specs.Question.{IsSound};
 ghost use Rattle.geost_run.specs.Questions.{AnswerTo, BeginsOf, most_taken, question_of};
 
-use check_commands::Check;
+use check_commands::{Check, CheckBest};
 use command_input::{Command, Status};
 use geo_chan::{Sink, Source};
-use layout_commands::{Draw, Judge};
-use search_commands::{All, First, Make};
+use json_commands::{FromJson, ToJson};
+use json_search_commands::FirstJson;
+use layout_commands::{Draw, Judge, Load};
+use search_commands::{All, Best, First, Make, Why};
 use std::alloc::Global;
 use text_commands::Show;
 
@@ -44,6 +46,21 @@ pub fn carry_out<S: Source, W: Sink>(
         Command::All(request) => command_reply::carry_out(alloc, &All { request }, source, sink),
         Command::Make(seed, most) => {
             command_reply::carry_out(alloc, &Make::new(seed, most), source, sink)
+        }
+        Command::Best(dimension, most) => {
+            command_reply::carry_out(alloc, &Best::new(dimension, most), source, sink)
+        }
+        Command::CheckBest(dimension, extent) => {
+            command_reply::carry_out(alloc, &CheckBest::new(dimension, extent), source, sink)
+        }
+        Command::Load(dimension) => {
+            command_reply::carry_out(alloc, &Load::new(dimension), source, sink)
+        }
+        Command::Why(most) => command_reply::carry_out(alloc, &Why { most }, source, sink),
+        Command::ToJson => command_reply::carry_out(alloc, &ToJson, source, sink),
+        Command::FromJson => command_reply::carry_out(alloc, &FromJson, source, sink),
+        Command::FirstJson(most) => {
+            command_reply::carry_out(alloc, &FirstJson { most }, source, sink)
         }
     }
 }

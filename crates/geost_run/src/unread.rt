@@ -19,8 +19,8 @@ pub enum Unread {
     NoText,
 }
 
-/// What the words are answered with. Where there was no memory for them, that is the status, and nothing is read or written. Words
-/// that are no text have no form.
+/// What the words are answered with. Where there was no memory for them, that is the status, and
+/// nothing is read or written. Words that are no text have no form.
 pub fn answer_words<S: Source, W: Sink>(
     alloc: Global,
     words: Result<Vec<String>, Unread>,
