@@ -9,8 +9,9 @@ ghost use Rattle.derivation_round_trip.specs.Limits.{IsLimited};
 
 use geo_tokens::names::Names;
 
-/// What holds of the texts of derivations: where its events have names and their numbers are within the limit of texts, the text of a
-/// derivation that is not too long is read as the same events. It does nothing.
+/// What holds of the texts of derivations: where its events have names and their numbers are within
+/// the limit of texts, the text of a derivation that is not too long is read as the same events. It
+/// does nothing.
 pub fn derivations_are_read_back(names: &Names)
     ensures { (root : Node) → AreNamed names.now 0 (node_events root)
         → All IsLimited (node_events root)

@@ -1,4 +1,5 @@
--- The names of shapes and objects: where they stand, that they differ, and that each is the text of a name.
+-- The names of shapes and objects: where they stand, that they differ, and that each is the text of
+-- a name.
 use Rattle.std.proofs.Common.{◌≡◌, ℕ, zero, suc, ◌+◌, ◌-◌, ◌*◌, ◌/◌, ◌%◌, ◌^◌, ◌<◌, ◌≤◌, List, [], ◌∷◌, ◌++◌, map, length, Bool, true, false, ◌==◌, ◌&&◌, inl, inr, refl, sym, ap, ◌∙◌, subst, arith, lit≤}
 use Rattle.std.specs.Prelude.{codes, decimal, flat_map, slice_index, slice_index_or, nat_le, nat_lt}
 use Rattle.std.specs.Fmt.{digits}

@@ -2,19 +2,19 @@
 use Rattle.std.proofs.Common.{◌≡◌, ℕ, zero, suc, ◌-◌, ◌*◌, ◌<◌, ◌≤◌, ◌<ℤ◌, List, [], ◌∷◌, length, take, map, None, Some, inl, inr, refl, sym, ap, ◌∙◌, subst, arith, lit≤, lit<}
 use Rattle.std.specs.Prelude.{pos, slice_get, slice_index, slice_index_or, codes}
 use Rattle.std.specs.List.{Contains}
-use Rattle.std.proofs.lemmas.Option.{slice_get_within, get_or_from_slice_get}
-use Rattle.std.proofs.lemmas.List.{take-map, length-take-le, get_or-take, length-map}
+use Rattle.std.proofs.lemmas.Option.{slice_get_within}
+use Rattle.std.proofs.lemmas.List.{length-take-le}
 use Rattle.std.proofs.lemmas.Int.{ints}
 use Rattle.geo_tokens.specs.Names.{AllDifferent}
 use Rattle.rule_syntax.specs.declared.tree.PlacedName.{PlacedName}
 use Rattle.problem_data.specs.declared.fault.Fault.{Fault}
 use Rattle.problem_data.specs.declared.tree.RangeText.{RangeText}
 use Rattle.problem_data.specs.Tree.{BoxTree}
-use Rattle.problem_data.specs.Faults.{Among, text_of, Repeated, PastLimit, NamesFault, OffsetFault, SizeFault, OffsetsFault, SizesFault, RangeFault, RangesFault, IsLast, PieceFault, PiecesFault, OriginFault, BoxFault, ShapeFault, FieldFault, AttributesFault, ObjectFault, RuleFault, RulesFault, rule_name}
+use Rattle.problem_data.specs.Faults.{Among, text_of, PastLimit, NamesFault, OffsetFault, SizeFault, OffsetsFault, SizesFault, RangeFault, RangesFault, IsLast, PieceFault, PiecesFault, OriginFault, BoxFault, ShapeFault, FieldFault, AttributesFault, ObjectFault, RuleFault, RulesFault, rule_name}
 use Rattle.problem_data.proofs.NoFault.{NoFault}
 use Rattle.rule_print.proofs.Respelled.{AllOf}
 use Rattle.problem_text.proofs.PrintingParts.{int_of, range_of, pieces_of, box_of}
-use Rattle.problem_text.proofs.Consistent.{map_at}
+use Rattle.problem_text.proofs.StatedOrder.{once_right}
 use Rattle.problem_text.proofs.CanonicalParts.{shape_tree_of, object_tree_of, rule_tree_of}
 use Rattle.generated_problems.specs.Problem.{shape, rack, object, rules}
 use Rattle.generated_problems.proofs.Parts.{IsLength}
@@ -39,22 +39,6 @@ few_right most ns few f w =
     let size : length (take w.index ns) ≡ w.index = length-take-le w.index ns (omega arith) in
     let past : most ≤ length (take w.index ns) = w.wrong.0 in
     absurd (omega arith)
-
-once_right : (ns : List PlacedName) → AllDifferent (map text_of ns) → NoFault (Repeated ns)
-once_right ns differ f w =
-    let i = w.index in
-    let name = w.item.name in
-    let there : i < length ns = slice_get_within ns i w.item w.there in
-    let size : length (map text_of (take i ns)) ≡ i = length-map (take i ns) text_of ∙ length-take-le i ns (omega arith) in
-    let total : length (map text_of ns) ≡ length ns = length-map ns text_of in
-    let k = w.wrong.0.0 in
-    let less : k < length (map text_of (take i ns)) = w.wrong.0.1 in
-    let before : k < i = omega arith in
-    let within : i < length (map text_of ns) = omega arith in
-    let first : slice_index_or (map text_of ns) k name ≡ name =
-    sym (get_or-take i (map text_of ns) k name before) ∙ ap (λ (us : List (List ℕ)). slice_index_or us k name) (take-map text_of i ns) ∙ w.wrong.0.2 in
-    let second : slice_index_or (map text_of ns) i name ≡ name = get_or_from_slice_get (map text_of ns) i name name (map_at text_of ns i w.item w.there) in
-    differ k i name before within (first ∙ sym second)
 
 pub names_right : (most : ℕ) (ns : List PlacedName) → length ns ≤ most → AllDifferent (map text_of ns) → NoFault (NamesFault most ns)
 names_right most ns few differ f (inl w) = few_right most ns few f w

@@ -21,13 +21,13 @@ use Rattle.problem_syntax.specs.Reading.{problem_at}
 use Rattle.problem_syntax.proofs.Right.{problem_good}
 use Rattle.problem_syntax.proofs.Levels.{problem_reading}
 use Rattle.problem_syntax.proofs.WholeText.{is_whole}
-use Rattle.problem_text.specs.Canonical.{line_text, head_spelling, shape_names, object_names, shape_spelling, object_spelling, macro_spelling, rule_spelling, order_spelling, sides_spelling, counts_from, line_if, problem_text}
+use Rattle.problem_text.specs.Canonical.{line_text, head_spelling, shape_names, object_names, shape_spelling, object_spelling, macro_spelling, rule_spelling, order_spelling, sides_spelling, counts_from, line_if, problem_text, needs_order, needs_sides, MayState}
 use Rattle.problem_text.specs.ReadBack.{bare_macro, bare_demand, bare_rule, bare_problem, ReadsBack}
 use Rattle.problem_text.proofs.BareParts.{bare_parts, parts_bare, meaning_bare}
-use Rattle.problem_text.proofs.CanonicalParts.{object_tree_of, canonical_parts, parts_canonical, canonical_meaning}
+use Rattle.problem_text.proofs.CanonicalParts.{object_tree_of, stated_parts, canonical_parts, parts_stated, stated_meaning}
 use Rattle.problem_text.proofs.CanonicalRight.{right_again}
 use Rattle.problem_text.proofs.OneProblem.{accepted_once}
-use Rattle.problem_text.proofs.PrintingProblem.{problem_again}
+use Rattle.problem_text.proofs.PrintingProblem.{problem_again, may_state_canonical}
 use Rattle.problem_text.proofs.ReadStatements.{mapped}
 use Rattle.problem_generator.specs.Made.{made_text}
 use Rattle.generated_problems.specs.Problem.{object, made_problem}
@@ -59,20 +59,21 @@ pub made_reads_back : (seed : ℕ) → ReadsBack (made_problem seed)
 made_reads_back seed =
     let p : ProblemData = made_problem seed in
     let o : Parts = canonical_parts p in
-    let x = problem_again p (made_written seed) in
-    let parts : bare_parts (parts_of x.tree) ≡ o = sym (parts_bare x.tree) ∙ ap parts_of x.same ∙ parts_canonical p in
-    let means : problem_of o ≡ p = canonical_meaning p (made_consistent seed) in
+    let may : MayState (needs_order p) (needs_sides p) p = may_state_canonical p in
+    let means : problem_of o ≡ p = stated_meaning (needs_order p) (needs_sides p) p (made_consistent seed) may in
     let filled : All (HasParts false) o.objects =
     all_of (HasParts false) o.objects (mapped (HasParts false) (object_tree_of (shape_names p)) p.objects (each_object (λ u. HasParts false (object_tree_of (shape_names p) u)) seed (λ i low high. has_parts (shape_names p) i))) in
     let well : IsWellFormed (problem_of o) = sound o filled (made_right seed) in
-    let same : bare_parts (parts_of x.tree) ≡ canonical_parts (problem_of o) = parts ∙ ap canonical_parts (sym means) in
+    let x = problem_again (needs_order p) (needs_sides p) p (made_written seed) (subst IsWellFormed means well) may in
+    let parts : bare_parts (parts_of x.tree) ≡ o = sym (parts_bare x.tree) ∙ ap parts_of x.same ∙ parts_stated (needs_order p) (needs_sides p) p in
+    let same : bare_parts (parts_of x.tree) ≡ stated_parts (needs_order p) (needs_sides p) (problem_of o) = parts ∙ ap (stated_parts (needs_order p) (needs_sides p)) (sym means) in
     let short : length (problem_text p) ≤ most_bytes = subst (λ (text : List ℕ). length text ≤ most_bytes) (made_is_canonical seed) (made_short seed) in
     record {
       again = problem_of (parts_of x.tree);
       accepts = record {
         tree = x.tree;
         says = record { short = short; list = x.list; tokens = x.tokens; spells = spells_whole (problem_text p) x.list x.tree x.word };
-        right = right_again o (made_right seed) well (parts_of x.tree) same;
+        right = right_again o (made_right seed) well (needs_order p) (needs_sides p) (parts_of x.tree) same;
         means = refl;
       };
       same = sym (meaning_bare (parts_of x.tree)) ∙ ap problem_of parts ∙ means;

@@ -1,7 +1,8 @@
 -- The made problem can be written, and its positions are those of its names.
-use Rattle.std.proofs.Common.{◌≡◌, ℕ, ◌-◌, ◌*◌, ◌<◌, ◌≤◌, List, [], ◌∷◌, ◌++◌, length, map, true, false, ◌⊎◌, inl, inr, refl, sym, ap, ◌∙◌, subst, arith, lit≤}
+use Rattle.std.proofs.Common.{◌≡◌, ℕ, ◌-◌, ◌*◌, ◌<◌, ◌≤◌, List, [], ◌∷◌, ◌++◌, length, map, false, ◌⊎◌, inl, inr, refl, sym, ap, ◌∙◌, subst, arith, lit≤, lit<}
 use Rattle.std.specs.Prelude.{codes, decimal}
-use Rattle.std.specs.List.{Contains, range_with_len}
+use Rattle.std.specs.List.{All, Contains, range_with_len}
+use Rattle.std.proofs.lemmas.List.FromFn.{length-range_with_len, get_or-range_with_len}
 use Rattle.geo_tokens.specs.Names.{IsNameText}
 use Rattle.rule_syntax.specs.declared.tree.PlacedName.{PlacedName}
 use Rattle.problem_data.specs.Problem.{ObjectData}
@@ -12,9 +13,10 @@ use Rattle.problem_text.proofs.PrintingParts.{name_of, CanWriteRanges, CanWriteE
 use Rattle.problem_text.proofs.PrintingStatements.{CanWriteShape, CanWriteObject}
 use Rattle.problem_text.proofs.PrintingProblem.{CanWriteProblem}
 use Rattle.problem_text.proofs.Positions.{Made, made_or_not}
+use Rattle.problem_text.proofs.Consistent.{positions_there}
 use Rattle.problem_text.proofs.CanonicalParts.{IsPosition, ArePositions, HavePositions, IsConsistent}
 use Rattle.generated_problems.specs.Problem.{shape_name, shape, rack, object, made_problem}
-use Rattle.generated_problems.proofs.Names.{name_of_number, name_of_first, name_of_second, shape_list, shape_at, length-shape_list, length-object_list, shapes_differ, shape_is_name, object_is_name, rack_is_name, free_is_name}
+use Rattle.generated_problems.proofs.Names.{name_of_number, name_of_first, name_of_second, shape_list, shape_at, length-shape_list, length-object_list, object_list, object_names_differ, shapes_differ, shape_is_name, object_is_name, rack_is_name, free_is_name}
 use Rattle.generated_problems.proofs.Parts.{IsLength, each_shape, each_object, shape_names_are, object_names_are}
 
 -- ---- names
@@ -86,12 +88,8 @@ made_written seed = record {
   ));
   objects = subst (λ (names : List (List ℕ)). AllOf (CanWriteObject false names) (made_problem seed).objects) (sym (shape_names_are seed)) (each_object (CanWriteObject false (shape_list 80)) seed object_written);
   macros = tt;
-  order = λ e. absurd (no_order e);
   rules = (record { name = rack_is_name; demand = rack_written }, (record { name = free_is_name; demand = tt }, tt));
 }
-  where
-    no_order : true ≡ false → ⊥
-    no_order e = cc
 
 -- ---- positions
 
@@ -122,10 +120,12 @@ made_consistent seed = record {
   shapes = subst (λ (names : List (List ℕ)). HavePositions names (made_problem seed).objects) (sym (shape_names_are seed))
       (have_positions (made_problem seed).objects (each_object (λ (o : ObjectData). ArePositions (shape_list 80) o.shapes) seed (λ i low high.
       (position_there (2 * i - 2) (omega arith), (position_there (2 * i - 1) (omega arith), tt)))));
-  order = λ e. absurd (no_order e);
+  order = subst (λ (names : List (List ℕ)). ArePositions names (made_problem seed).order) (sym (object_names_are seed)) (positions_there (object_list 40) (object_names_differ 40 (lit< tt)) (made_problem seed).order order_inside);
   file_order = λ e. ap (range_with_len 0) (ap length (object_names_are seed) ∙ length-object_list 40);
   low_sides = λ e. refl;
 }
   where
-    no_order : true ≡ false → ⊥
-    no_order e = cc
+    order_inside : All (λ i. i < length (object_list 40)) (made_problem seed).order
+    order_inside k d less =
+        let short : k < 40 = (let size = length-range_with_len 0 40 in omega (arith, less, size)) in
+        subst (λ i. i < length (object_list 40)) (sym (get_or-range_with_len 0 40 k d short)) (let size = length-object_list 40 in omega (arith, short, size))

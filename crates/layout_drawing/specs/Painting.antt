@@ -49,7 +49,8 @@ IsCounted b c old new = (BlockHas b c × (new ≡ owner_with old b.object)) ⊎ 
 abbrev pub CountsBlock : Block → ℤ → List ℤ → List Owner → List Owner → Type 0
 CountsBlock b a others old new = (k : ℕ) → k < length old → IsCounted b (cell_at a others k) (owner_at old k) (owner_at new k)
 
--- the spans of a picture of these blocks: a few cells in each dimension, and in the first one each block lies within
+-- the spans of a picture of these blocks: a few cells in each dimension, and in the first one each
+-- block lies within
 pub record IsFrame (bs : List Block) (ss : List Span) : Type 0 where
   pub some : 1 ≤ length ss
   pub dims : All (IsOfDims (length ss)) bs

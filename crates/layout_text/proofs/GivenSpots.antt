@@ -31,8 +31,8 @@ module _ (rs : List (List RangeData)) (xs : List Int) (i : ℕ) (r : List RangeD
   pub out_of_pieces : IsInPieces (slice_index_or rs i []) (coordinate (map number_of xs) i) → IsInPieces r (get_or xs i x).value
   out_of_pieces h = subst (λ (v : ℤ). IsInPieces r v) number_is (subst (λ (s : List RangeData). IsInPieces s (coordinate (map number_of xs) i)) range_is h)
 
--- a spot of that form whose numbers lie in the pieces, and are the first values where it is absent, is
--- one of the object
+-- a spot of that form whose numbers lie in the pieces, and are the first values where it is absent,
+-- is one of the object
 pub made_spot : (p : ProblemData) (o : ObjectData) (s : Spot) → IsObject p o → HasForm p o s → AreInPieces o.pieces s.origin
     → (is_absent_at o s.place ≡ true → s.origin ≡ first_values p o) → IsSpotOf p o s
 made_spot p o s is form h first = record {

@@ -1,5 +1,5 @@
--- The tuple that a layout text gives for a problem, and its faults. The object of a line is the one at the same place in file
--- order.
+-- The tuple that a layout text gives for a problem, and its faults. The object of a line is the one
+-- at the same place in file order.
 use Rattle.std.specs.Prelude.{◌≡◌, ℕ, ◌+◌, ◌<◌, ℤ, false, List, [], ◌∷◌, length, map, slice_get, slice_index_or, Option, Some, None, ◌⊎◌}
 use Rattle.std.specs.List.{Contains, range_with_len}
 use Rattle.geo_tokens.specs.declared.fault.FaultWord.TheVariants as words

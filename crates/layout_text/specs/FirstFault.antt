@@ -1,6 +1,7 @@
--- Which texts are layout texts of a problem, with the tuples that they spell, and what the first fault of another text is. A text
--- is looked at in four phases, its length, its tokens, its grammar and its lines; the first phase with a fault decides, and in it
--- the fault at the least place; at one place `limit` goes before `range`, and `order` before `token`.
+-- Which texts are layout texts of a problem, with the tuples that they spell, and what the first
+-- fault of another text is. A text is looked at in four phases, its length, its tokens, its grammar
+-- and its lines; the first phase with a fault decides, and in it the fault at the least place; at
+-- one place `limit` goes before `range`, and `order` before `token`.
 use Rattle.std.specs.Prelude.{◌≡◌, ℕ, ◌+◌, ◌<◌, ◌≤◌, List, length, Result, Ok, Err}
 use Rattle.geo_tokens.specs.declared.token.Token.{Token}
 use Rattle.geo_tokens.specs.declared.fault.FaultWord.{FaultWord}

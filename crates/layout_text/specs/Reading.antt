@@ -1,4 +1,5 @@
--- Reading the grammar of layout texts from the left: one definition for each language, of the same form.
+-- Reading the grammar of layout texts from the left: one definition for each language, of the same
+-- form.
 use Rattle.std.specs.Prelude.{ℕ, List, [], ◌∷◌, Option, Some, None}
 use Rattle.geo_tokens.specs.declared.token.Keyword.TheVariants as keywords
 use Rattle.geo_tokens.specs.declared.token.Sym.TheVariants as symbols

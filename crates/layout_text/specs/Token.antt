@@ -25,7 +25,8 @@ pub record IsTokenOf (p : ProblemData) (t : Tuple) (word : List ℕ) : Type 0 wh
   pub tuple : IsTuple p t
   pub spelled : word ≡ token_of t
 
--- a call's answer: the tuple of which the word is the token, or that it is the token of no tuple, unless memory ran out
+-- a call's answer: the tuple of which the word is the token, or that it is the token of no tuple,
+-- unless memory ran out
 abbrev pub AnswersToken : Result Layout TokenFault → ProblemData → List ℕ → Type 0
 AnswersToken (Ok t) p word = IsTokenOf p t word
 AnswersToken (Err faults.BadToken) p word = (t : Tuple) → IsTokenOf p t word → ⊥

@@ -15,8 +15,9 @@ use geo_chan::{Piece, PutFault, Sink, write_all_bytes, write_pieces};
 use geo_conditions::{Layout, ObjId};
 use problem_data::problem::Problem;
 
-/// Writes the layout block: the line `layout`, a line `NAME as SHAPE at X1 .. XK`, or `NAME absent`,
-/// for each object in file order, and the token line. After a fault a front part of it was written.
+/// Writes the layout block: the line `layout`, a line `NAME as SHAPE at X1 .. XK`, or `NAME
+/// absent`, for each object in file order, and the token line. After a fault a front part of it was
+/// written.
 pub fn print_layout<W: Sink>(
     problem: &Problem,
     layout: &Layout,

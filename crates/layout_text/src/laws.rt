@@ -8,8 +8,8 @@ ghost use Rattle.layout_text.specs.FirstFault.{most_bytes, Accepts};
 
 use problem_data::problem::Problem;
 
-/// What holds of the texts of layouts: the block of a tuple, where it is not too long, is read as this tuple, and no other tuple
-/// has the same block or the same token. It does nothing.
+/// What holds of the texts of layouts: the block of a tuple, where it is not too long, is read as
+/// this tuple, and no other tuple has the same block or the same token. It does nothing.
 pub fn texts_are_read_back(problem: &Problem)
     ensures read_back { (t : Tuple) → IsTuple problem.now t
         → length (block_of problem.now t) ≤ most_bytes

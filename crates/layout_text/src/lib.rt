@@ -1,7 +1,8 @@
-//! The texts of layouts: the layout block and the token are written, and a layout text and a token are read.
+//! The texts of layouts: the layout block and the token are written, and a layout text and a token
+//! are read.
 //!
-//! A text is read in four steps: tokens, what they say (`syntax`), its first fault (`faults`), and the tuple that it gives
-//! (`build`).
+//! A text is read in four steps: tokens, what they say (`syntax`), its first fault (`faults`), and
+//! the tuple that it gives (`build`).
 #![tactic(auto)]
 
 mod block;

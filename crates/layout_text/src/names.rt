@@ -35,7 +35,8 @@ fn position_among(problem: &Problem, shapes: &[u16], name: &Name) -> usize
     }
 }
 
-/// The position of a name among the names of the object's shapes, or their number where it is none of them.
+/// The position of a name among the names of the object's shapes, or their number where it is none
+/// of them.
 pub fn shape_position(problem: &Problem, object: &ObjectDef, name: &Name) -> usize
     requires { All (λ s. s < length problem.now.shapes) object.now.shapes }
     ensures value { result ≡ position_or_len (bytes_eq name.now)

@@ -32,9 +32,10 @@ fn read_alone(alloc: Global, problem: &Problem, text: &[u8]) -> Result<Layout, T
     }
 }
 
-/// The tuple that a layout text spells for a problem, or its first fault: `long` where the text has more than 1,048,576 bytes;
-/// else its first token fault; else the first fault of its grammar; else the first fault of its lines. The text begins at
-/// the place `from` of an input, and the fault has its place in that input. A printed layout block is read as its tuple.
+/// The tuple that a layout text spells for a problem, or its first fault: `long` where the text has
+/// more than 1,048,576 bytes; else its first token fault; else the first fault of its grammar; else
+/// the first fault of its lines. The text begins at the place `from` of an input, and the fault has
+/// its place in that input. A printed layout block is read as its tuple.
 pub fn read_layout(
     alloc: Global,
     problem: &Problem,

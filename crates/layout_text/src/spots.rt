@@ -62,8 +62,8 @@ fn lies_right(problem: &Problem, object: &ObjectDef, place: usize, origin: &[Int
     }
 }
 
-// Whether the group has a place of the object, and an origin in pieces of its ranges, which is that of
-// its first values where it is absent.
+// Whether the group has a place of the object, and an origin in pieces of its ranges, which is that
+// of its first values where it is absent.
 fn is_spot(problem: &Problem, object: &ObjectDef, group: &GroupText) -> bool
     requires { IsObject problem.now object.now }
     ensures { IsTrue result ↔ IsSpotOf problem.now object.now (spot_in (group_view group.now)) }

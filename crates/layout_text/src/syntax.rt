@@ -33,8 +33,8 @@ fn layout<'a>(
     Ok((LayoutText { lines, token }, rest))
 }
 
-/// What all the tokens of a text spell. They are refused with `syntax` at the first token with which they begin no layout text,
-/// or at the end where they are the front of one alone.
+/// What all the tokens of a text spell. They are refused with `syntax` at the first token with
+/// which they begin no layout text, or at the end where they are the front of one alone.
 pub fn read_lines(alloc: Global, text: &[u8], list: &[Token]) -> Result<LayoutText, TextFault>
     ensures answer { AnswersText layout_view result (LayoutWords text.now) 0
         (length text.now) list.now }

@@ -1,8 +1,8 @@
 //! From a word to the tuple of which it is the token.
 //!
-//! The tokens of the word are read as groups, and those give a tuple. It is taken where its own token
-//! is the word: so no second spelling of a number is let through, and neither are white space and
-//! comments.
+//! The tokens of the word are read as groups, and those give a tuple. It is taken where its own
+//! token is the word: so no second spelling of a number is let through, and neither are white space
+//! and comments.
 
 ghost use Rattle.std.specs.Prelude.{◌≡◌, ◌↔◌, IsTrue, IfOk};
 ghost use Rattle.problem_data.specs.Cells.{IsShaped};

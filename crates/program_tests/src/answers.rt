@@ -1,6 +1,7 @@
 //! What words and an input are answered with, against texts that were worked out by hand.
 use crate::listing::{COUNTS, PAGES, TOKENS};
 use crate::making::{BUDGET, FORMS, SEEDS};
+use crate::reach::{BEST, BEST_CHECKS, CORES, LOADS, WORDS};
 use geo_chan::{CleanSink, CleanSource, Source};
 use geost_run::{Status, run};
 use std::alloc::{AllocError, Global};
@@ -37,7 +38,8 @@ pub fn asked(alloc: Global, list: &[&str], input: &[u8]) -> Result<(Status, Vec<
     Ok((ended, Vec::from_slice(alloc, sink.bytes())?))
 }
 
-// Whether the words have that status and that text for an input, and leave so many of its first 200 bytes, where that is asked.
+// Whether the words have that status and that text for an input, and leave so many of its first 200
+// bytes, where that is asked.
 fn answers(
     alloc: Global,
     (list, input): (&[&str], &[u8]),
@@ -55,19 +57,19 @@ fn answers(
 const TWO_SHAPES: &[u8] =
     b"geost 1 dims 2 shape flat box 0 0 size 2 1 ; shape tall box 0 0 size 1 2 ; object a as flat, tall at 0..5 0..5 ; rule w : within 0..0 0..9 ; end";
 
-const FROM_ABOVE: &[u8] =
+pub const FROM_ABOVE: &[u8] =
     b"geost 1 dims 1 shape s box 0 size 2 ; object a as s at 0..3 ; object b as s at 0..3 ; sides high ; rule r : apart ; end";
 
 const FORMULA: &[u8] =
     b"geost 1 dims 1 shape s box 0 size 1 ; object a as s at 0..9 ; rule r : a.x1 > 3 ; end";
 
-const FITTING: &[u8] =
+pub const FITTING: &[u8] =
     b"geost 1 dims 1 shape s box 0 size 2 ; object a as s at 0..3 ; object b as s at 0..3 ; rule r : apart ; end layout a as s at 0 b as s at 2";
 
-const OVERLAPPING: &[u8] =
+pub const OVERLAPPING: &[u8] =
     b"geost 1 dims 1 shape s box 0 size 2 ; object a as s at 0..3 ; object b as s at 0..3 ; rule r : apart ; end layout a as s at 0 b as s at 1";
 
-const OUTSIDE: &[u8] =
+pub const OUTSIDE: &[u8] =
     b"geost 1 dims 1 shape s box 0 size 2 ; object a as s at 0..3 ; object b as s at 0..3 ; rule r : apart ; end layout a as s at 0 b as s at 4";
 
 // A million cells and one from the first to the last.
@@ -77,7 +79,7 @@ const FAR: &[u8] =
 const LAYERS: &[u8] =
     b"geost 1 dims 3 shape u box 0 0 0 size 1 1 1 ; shape v box 0 0 0 size 2 1 2 ; object a as u at -9..9 -9..9 -9..9 ; object b as v at -9..9 -9..9 -9..9 ; end layout a as u at 0 1 -1 b as v at 0 0 0";
 
-const KIND: &[u8] =
+pub const KIND: &[u8] =
     b"geost 1 dims 1 shape s box 0 size 1 ; object a as s at 0..9 ; rule r : 3 < a ; end";
 
 const PRODUCT: &[u8] =
@@ -90,7 +92,7 @@ pub const HOLE: &[u8] =
 const IN_THE_HOLE: &[u8] =
     b"geost 2 dims 1 shape s box 0 size 2 ; object a as s at 0..1,5..6 ; object b as s at 0..1 ; rule r : apart ; end layout a as s at 2 b as s at 0";
 
-const SIX_DIMENSIONS: &[u8] =
+pub const SIX_DIMENSIONS: &[u8] =
     b"geost 2 dims 6 shape u box 0 0 0 0 0 0 size 1 1 1 1 1 1 ; object a as u at 0..1 0..1 0..1 0..1 0..1 0..1 ; object b as u at 0..1 0..1 0..1 0..1 0..1 0..1 ; rule r : apart ; end";
 
 const ROWS: &[Row] = &[
@@ -216,7 +218,8 @@ fn wrong_words(
     Ok(None)
 }
 
-// The first words that have another answer than this one, or for which something of the input is taken.
+// The first words that have another answer than this one, or for which something of the input is
+// taken.
 fn wrong_list(
     alloc: Global,
     lists: &'static [&'static [&'static str]],
@@ -233,7 +236,16 @@ fn wrong_list(
 
 #[test]
 fn words_have_their_answers(rt: HostRuntime) -> Result<(), Fail> {
-    for rows in [ROWS, WRONG_RULES, PAGES, TOKENS] {
+    for rows in [
+        ROWS,
+        WRONG_RULES,
+        PAGES,
+        TOKENS,
+        BEST,
+        BEST_CHECKS,
+        LOADS,
+        CORES,
+    ] {
         let wrong = wrong_words(rt.alloc(), rows)?;
         assert!(rt; wrong.is_none(), "{wrong:?}");
     }
@@ -248,6 +260,7 @@ fn nothing_is_taken_for_words_of_no_form_and_by_make(rt: HostRuntime) -> Result<
         (BAD_WORDS, bad),
         (COUNTS, bad),
         (FORMS, bad),
+        (WORDS, bad),
         (SEEDS, budget),
     ] {
         let wrong = wrong_list(rt.alloc(), lists, answer)?;

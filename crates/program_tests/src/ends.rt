@@ -5,7 +5,8 @@ use geost_run::{Status, run};
 use std::alloc::{AllocError, Global};
 use std::test::Fail;
 
-// What is asked of a run: the greatest piece and the calls that fail, of the source and of the sink.
+// What is asked of a run: the greatest piece and the calls that fail, of the source and of the
+// sink.
 pub type Outside<'a> = ((usize, &'a [u64]), (usize, &'a [u64]));
 
 // Whether the words end so for an input and have this text written.
@@ -23,8 +24,8 @@ pub fn ends(
     Ok(ended == status && sink.bytes() == text)
 }
 
-// The second call of the source fails; the third or the first call of a sink that takes a byte at a time; and no call, with pieces of
-// every size on both sides.
+// The second call of the source fails; the third or the first call of a sink that takes a byte at a
+// time; and no call, with pieces of every size on both sides.
 const ROWS: &[(Outside<'_>, Status, &[u8])] = &[
     (((50, &[2]), (4096, &[])), Status::ReadFault, b""),
     (((100, &[2]), (4096, &[])), Status::ReadFault, b""),

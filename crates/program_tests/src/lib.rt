@@ -16,4 +16,6 @@ mod making;
 #[cfg(test)]
 mod nothing;
 #[cfg(test)]
+mod reach;
+#[cfg(test)]
 mod room;

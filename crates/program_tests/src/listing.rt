@@ -130,8 +130,8 @@ pub const COUNTS: &[&[&str]] = &[
     &["all", "2", "5", "-", "-"],
 ];
 
-// The sink takes one byte at a time. A fault in the first block, at its end, in the second block and in the last line leaves what was
-// written before.
+// The sink takes one byte at a time. A fault in the first block, at its end, in the second block
+// and in the last line leaves what was written before.
 #[test]
 fn a_fault_leaves_a_front_part(rt: HostRuntime) -> Result<(), Fail> {
     let first = FIRST_OF_TWO_BOXES.len();

@@ -4,10 +4,12 @@ use crate::ends::{Outside, ends};
 use geost_run::Status;
 use std::test::Fail;
 
-// Each of the forty objects has two shapes, each of these within six sides; two objects overlap in four pairs of shapes.
+// Each of the forty objects has two shapes, each of these within six sides; two objects overlap in
+// four pairs of shapes.
 pub const BUDGET: &[u8] = b"objects 40\nconditions 3600\nanswer budget\n";
 
-// With the seed 1 the first two objects are 3 by 2 by 2 and 2 by 2 by 2: the second one stands on top of the first.
+// With the seed 1 the first two objects are 3 by 2 by 2 and 2 by 2 by 2: the second one stands on
+// top of the first.
 const LAYOUT: &[u8] = b"objects 40\nconditions 3600\nanswer layout\ntoken 1,0,0,0/1,0,0,2/";
 
 // The problems from these seeds have that summary.

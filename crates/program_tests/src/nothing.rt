@@ -14,7 +14,8 @@ const THREE_IN_TWO: &[u8] =
 const TWO_SHAPES: &[u8] =
     b"geost 1 dims 1 shape u box 0 size 1 ; shape w box 0 size 2 ; object a as u, w at 0..9 ; rule p : a.sid = shape u ; rule q : a.sid = shape w ; end";
 
-// A board of 3 by 3 cells without the one in the middle of an edge, for four boxes of two cells each.
+// A board of 3 by 3 cells without the one in the middle of an edge, for four boxes of two cells
+// each.
 const BOARD: &[u8] =
     b"geost 1 dims 2 shape post box 0 0 size 1 1 ; shape flat box 0 0 size 2 1 ; shape tall box 0 0 size 1 2 ; object p as post at 1..1 0..0 ; object a as flat, tall at 0..2 0..2 ; object b as flat, tall at 0..2 0..2 ; object c as flat, tall at 0..2 0..2 ; object d as flat, tall at 0..2 0..2 ; rule board : within 0..2 0..2 ; rule free : apart ; end";
 
@@ -22,7 +23,8 @@ const BOARD: &[u8] =
 const COMMENTED: &[u8] =
     b"geost 1 dims 1 shape s box 0 size 3 ; object a as s at 0..2 ; rule r : within 0..1 ; end # none, then";
 
-// Whether `none` and a derivation are written, and `check` says yes to them behind the problem and a line feed.
+// Whether `none` and a derivation are written, and `check` says yes to them behind the problem and
+// a line feed.
 fn is_shown(alloc: Global, problem: &[u8]) -> Result<bool, AllocError> {
     let (status, text) = asked(alloc, &["first", "1000"], problem)?;
     let mut both = Vec::from_slice(alloc, problem)?;

@@ -144,7 +144,8 @@ fn are_same(keys: &[Vec<i64>], others: &[Vec<i64>]) -> bool {
     true
 }
 
-/// Whether each layout lies inside what the first settle left, which is dead only where there is none.
+/// Whether each layout lies inside what the first settle left, which is dead only where there is
+/// none.
 fn keeps(given: &Answers, layouts: &[Vec<Put>]) -> bool {
     let Some(state) = &given.state else {
         return layouts.is_empty();

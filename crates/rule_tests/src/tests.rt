@@ -186,7 +186,8 @@ fn rules_give_their_conditions(rt: HostRuntime) -> Result<(), Fail> {
     Ok(())
 }
 
-/// Each macro calls the one before it twice and hands its argument on: as many calls as 2 to the power of 50, and one node.
+/// Each macro calls the one before it twice and hands its argument on: as many calls as 2 to the
+/// power of 50, and one node.
 #[test]
 fn a_tower_of_macros_takes_no_longer_than_its_text(rt: HostRuntime) -> Result<(), Fail> {
     let mut rules = Vec::from_slice(rt.alloc(), b"macro m0(n : int) is n ; ")?;
@@ -198,8 +199,8 @@ fn a_tower_of_macros_takes_no_longer_than_its_text(rt: HostRuntime) -> Result<()
     has(&rt, rt.alloc(), ONE, &rules, "-4 1*x0; ")
 }
 
-/// Each of 80 shapes stays in the rack at two ends of three dimensions, and each two of 40 objects lie apart, whichever of their
-/// two shapes they have: 80 * 6 + 780 * 4.
+/// Each of 80 shapes stays in the rack at two ends of three dimensions, and each two of 40 objects
+/// lie apart, whichever of their two shapes they have: 80 * 6 + 780 * 4.
 #[test]
 fn the_rules_of_made_problems_give_3600_conditions(rt: HostRuntime) -> Result<(), Fail> {
     for seed in [0, 1, 2_147_483_647] {

@@ -14,6 +14,7 @@ use Rattle.command_input.specs.declared.command.Status.TheVariants.{
   ReadFault,
   WriteFault,
   Memory,
+  BadDimension,
 }
 use Rattle.command_reply.specs.Accepted.{IsAccepted}
 use Rattle.command_reply.specs.Question.{IsSound, IsVerdict}
@@ -33,6 +34,7 @@ one_status input t u BadToken r a b = absurd a
 one_status input t u ReadFault r a b = absurd a
 one_status input t u WriteFault r a b = absurd a
 one_status input t u Memory r a b = absurd a
+one_status input t u BadDimension r a b = absurd a
 one_status input t u s _ a b = absurd b
 
 one_text : (input t u : List ℕ) (s : Status) → ShowAnswer input t s → ShowAnswer input u s → (t ≡ u) ⊎ ⊥

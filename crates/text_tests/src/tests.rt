@@ -6,6 +6,7 @@ mod derivations;
 mod drawings;
 mod formulas;
 mod mistakes;
+mod names;
 mod problems;
 mod statements;
 mod streams;

@@ -138,7 +138,8 @@ fn all_open<const K: usize>(alloc: Global, state: &State<K>) -> Result<Vec<Open>
     Ok(all)
 }
 
-/// What is left of the first state of a problem when it is settled, read off a copy; nothing where it is dead.
+/// What is left of the first state of a problem when it is settled, read off a copy; nothing where
+/// it is dead.
 pub fn settled<const K: usize, P: Propagate<K>>(
     alloc: Global,
     problem: &Problem,

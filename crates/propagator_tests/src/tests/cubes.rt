@@ -17,8 +17,8 @@ use std::test::Fail;
 /// How many cubes there are.
 const CUBES: u8 = 30;
 
-/// The text of the problem: cubes of edge 3, whose origins lie in 0 to 10 in each dimension and whose cells so lie in a cube
-/// of edge 13.
+/// The text of the problem: cubes of edge 3, whose origins lie in 0 to 10 in each dimension and
+/// whose cells so lie in a cube of edge 13.
 fn cubes_text(alloc: Global) -> Result<Vec<u8>, AllocError> {
     let mut text = Vec::from_slice(alloc, b"geost 1 dims 3 shape s box 0 0 0 size 3 3 3 ; ")?;
     for i in 0..CUBES {
@@ -29,11 +29,12 @@ fn cubes_text(alloc: Global) -> Result<Vec<u8>, AllocError> {
     Ok(text)
 }
 
-/// Whether the cubes stand in the first layout. There each cube takes the first origin at which it meets none of those
-/// before it, since the layouts are compared cube by cube, and room is left for the others. The first such origins are those
-/// of a grid of edge 3, coordinate by coordinate in 0, 3, 6 and 9: an origin behind the n-th of them and before the next one
-/// lies in the cube of a grid origin that is not behind it, and so is one of the first n. The grid has 64 cubes, which is
-/// room for 30.
+/// Whether the cubes stand in the first layout. There each cube takes the first origin at which it
+/// meets none of those before it, since the layouts are compared cube by cube, and room is left for
+/// the others. The first such origins are those of a grid of edge 3, coordinate by coordinate in 0,
+/// 3, 6 and 9: an origin behind the n-th of them and before the next one lies in the cube of a grid
+/// origin that is not behind it, and so is one of the first n. The grid has 64 cubes, which is room
+/// for 30.
 fn is_first(puts: &[Put]) -> bool {
     for (i, put) in (0..i64::from(CUBES)).zip(puts) {
         let origin = [i / 16 * 3, i / 4 % 4 * 3, i % 4 * 3];

@@ -12,8 +12,8 @@ use problem_data::tree::Side;
 use rule_expand::plain::PlainRule;
 use std::alloc::{AllocError, Global};
 
-/// Where an object is put: its place, from 1, and its origin. The place behind those of its shapes is
-/// that of an absent object.
+/// Where an object is put: its place, from 1, and its origin. The place behind those of its shapes
+/// is that of an absent object.
 pub struct Put {
     pub place: u8,
     pub origin: Vec<i64>,
@@ -263,8 +263,8 @@ pub fn layouts(
     Ok(found)
 }
 
-/// Appends what comes first in a comparison of two tuples: the place, then each coordinate, negated where it is tried from
-/// the high end.
+/// Appends what comes first in a comparison of two tuples: the place, then each coordinate, negated
+/// where it is tried from the high end.
 fn push_key(problem: &Problem, put: &Put, key: &mut Vec<i64>) -> Result<(), AllocError> {
     key.push(i64::from(put.place))?;
     for (x, side) in put.origin.iter().zip(problem.sides()) {
@@ -276,7 +276,8 @@ fn push_key(problem: &Problem, put: &Put, key: &mut Vec<i64>) -> Result<(), Allo
     Ok(())
 }
 
-/// The numbers by which tuples are compared in search order: those of an object that is tried sooner come sooner.
+/// The numbers by which tuples are compared in search order: those of an object that is tried
+/// sooner come sooner.
 fn key_of(alloc: Global, problem: &Problem, puts: &[Put]) -> Result<Vec<i64>, AllocError> {
     let mut key = Vec::new(alloc);
     for o in problem.search_order() {

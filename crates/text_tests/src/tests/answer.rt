@@ -33,7 +33,8 @@ enum Part {
     Problem,
     /// The version of the problem, and behind it of each object the pieces of each of its ranges.
     Pieces,
-    /// What is wrong with the names of these statements, in a problem of a shape `s` and an object `a`.
+    /// What is wrong with the names of these statements, in a problem of a shape `s` and an object
+    /// `a`.
     Mistake,
 }
 

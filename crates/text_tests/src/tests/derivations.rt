@@ -20,7 +20,8 @@ fn table(alloc: Global) -> Result<Names, AllocError> {
     Ok(names)
 }
 
-/// The lines of the derivation that stands at the place 100 of an input and comes in pieces of this size.
+/// The lines of the derivation that stands at the place 100 of an input and comes in pieces of this
+/// size.
 fn lines(alloc: Global, names: &Names, text: &[u8], size: usize) -> Result<Vec<u8>, TextFault> {
     let mut log = Log::new(alloc);
     let mut feeder = Feeder::start(alloc, names, 100);

@@ -1,4 +1,5 @@
-//! Formulas and their expressions with the tokens they end at, the faults and the places that the format says.
+//! Formulas and their expressions with the tokens they end at, the faults and the places that the
+//! format says.
 
 /// Texts with the number of the token behind their formula, or the first wrong token.
 pub const FORMULAS: &[(&[u8], &str)] = &[

@@ -28,7 +28,8 @@ pub const NAMES: &[(&[u8], &str)] = &[
     ),
 ];
 
-/// Statements with a name of another kind, with too few arguments, or with a field that is not known.
+/// Statements with a name of another kind, with too few arguments, or with a field that is not
+/// known.
 pub const KINDS: &[(&[u8], &str)] = &[
     (b"rule r : a <= 4 ;", "At(71, Kind)"),
     (

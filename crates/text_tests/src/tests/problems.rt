@@ -1,4 +1,5 @@
-//! Problems that are read, the first faults that the format gives for whole texts, and canonical texts.
+//! Problems that are read, the first faults that the format gives for whole texts, and canonical
+//! texts.
 
 /// Texts with the canonical one, or the first fault.
 pub const PROBLEMS: &[(&[u8], &str)] = &[

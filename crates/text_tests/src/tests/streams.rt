@@ -39,7 +39,8 @@ impl<T: Write> Write for Halting<T> {
     }
 }
 
-/// Whether calls give these numbers of bytes, or none where they fail, and leave these bytes in the buffer.
+/// Whether calls give these numbers of bytes, or none where they fail, and leave these bytes in the
+/// buffer.
 fn gives<S: Source>(source: &mut S, into: &mut [u8], rows: &[(Option<usize>, &[u8])]) -> bool {
     for (count, wanted) in rows {
         let found = source.take(into).ok();
@@ -75,7 +76,8 @@ fn a_clean_source_gives_its_bytes(rt: HostRuntime) -> Result<(), Fail> {
     Ok(())
 }
 
-/// Whether the pieces are written whole, where that is wanted, and fail otherwise, but not for want of memory.
+/// Whether the pieces are written whole, where that is wanted, and fail otherwise, but not for want
+/// of memory.
 fn writes<W: Sink>(sink: &mut W, rows: &[(&[u8], bool)]) -> bool {
     for (piece, wanted) in rows {
         let done = match write_all_bytes(sink, piece) {
