@@ -7,6 +7,9 @@ of the processor and the signal that stand before it in x86-64's `main`.
 Each pointer in memory keeps its eight bytes: it is stored as a number of 64 bits and read back from
 one, so sizes and places of everything stay what they are. Any line that would lay a pointer out in
 another way stops the rewriting.
+
+The one instruction of x86-64 that the module names, which takes bytes by their places, becomes a
+function of the module; any other stops the rewriting.
 """
 
 from __future__ import annotations
@@ -18,6 +21,11 @@ from dataclasses import dataclass
 LAYOUT = "e-m:e-p:32:32-p10:8:8-p20:8:8-i64:64-i128:128-n32:64-S128-ni:1:10:20"
 TRIPLE = "wasm32-unknown-unknown"
 ENTRY = '"geost_cli::main+start"'
+# what the libraries of the program ask x86-64 for: bytes by their places
+OF_X86 = "@llvm.x86."
+BY_PLACES = "@llvm.x86.ssse3.pshuf.b.128"
+BYTES_BY_PLACES = "@bytes_by_places"
+BYTES = 16
 CONSTANT = r"(?:getelementptr \(i8, ptr @[\w.]+, i64 -?\d+\)|@[\w.]+|@\"[^\"]*\"|null)"
 VALUE = rf"(?:%[\w.]+|{CONSTANT})"
 PLACE = r"ptr (\S+), align (\d+)"
@@ -54,15 +62,21 @@ def stored_pointer(it: re.Match[str], number: int) -> list[str]:
 
 
 def loaded_pair(it: re.Match[str], number: int) -> list[str]:
-    """A byte and a pointer, which lies eight bytes behind it."""
-    name, place, align = it[1], it[2], it[3]
+    """A byte or a pointer, and a pointer, which lies eight bytes behind it."""
+    name, kind, place, align = it[1], it[2], it[3], it[4]
+    first = [f"  {name}.first = load i8, ptr {place}, align {align}"]
+    if kind == "ptr":
+        first = [
+            f"  {name}.low = load i64, ptr {place}, align {align}",
+            f"  {name}.first = inttoptr i64 {name}.low to ptr",
+        ]
     return [
-        f"  {name}.first = load i8, ptr {place}, align {align}",
+        *first,
         f"  {name}.place = getelementptr i8, ptr {place}, i64 8",
         f"  {name}.wide = load i64, ptr {name}.place, align 8",
         f"  {name}.second = inttoptr i64 {name}.wide to ptr",
-        f"  {name}.half = insertvalue {{ i8, ptr }} undef, i8 {name}.first, 0",
-        f"  {name} = insertvalue {{ i8, ptr }} {name}.half, ptr {name}.second, 1",
+        f"  {name}.half = insertvalue {{ {kind}, ptr }} undef, {kind} {name}.first, 0",
+        f"  {name} = insertvalue {{ {kind}, ptr }} {name}.half, ptr {name}.second, 1",
     ]
 
 
@@ -92,7 +106,7 @@ def as_it_stands(it: re.Match[str], number: int) -> list[str]:
 STEPS = [
     Step(re.compile(rf"  (%[\w.]+) = load ptr, {PLACE}(?:, !noundef ![0-9]+)?"), loaded_pointer),
     Step(re.compile(rf"  store ptr ({VALUE}), {PLACE}"), stored_pointer),
-    Step(re.compile(rf"  (%[\w.]+) = load {{ i8, ptr }}, {PLACE}(?:, .*)?"), loaded_pair),
+    Step(re.compile(rf"  (%[\w.]+) = load {{ (i8|ptr), ptr }}, {PLACE}(?:, .*)?"), loaded_pair),
     Step(re.compile(r"  (%[\w.]+) = alloca ptr, align (\d+)"), own_place),
     Step(
         re.compile(
@@ -102,20 +116,48 @@ STEPS = [
     ),
     Step(re.compile(r"  (%[\w.]+) = ptrtoaddr ptr (\S+) to i64"), address),
     # the number of such a pair has its place already, and the pointer the first half of its own
-    Step(re.compile(r"  %[\w.]+ = load \{ ptr, i64 \}, ptr \S+, align \d+.*"), as_it_stands),
+    Step(
+        re.compile(r"  %[\w.]+ = load \{ (?:ptr, i64|i64, ptr) \}, ptr \S+, align \d+.*"),
+        as_it_stands,
+    ),
 ]
+NAME = re.compile(r'"[^"]*"')
 POINTER_IN_MEMORY = re.compile(
     r"\b(?:load|store)\b.*\bptr\b.*, ptr |alloca .*ptr|\[\d+ x ptr\]|(?:inttoptr|ptrtoint) "
 )
 
 
+def bytes_by_places() -> list[str]:
+    """A function as that instruction: byte i is the one at place i's low half, or 0 where the place
+    is negative."""
+    lines = [f"define internal <16 x i8> {BYTES_BY_PLACES}(<16 x i8> %from, <16 x i8> %places) {{"]
+    before = "zeroinitializer"
+    for i in range(BYTES):
+        lines += [
+            f"  %place.{i} = extractelement <16 x i8> %places, i32 {i}",
+            f"  %low.{i} = and i8 %place.{i}, {BYTES - 1}",
+            f"  %byte.{i} = extractelement <16 x i8> %from, i8 %low.{i}",
+            f"  %none.{i} = icmp slt i8 %place.{i}, 0",
+            f"  %one.{i} = select i1 %none.{i}, i8 0, i8 %byte.{i}",
+            f"  %all.{i} = insertelement <16 x i8> {before}, i8 %one.{i}, i32 {i}",
+        ]
+        before = f"%all.{i}"
+    return [*lines, f"  ret <16 x i8> {before}", "}"]
+
+
 def rewritten_line(line: str, number: int) -> list[str]:
     """A line of a function."""
+    if OF_X86 in line:
+        line = line.replace(f"{BY_PLACES}(", f"{BYTES_BY_PLACES}(")
+        if OF_X86 in line:
+            raise UnknownLine(f"an instruction of x86-64: {line}")
+        return [line]
     for step in STEPS:
         match = step.form.fullmatch(line)
         if match:
             return step.make(match, number)
-    if POINTER_IN_MEMORY.search(line):
+    # (a name may have the words of an instruction in it)
+    if POINTER_IN_MEMORY.search(NAME.sub("", line)):
         raise UnknownLine(f"a pointer in memory: {line}")
     return [line]
 
@@ -137,6 +179,8 @@ def rewritten_constant(line: str) -> str:
 
 def rewritten_head(line: str) -> str:
     """A line outside of functions and constants."""
+    if line.startswith("declare ") and f" {BY_PLACES}(" in line:
+        return "\n".join(bytes_by_places())
     if line.startswith("target datalayout"):
         return f'target datalayout = "{LAYOUT}"'
     if line.startswith("target triple"):

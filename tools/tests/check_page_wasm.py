@@ -1,5 +1,6 @@
 """What stands under the program in the page: lines of the LLVM module are rewritten as they have to
-be or stop the rewriting, and numbers of 128 bits are multiplied and shifted as Python does it."""
+be or stop the rewriting, numbers of 128 bits are multiplied and shifted as Python does it, and
+bytes are taken by their places as x86-64 takes them."""
 
 from __future__ import annotations
 
@@ -49,16 +50,38 @@ LINES = [
             "  call void @llvm.memmove.p0.p0.i32(ptr %a, ptr %b, i32 %length.7, i1 false)",
         ],
     ),
+    (
+        "  %a = load { ptr, ptr }, ptr %b, align 8",
+        [
+            "  %a.low = load i64, ptr %b, align 8",
+            "  %a.first = inttoptr i64 %a.low to ptr",
+            "  %a.place = getelementptr i8, ptr %b, i64 8",
+            "  %a.wide = load i64, ptr %a.place, align 8",
+            "  %a.second = inttoptr i64 %a.wide to ptr",
+            "  %a.half = insertvalue { ptr, ptr } undef, ptr %a.first, 0",
+            "  %a = insertvalue { ptr, ptr } %a.half, ptr %a.second, 1",
+        ],
+    ),
+    (
+        "  %a = load { i64, ptr }, ptr %b, align 8",
+        ["  %a = load { i64, ptr }, ptr %b, align 8"],
+    ),
+    # (the words of an instruction in a name are none)
+    (
+        '  call void @"a::load::b::store"(ptr %a, ptr %b)',
+        ['  call void @"a::load::b::store"(ptr %a, ptr %b)'],
+    ),
     ("  %a = add i64 %b, 1", ["  %a = add i64 %b, 1"]),
     ("  %a = load i64, ptr %b, align 8", ["  %a = load i64, ptr %b, align 8"]),
 ]
 UNKNOWN = [
-    "  %a = load { ptr, ptr }, ptr %b, align 8",
+    "  %a = load { ptr, i8 }, ptr %b, align 8",
     "  store { i8, ptr } %a, ptr %b, align 8",
     "  %a = alloca { ptr, i64 }, align 8",
     "  %a = alloca [4 x ptr], align 8",
     "  %a = inttoptr i64 %b to ptr",
     "  %a = ptrtoint ptr %b to i32",
+    "  %a = call <16 x i8> @llvm.x86.ssse3.psign.b.128(<16 x i8> %b, <16 x i8> %c)",
 ]
 
 
@@ -151,6 +174,66 @@ def check_numbers(folder: Path) -> None:
         want(int(high) * 2**64 + int(low), wanted_of(name, one, other), f"{name} {one} {other}")
 
 
+# the function of bytes by their places, called on halves as tests/try_numbers.js calls
+BYTES = """@answer = global [16 x i8] zeroinitializer, align 16
+define ptr @place() {
+  ret ptr @answer
+}
+define void @bytes(i64 %a, i64 %b, i64 %c, i64 %d) {
+  %half.from = insertelement <2 x i64> zeroinitializer, i64 %a, i32 0
+  %whole.from = insertelement <2 x i64> %half.from, i64 %b, i32 1
+  %from = bitcast <2 x i64> %whole.from to <16 x i8>
+  %half.places = insertelement <2 x i64> zeroinitializer, i64 %c, i32 0
+  %whole.places = insertelement <2 x i64> %half.places, i64 %d, i32 1
+  %places = bitcast <2 x i64> %whole.places to <16 x i8>
+  %all = call <16 x i8> @llvm.x86.ssse3.pshuf.b.128(<16 x i8> %from, <16 x i8> %places)
+  store <16 x i8> %all, ptr @answer, align 16
+  ret void
+}
+declare <16 x i8> @llvm.x86.ssse3.pshuf.b.128(<16 x i8>, <16 x i8>)
+"""
+
+
+def module_of_bytes(folder: Path) -> Path:
+    """That text, rewritten line by line, as a module."""
+    made = [
+        "\n".join(retargeting.rewritten_line(line, number))
+        if line.startswith("  ")
+        else retargeting.rewritten_head(line)
+        for number, line in enumerate(BYTES.splitlines())
+    ]
+    text, part, module = folder / "bytes.ll", folder / "bytes.o", folder / "bytes.wasm"
+    text.write_text("\n".join(made))
+    words = [str(CLANG), *TARGET, "-Wno-override-module", "-x", "ir", "-c", str(text)]
+    subprocess.run([*words, "-o", str(part)], check=True)
+    linker = folder / "bytes-wasm-ld" / "wasm-ld"
+    linker.parent.mkdir()
+    linker.symlink_to(CLANG)
+    subprocess.run([str(linker), *LINKED, "-o", str(module), str(part)], check=True)
+    return module
+
+
+def bytes_by_places(one: int, places: int) -> int:
+    """What x86-64 says: a byte for each place, 0 where its highest bit is set."""
+    source = one.to_bytes(16, "little")
+    taken = [0 if place > 127 else source[place % 16] for place in places.to_bytes(16, "little")]
+    return int.from_bytes(taken, "little")
+
+
+def check_bytes(folder: Path) -> None:
+    needed("node", shutil.which("node") is not None)
+    needed("the Rattle kit", CLANG.exists())
+    chance = random.Random("bytes")
+    asked = [(chance.getrandbits(128), chance.getrandbits(128)) for _ in range(NUMBERS)]
+    given = [{"name": "bytes", "one": halves(one), "other": halves(two)} for one, two in asked]
+    file = folder / "bytes.json"
+    file.write_text(json.dumps({"module": str(module_of_bytes(folder)), "asked": given}))
+    driver = str(TOOLS / "tests" / "try_numbers.js")
+    done = subprocess.run(["node", driver, str(file)], stdout=subprocess.PIPE, check=True)
+    for (one, two), (low, high) in zip(asked, json.loads(done.stdout), strict=True):
+        want(int(high) * 2**64 + int(low), bytes_by_places(one, two), f"bytes {one} {two}")
+
+
 def make_module(top: Path, output: Path) -> str:
     """What the script says that makes the module of a checkout."""
     words = [str(PAGE / "wasm"), "--repository", str(top), str(output)]
@@ -220,3 +303,4 @@ def cases(setting: Setting, folder: Path) -> Cases:
     yield Case("page module: lines that are not known", check_unknown)
     yield Case("page module: its origin", check_origin)
     yield Case("page module: numbers of 128 bits", lambda: check_numbers(own))
+    yield Case("page module: bytes by their places", lambda: check_bytes(own))
