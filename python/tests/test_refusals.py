@@ -248,6 +248,12 @@ def test_layouts_of_places() -> None:
     judged(plan, wide, "limit", line() - 1)
 
 
+def test_json() -> None:
+    """What is built here is never refused so: the word is of texts in JSON alone."""
+    told = problem().program.ask(["from_json"], b"{")
+    assert (told.status, told.text) == (2, "refused 0 json\n")
+
+
 def test_these_are_all_words() -> None:
     """Each word of the lists has its test here."""
     listed = {word for row in format_rows()[Kind.PROBLEM] for word in row.words}

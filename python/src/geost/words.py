@@ -4,18 +4,54 @@ from __future__ import annotations
 
 import difflib
 import re
+from dataclasses import dataclass
 from pathlib import Path
 
 from geost.files import text_of
 
-COMMANDS = ("first", "all", "judge", "check", "show", "draw", "make")
-LARGEST = 10**12
+
+@dataclass(frozen=True)
+class Counted:
+    """A number among the words: its letter in docs/FORMAT.md, its bounds, and a usual one."""
+
+    letter: str
+    least: int
+    most: int
+    usual: int
+
+    def outside(self, value: int) -> str:
+        if self.letter == "D":
+            return f"a dimension is {self.least} to {self.most}: write {self.usual} for the first"
+        if value > self.most:
+            return f"{value} is above {self.most}: write a lesser number"
+        return f"the number is {self.least} at least: write {self.usual} to begin with"
+
+
+STEPS = Counted("N", 1, 10**12, 1000)
+DIMENSION = Counted("D", 1, 6, 1)
+NUMBERS = {
+    "first": (STEPS,),
+    "all": (Counted("C", 1, 10**6, 10), STEPS),
+    "judge": (),
+    "check": (),
+    "show": (),
+    "draw": (),
+    "make": (Counted("SEED", 0, 2**31 - 1, 1), Counted("N", 1, 10**12, 160)),
+    "best": (DIMENSION, STEPS),
+    "check_best": (DIMENSION, Counted("E", -2_000_000, 3_000_000, 10)),
+    "load": (DIMENSION,),
+    "why": (STEPS,),
+    "to_json": (),
+    "from_json": (),
+    "first_json": (STEPS,),
+}
+COMMANDS = tuple(NUMBERS)
 
 
 def known_forms() -> list[str]:
     """The forms of the words that docs/FORMAT.md gives."""
     document = text_of("docs/FORMAT.md")
-    return list(dict.fromkeys(re.findall(r"`(geost [a-z]+(?: [A-Z]+)*)`", document)))
+    return list(dict.fromkeys(re.findall(r"`(geost [a-z_]+(?: [A-Z]+)*)`", document)))
 
 
 def explain_words(words: list[str] | None) -> list[str]:
@@ -66,30 +102,28 @@ def is_file_like(word: str) -> bool:
 
 
 def in_place_of_numbers(command: str, given: list[str]) -> list[str]:
-    wanted = {"first": ["N"], "all": ["C", "N"], "make": ["SEED", "N"]}.get(command, [])
-    told = [line for word in given[: len(wanted)] for line in in_place_of_number(word, command)]
+    wanted = NUMBERS[command]
+    told = [line for word, one in zip(given, wanted) for line in in_place_of_number(word, one)]
     if len(given) < len(wanted):
-        usual = {"first": "1000", "all": "10 1000", "make": "1 160"}[command]
-        form = " ".join([command, *wanted])
-        told.append(f"a number is missing: write `{command} {usual}` for `{form}`")
+        usual = " ".join([command, *(str(one.usual) for one in wanted)])
+        form = " ".join([command, *(one.letter for one in wanted)])
+        told.append(f"a number is missing: write `{usual}` for `{form}`")
     elif len(given) > len(wanted) + (command == "all"):
         fewer = " ".join([command, *given[: len(wanted)]])
         told.append(f"there is a word too many: write `{fewer}`")
     return told
 
 
-def in_place_of_number(word: str, command: str) -> list[str]:
-    """What to write in place of a word that is no number from 1 to LARGEST. The seed of `make` and
-    the second number of `all` have bounds of their own, which the forms say."""
+def in_place_of_number(word: str, wanted: Counted) -> list[str]:
+    """What to write in place of a word that is no number within the bounds."""
+    sign = -1 if wanted.least < 0 and word.startswith("-") else 1
     value = number_meant(word)
     if value is None:
-        return [f"`{word}` is no number: write digits alone, such as 1000"]
-    if str(value) != word:
-        return [f"numbers are written as digits alone: write {value} in place of `{word}`"]
-    if value > LARGEST:
-        return [f"{word} is above {LARGEST}: write a lesser number"]
-    if value == 0 and command != "make":
-        return ["the number is 1 at least: write 1000 to begin with"]
+        return [f"`{word}` is no number: write digits alone, such as {wanted.usual}"]
+    if str(sign * value) != word:
+        return [f"numbers are written as digits alone: write {sign * value} in place of `{word}`"]
+    if not wanted.least <= sign * value <= wanted.most:
+        return [wanted.outside(sign * value)]
     return []
 
 
