@@ -7,7 +7,7 @@ from __future__ import annotations
 
 import itertools
 import operator
-from dataclasses import dataclass, field
+from dataclasses import dataclass, field, replace
 from typing import Callable, Iterator
 
 from geost.text import (
@@ -272,8 +272,11 @@ def places(problem: Problem, name: str) -> Iterator[Placed]:
             yield Placed(name, shape, origin)
 
 
-def first_layout(problem: Problem, most: int = 1_000_000) -> list[Placed] | None:
-    """The first layout in the stated order, or None where there is none. It gives up after so many places that were tried."""
+def first_layout(
+    problem: Problem, most: int = 1_000_000, is_wanted: Callable[[Placed], bool] = lambda place: True
+) -> list[Placed] | None:
+    """The first layout in the stated order whose places are all wanted, or None where there is none.
+    It gives up after so many places that were tried."""
     order = problem.search_order()
     tried = 0
 
@@ -281,7 +284,7 @@ def first_layout(problem: Problem, most: int = 1_000_000) -> list[Placed] | None
         return all(rule_holds(plan, rule) is not False for rule in problem.rules)
 
     # a place at which an object breaks a rule by itself is no place at all
-    alone = {name: [place for place in places(problem, name) if fits(Plan(problem, {name: place}))] for name in order}
+    alone = {name: [place for place in places(problem, name) if is_wanted(place) and fits(Plan(problem, {name: place}))] for name in order}
 
     def extend(placed: dict[str, Placed]) -> dict[str, Placed] | None:
         nonlocal tried
@@ -301,3 +304,67 @@ def first_layout(problem: Problem, most: int = 1_000_000) -> list[Placed] | None
 
     found = extend({})
     return None if found is None else [found[thing.name] for thing in problem.objects]
+
+
+def last_end(problem: Problem, layout: list[Placed], dimension: int) -> int | None:
+    """The first number behind all cells of a layout in a dimension, from 1; None without a cell."""
+    cells = [cell for placed in layout for cell in cells_of(problem, placed)]
+    return max((cell[dimension - 1] + 1 for cell in cells), default=None)
+
+
+def least_extent(
+    problem: Problem, dimension: int, most: int = 1_000_000
+) -> tuple[int | None, list[Placed]] | None:
+    """The layout that ends first in a dimension, from 1, and where it ends; of several the first in
+    the stated order. None where there is no layout."""
+    best = None
+    layout = first_layout(problem, most)
+    while layout is not None:
+        end = last_end(problem, layout, dimension)
+        best = (end, layout)
+        if end is None:
+            break
+        bound: int = end
+
+        def ends_before(place: Placed, bound: int = bound) -> bool:
+            return all(cell[dimension - 1] + 1 < bound for cell in cells_of(problem, place))
+
+        layout = first_layout(problem, most, ends_before)
+    return best
+
+
+def loading(problem: Problem, layout: list[Placed], dimension: int) -> tuple[str, list[str]]:
+    """`order` and the names in the first sequence in which the objects of a layout can go in along
+    a dimension, from 1, from its high side; or `cycle` and names that block one another."""
+    cells = {one.name: cells_of(problem, one) for one in layout if not one.is_absent}
+    at = dimension - 1
+
+    def blocks(name: str, other: str) -> bool:
+        return name != other and any(
+            mine[at] >= theirs[at] and mine[:at] + mine[at + 1 :] == theirs[:at] + theirs[at + 1 :]
+            for mine in cells[name]
+            for theirs in cells[other]
+        )
+
+    left, order = list(cells), []
+    while left:
+        free = next((name for name in left if not any(blocks(name, other) for other in left)), None)
+        if free is None:
+            path = [left[0]]
+            while path[-1] not in path[:-1]:
+                path.append(next(other for other in left if blocks(path[-1], other)))
+            return "cycle", path[path.index(path[-1]) : -1]
+        order.append(free)
+        left.remove(free)
+    return "order", order
+
+
+def core(problem: Problem, most: int = 1_000_000) -> list[str]:
+    """The names of rules that refuse together: each rule in turn is left out, and stays out where
+    there is still no layout. The problem has none."""
+    left = list(problem.rules)
+    for rule in problem.rules:
+        fewer = [other for other in left if other is not rule]
+        if first_layout(replace(problem, rules=tuple(fewer)), most) is None:
+            left = fewer
+    return [rule.name for rule in left]

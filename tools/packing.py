@@ -54,9 +54,9 @@ def kit_folder() -> Path:
 
 
 def licence_members(kit: Path) -> Iterator[Member]:
-    """The licences that the kit has of the crates which NOTICES names."""
+    """The licences that the kit has of the crates which NOTICES says are made after others."""
     notices = (TOP / "NOTICES.md").read_text(encoding="utf-8")
-    for crate in re.findall(r"^- `(\w+)`", notices, re.MULTILINE):
+    for crate in re.findall(r"^- `(\w+)`,.* after ", notices, re.MULTILINE):
         found = sorted((kit / "rattle" / crate).glob("LICENSE*"))
         if not found:
             raise NoRelease(f"the kit has no licence of {crate}")

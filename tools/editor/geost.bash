@@ -4,18 +4,20 @@
 _geost_next() { # the words behind `geost`, without the one that is completed
   local steps="100 1000 10000 100000 1000000"
   case $# in
-  0) echo "first all judge check show draw make spread help prove --version --program --proved" ;;
+  0) echo "first all judge check best check_best why load to_json from_json first_json show draw make spread help prove --version --program --proved" ;;
   1)
     case $1 in
-    first) echo "$steps" ;;
+    first | why | first_json) echo "$steps" ;;
     all) echo "10 100 1000" ;;
     make) echo "0 1 2147483647" ;;
+    best | check_best | load) echo "1 2 3" ;;
     esac
     ;;
   2)
     case $1 in
-    all) echo "$steps" ;;
+    all | best) echo "$steps" ;;
     make) echo "8 160 100000" ;;
+    check_best) echo "1 10 100" ;;
     esac
     ;;
   esac

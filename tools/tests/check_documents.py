@@ -1,8 +1,8 @@
 """Each problem that stands in a document runs, and its answer is the one that stands under it.
 
 A document's blocks are fenced. `geost` is a problem, which holds until the next one. Under it
-stand, in any number: `text first N`, what that prints; `text plan`, a layout, and then `text
-judged`, its verdict; `text explained WORDS`, what tools/explain prints for a command over the
+stand, in any number: `text first N`, what that prints; `text best D N` and `text why N`, how
+that begins; `text plan`, a layout, and then `text judged`, its verdict, or `text load D`, its sequence; `text explained WORDS`, what tools/explain prints for a command over the
 problem (and the plan); `text rows N`, the table of its first layout. `text table SPACE` is a table
 whose problem stands in the document too. Answers and verdicts are also those of the second meaning.
 """
@@ -80,6 +80,21 @@ def check_snippet(setting: Setting, snippet: Snippet, folder: Path) -> None:
             answer = setting.program.ask(["first", steps], snippet.problem.encode())
             want(snippet.block.text, answer.text, "the answer")
             check_first(snippet)
+        case ("text", "best", dimension, steps):
+            answer = setting.program.ask(["best", dimension, steps], snippet.problem.encode())
+            want(answer.text[: len(snippet.block.text)], snippet.block.text, "the answer")
+            check_best(snippet, int(dimension))
+        case ("text", "why", steps):
+            answer = setting.program.ask(["why", steps], snippet.problem.encode())
+            want(answer.text[: len(snippet.block.text)], snippet.block.text, "the answer")
+            check_why(snippet)
+        case ("text", "load", dimension):
+            text = snippet.problem + snippet.plan
+            answer = setting.program.ask(["load", dimension], text.encode())
+            want(snippet.block.text, answer.text, "the sequence")
+            problem, plan = read_problem(snippet.problem.encode()), read_layout(snippet.plan.encode())
+            word, names = oracle.loading(problem, plan, int(dimension))
+            want(snippet.block.text, "\n".join([word, *names, ""]), "that of the second meaning")
         case ("text", "judged"):
             verdict = setting.program.judge(snippet.problem, snippet.plan)
             want(snippet.block.text, verdict.text, "the verdict")
@@ -113,6 +128,21 @@ def check_first(snippet: Snippet) -> None:
     found = oracle.first_layout(read_problem(snippet.problem.encode()), MOST_PLACES)
     wanted = "none\n" if found is None else print_layout(found)
     want(first_of(snippet.block.text), wanted, "the first layout by a listing")
+
+
+def check_best(snippet: Snippet, dimension: int) -> None:
+    best = oracle.least_extent(read_problem(snippet.problem.encode()), dimension, MOST_PLACES)
+    end, layout = best if best is not None else (None, [])
+    wanted = f"best {end}\n{print_layout(layout)}"
+    want(snippet.block.text[: len(wanted)], wanted, "the least extent by a listing")
+
+
+def check_why(snippet: Snippet) -> None:
+    """The rules by a listing: with all that are left there is none, and without each the one that
+    is printed is a layout."""
+    problem = read_problem(snippet.problem.encode())
+    lines = oracle.core(problem, MOST_PLACES)
+    want([line.split()[1] for line in snippet.block.text.splitlines() if line.startswith("rule ")], lines, "the rules")
 
 
 def check_rows(setting: Setting, snippet: Snippet, steps: str, folder: Path) -> None:

@@ -264,8 +264,10 @@ def check_help(setting: Setting) -> None:
     """The script answers `help`, which names each command, and the version."""
     printed = [run_script(word) for word in ("help", "--help", "-h")]
     want(printed, [printed[0]] * 3, "what help prints")
-    named = set(re.findall(r"geost ([a-z]+)", printed[0])) - {"help", "places", "prove"}
-    commands = {"first", "all", "judge", "check", "draw", "show", "make", "spread"}
+    named = set(re.findall(r"geost ([a-z_]+)", printed[0])) - {"help", "places", "prove"}
+    searches = {"first", "all", "best", "make", "spread", "why"}
+    commands = searches | {"judge", "check", "check_best", "draw", "load", "show"}
+    commands |= {"to_json", "from_json", "first_json"}
     want(named, commands, "commands of the help")
     version = (TOP / "VERSION").read_text().strip()
     want(run_script("--version").splitlines()[0], f"geost {version}", "the version")
