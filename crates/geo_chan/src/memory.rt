@@ -54,12 +54,14 @@ impl Source for MemSource {
     ghost use Rattle.std.specs.Prelude.{IsErr, is_err, ◌↔◌, ◌-◌};
     ghost use Rattle.std.specs.Io.{ReadsAtMost};
     ghost use Rattle.std.specs.Io.KnownBytes.{ReadConsumes};
-    ghost use Rattle.geo_chan.specs.Causes.{TakeCause};
+    ghost use Rattle.geo_chan.specs.Causes.{CountsTaken, TakeCause};
     ghost use Rattle.geo_chan.specs.Calls.{source_plan, FailsNext, after_call};
 
     ghost left = { λ s. Some (drop s.at s.bytes.items) };
 
     ghost faults = { λ s. s.faults };
+
+    ghost taken = { λ s. s.at };
 
     fn take(&mut self, into: &mut [u8]) -> Result<usize, Failed>
         ensures bound { ReadsAtMost result into.new }
@@ -67,6 +69,8 @@ impl Source for MemSource {
             (⟦<MemSource as Source>⟧.left self.new) result into.new }
         ensures cause { TakeCause (⟦<MemSource as Source>⟧.faults self.old)
             (⟦<MemSource as Source>⟧.faults self.new) result }
+        ensures counts { CountsTaken (⟦<MemSource as Source>⟧.taken self.old)
+            (⟦<MemSource as Source>⟧.taken self.new) result }
 
         // Exactly the chosen calls fail; any other gives as many bytes as the piece, the buffer and the rest allow.
         ensures fails { IsErr result ↔ FailsNext (source_plan self.old) }

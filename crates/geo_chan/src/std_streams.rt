@@ -1,18 +1,23 @@
 //! A source over any reader of std and a sink over any writer: the edge to the outside.
 ghost use Rattle.std.specs.Prelude.{◌≡◌, ◌+◌, ◌<◌, ◌≤◌, Option, Some, List, [], ℕ, length, drop, IfOk, true};
 ghost use Rattle.geo_chan.specs.Answers.{IsTaken, IsPut};
-ghost use Rattle.geo_chan.specs.Causes.{TakeCause, PutCause, StaysQuiet};
+ghost use Rattle.geo_chan.specs.Causes.{CountsTaken, TakeCause, PutCause, StaysQuiet};
 
 use crate::{Failed, PutFault, Sink, Source};
 use std::io::{self, Read, Write};
 
-/// What a reader's answer says: a count, also that of the end of the input, or a fault, which is counted.
-fn taken(answer: io::Result<usize>, faults: &mut u64) -> Result<usize, Failed>
+/// What a reader's answer says: a count, also that of the end of the input, or a fault. Bytes and
+/// faults are counted.
+fn taken(answer: io::Result<usize>, handed: &mut u64, faults: &mut u64) -> Result<usize, Failed>
     ensures answer { IsTaken answer faults.old faults.new result }
     ensures cause { TakeCause faults.old faults.new result }
+    ensures counts { CountsTaken handed.old handed.new result }
 {
     match answer {
-        Ok(count) => Ok(count),
+        Ok(count) => {
+            *handed = handed.saturating_add(count as u64);
+            Ok(count)
+        }
         Err(_) => {
             *faults = faults.saturating_add(1);
             Err(Failed)
@@ -39,16 +44,22 @@ fn put(answer: io::Result<usize>, faults: &mut u64) -> Result<usize, PutFault>
 #[derive(Drop)]
 pub struct StdSource<R: Read> {
     inner: R,
+    handed: u64,
     faults: u64,
 }
 
 impl<R: Read> StdSource<R> {
-    /// A source over a reader, with no fault so far.
+    /// A source over a reader, which has handed on nothing and has had no fault so far.
     pub fn new(inner: R) -> Self
         ensures left { ⟦<StdSource<R> as Source>⟧.left result ≡ R.remaining inner }
         ensures faults { ⟦<StdSource<R> as Source>⟧.faults result ≡ 0 }
+        ensures taken { ⟦<StdSource<R> as Source>⟧.taken result ≡ 0 }
     {
-        StdSource { inner, faults: 0 }
+        StdSource {
+            inner,
+            handed: 0,
+            faults: 0,
+        }
     }
 }
 
@@ -57,9 +68,11 @@ impl<R: Read> Source for StdSource<R> {
 
     ghost faults = { λ s. s.faults };
 
+    ghost taken = { λ s. s.handed };
+
     fn take(&mut self, into: &mut [u8]) -> Result<usize, Failed> {
         let answer = self.inner.read(into);
-        taken(answer, &mut self.faults)
+        taken(answer, &mut self.handed, &mut self.faults)
     }
 }
 
