@@ -5,6 +5,7 @@ use Rattle.std.proofs.lemmas.List.{take-append-le}
 use Rattle.std.specs.Prelude.{Option, None, Some}
 use Rattle.std.specs.Io.KnownBytes.{Consumes, IsAtEnd, Keeps}
 use Rattle.command_input.specs.Reading.{IsReadFrom, AreReadFrom, TakesAtMost, ReadsUpTo, ReadsOn}
+use Rattle.geo_chan.specs.Causes.{with_more}
 use Rattle.geo_tokens.specs.FirstEnd.{IsFirstEnd}
 use Rattle.command_input.proofs.FrontEnds.{end-back}
 
@@ -109,6 +110,25 @@ pub ended_most : (most : ℕ) (a b c : Option (List ℕ)) (old text into : List 
 ended_most most a b c old text into n h k zero =
     let none : take n into ≡ [] = rw zero refl in
     (h.more, taken_then a b c h.more (take n into) h.more h.taken k (sym (ap (λ t. h.more ++ t) none ∙ append-nil h.more)), h.short)
+
+-- ---- what the source counts
+
+-- so many more, or fewer where the count stands at its last value
+pub few_more : (b c n : ℕ) → c ≡ with_more b n → c ≤ b + n
+few_more b c n e = grind (arith, common_steps, e)
+
+-- a piece was counted, and put behind the text
+pub counted_more : (a b c n : ℕ) (old text new into : List ℕ) → b + length old ≤ a + length text → c ≡ with_more b n → n ≤ length into → new ≡ text ++ take n into → c + length old ≤ a + length new
+counted_more a b c n old text new into h e le is =
+    let sum : length new ≡ length text + length (take n into) = ap length is ∙ length-append text (take n into) in
+    let size : length (take n into) ≡ n = grind (arith, common_steps, le) in
+    omega (arith, h, few_more b c n e, sum, size)
+
+-- no more than there was room for
+pub counted_most : (most : ℕ) (left new : Option (List ℕ)) (a b : ℕ) (old text : List ℕ) → HasTaken most left new old text → b + length old ≤ a + length text → b ≤ a + (most - length old)
+counted_most most left new a b old text h k =
+    let sum : length text ≡ length old + length h.more = ap length h.behind ∙ length-append old h.more in
+    omega (arith, k, sum, h.short)
 
 -- ---- the texts
 

@@ -1,5 +1,5 @@
 //! The bounded reading of texts.
-ghost use Rattle.std.specs.Prelude.{◌≡◌, ◌≤◌, ◌-◌, ℕ, Ok, Err, IfOk, OnErr, IsErr, length};
+ghost use Rattle.std.specs.Prelude.{◌≡◌, ◌≤◌, ◌+◌, ◌-◌, ℕ, Ok, Err, IfOk, OnErr, IsErr, length};
 ghost use Rattle.command_input.specs.declared.read.ReadFault.TheVariants.{Memory, Failed as ReadFailed};
 ghost use Rattle.command_input.specs.Reading.{AreReadFrom, IsReadFrom, ReadsOn, ReadsUpTo, TakesAtMost, ReadCause};
 
@@ -38,6 +38,7 @@ pub fn read_first_text<S: Source>(alloc: Global, source: &mut S) -> Result<Vec<u
     ensures text { IfOk result (λ text. IsReadFrom (S.left source.old) text.items) }
     ensures short { IfOk result (λ text. length text.items ≤ 1048577) }
     ensures most { TakesAtMost 1048577 (S.left source.old) (S.left source.new) }
+    ensures counted { S.taken source.new ≤ S.taken source.old + 1048577 }
     ensures cause { ReadCause (S.faults source.old) (S.faults source.new) result }
 {
     let mut text = Vec::new(alloc);
@@ -50,6 +51,7 @@ pub fn read_two_texts<S: Source>(alloc: Global, source: &mut S) -> Result<Vec<u8
     ensures texts { IfOk result (λ text. AreReadFrom (S.left source.old) text.items) }
     ensures short { IfOk result (λ text. length text.items ≤ 2097153) }
     ensures most { TakesAtMost 2097153 (S.left source.old) (S.left source.new) }
+    ensures counted { S.taken source.new ≤ S.taken source.old + 2097153 }
     ensures cause { ReadCause (S.faults source.old) (S.faults source.new) result }
 {
     let mut text = Vec::new(alloc);
@@ -65,6 +67,7 @@ fn read_second_text<S: Source>(source: &mut S, mut text: Vec<u8>) -> Result<Vec<
     ensures short { IfOk result (λ t. length t.items ≤ 2097153) }
     ensures most { TakesAtMost (2097153 - length text.items)
         (S.left source.old) (S.left source.new) }
+    ensures counted { S.taken source.new ≤ S.taken source.old + (2097153 - length text.items) }
     ensures cause { ReadCause (S.faults source.old) (S.faults source.new) result }
 {
     match first_text_end(&text) {
@@ -87,6 +90,9 @@ pub fn read_up_to<S: Source>(
         text.old.items text.new.items) }
     ensures most { TakesAtMost (most - length text.old.items)
         (S.left source.old) (S.left source.new) }
+    ensures counted { S.taken source.new ≤ S.taken source.old + (most - length text.old.items) }
+    ensures behind { IfOk result (λ _. S.taken source.new + length text.old.items
+        ≤ S.taken source.old + length text.new.items) }
     ensures cause { ReadCause (S.faults source.old) (S.faults source.new) result }
 {
     let mut piece = [0; 4096];

@@ -1,4 +1,4 @@
-use Rattle.std.proofs.Common.{◌≡◌, ◌-◌, length}
+use Rattle.std.proofs.Common.{◌≡◌, ◌≤◌, ◌+◌, ◌-◌, length}
 use Rattle.command_input.proofs.Taking.{HasTaken}
 use Rattle.command_input.proofs.read.read_up_to.Given as goal
 
@@ -8,6 +8,7 @@ invariant-reading g l = record {
   taken : HasTaken l.most (g.S.Source.left l.fn.source) (g.S.Source.left l.source) l.fn.text.items l.text.items;
   size : length l.piece ≡ 4096;
   same : g.S.Source.faults l.source ≡ g.S.Source.faults l.fn.source;
+  counted : g.S.Source.taken l.source + length l.fn.text.items ≤ g.S.Source.taken l.fn.source + length l.text.items;
 }
 
 abbrev pub decreases-reading : goal.decreases-reading
