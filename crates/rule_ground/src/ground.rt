@@ -210,12 +210,15 @@ pub fn ground_rules(
     ground_each(alloc, problem, rules)
 }
 
-/// All conditions of a problem, or the first fault of its rules: names and kinds come first, then rules without macros that are
-/// too large or multiply coordinates, and then the conditions.
+/// All conditions of a problem, or the first fault of its rules: names and kinds come first, then
+/// rules without macros that are too large or multiply coordinates, and then the conditions. A
+/// search can take them: they name objects and dimensions of the problem alone, and there are few.
 pub fn ground(alloc: Global, problem: &Problem) -> Result<Vec<Cond>, TextFault>
     ensures answers { AnswersGrounded result problem.now }
     ensures meaning { IfOk result (λ v. (t : Tuple) → IsWideTuple problem.now t
         → AllHold v.items t ↔ IsLayout problem.now t) }
+    ensures fit { IfOk result (λ v. AllFit v.items (first_state problem.now)) }
+    ensures few { IfOk result (λ v. length v.items ≤ most_conditions) }
 {
     check_names(alloc, problem)?;
     let rules = expand_all(alloc, problem)?;
