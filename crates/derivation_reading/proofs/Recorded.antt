@@ -12,9 +12,9 @@ use Rattle.derivation_reading.specs.declared.feeder.Progress.TheVariants.{Open, 
 use Rattle.derivation_reading.specs.declared.feeder.Feeder.{Feeder}
 use Rattle.derivation_reading.specs.Terminals.{lexemes}
 use Rattle.derivation_reading.specs.Grammar.{lookup}
-use Rattle.derivation_reading.specs.FirstFault.{IsText}
+use Rattle.derivation_reading.specs.FirstFault.{IsText, IsOfGrammar}
 use Rattle.derivation_reading.specs.Feeding.{IsAt, HasEvents, Comes, Ends, IsAtEnd, StaysFitting, EndsTree, answer_of}
-use Rattle.derivation_reading.proofs.Trees.{spells_tree}
+use Rattle.derivation_reading.proofs.Trees.{spells_tree, spells_text}
 use Rattle.derivation_reading.proofs.Fitting.{cut_small, opens_fit}
 
 abbrev AllFit : NameTable → List Event → Type 0
@@ -27,6 +27,17 @@ events_fit n text es table h = opens_fit n table (cut_small text h.cut) h.opens
 -- and those of a whole text are those of a tree
 pub text_tree : (n : NameTable) (text : List ℕ) (es : List Event) → IsText n text es → (root : Node) × (node_events root ≡ es)
 text_tree n text es h = spells_tree (lookup n) (lexemes text h.tokens) es h.spells
+
+-- by the grammar
+pub of_grammar : (n : NameTable) (text : List ℕ) (es : List Event) → IsText n text es → IsOfGrammar n text es
+of_grammar n text es h = record {
+  tokens = h.tokens;
+  end = h.end;
+  rest = h.rest;
+  cut = h.cut;
+  short = h.short;
+  tree = spells_text (lookup n) (lexemes text h.tokens) es h.spells;
+}
 
 -- the last of them
 last_fit : (n : NameTable) (es more before later : List Event) → AllFit n (es ++ more) → later ≡ before ++ more → AllFit n before → AllFit n later

@@ -92,6 +92,26 @@ answer_of (Open s) = Ok false
 answer_of Done = Ok true
 answer_of (Failed fault) = Err fault
 
+-- nothing was recorded, and the reading has come as far as this, with this answer
+pub record Rests (new : Feeder) (p : Progress) (result said : Result Bool TextFault)
+    (before later : List Event) : Type 0 where
+  pub progress : new.progress ≡ p
+  pub answer : result ≡ said
+  pub events : later ≡ before
+
+-- A reading that has failed, by a fault of the text or for want of memory, fails so from then on
+-- and records nothing; nor does one behind the word `qed`, which goes on answering true.
+abbrev pub Stays : Progress → Feeder → Result Bool TextFault → List Event → List Event → Type 0
+Stays (Open s) new result before later = Unit {0}
+Stays Done new result before later = Rests new Done result (Ok true) before later
+Stays (Failed f) new result before later = Rests new (Failed f) result (Err f) before later
+
+-- the same of what was taken, before it is answered
+abbrev pub StaysClosed : Progress → Progress → List Event → List Event → Type 0
+StaysClosed (Open s) new before later = Unit {0}
+StaysClosed Done new before later = (new ≡ Done) × (later ≡ before)
+StaysClosed (Failed fault) new before later = (new ≡ Failed fault) × (later ≡ before)
+
 -- ---- what a byte or the end of the text completed
 
 -- The tokens of the text up to here are these, and this is what the reading has come to.

@@ -17,6 +17,7 @@ use Rattle.derivation_reading.specs.declared.symbol.Symbol.{Symbol}
 use Rattle.derivation_reading.specs.Terminals.{lexeme, lexemes}
 use Rattle.derivation_reading.specs.Grammar.{lookup, at, Unknown}
 use Rattle.derivation_reading.specs.Machine.{Opens, Spells}
+use Rattle.derivation_reading.specs.Language.{IsTextOf}
 use Rattle.derivation_reading.specs.Begins.{Begins}
 
 -- how many bytes a text may have up to its word `qed`
@@ -31,6 +32,15 @@ pub record IsText (n : NameTable) (text : List ℕ) (es : List Event) : Type 0 w
   pub cut : Cut end rest 0 text tokens
   pub short : end ≤ most_bytes
   pub spells : Spells (lookup n) (lexemes text tokens) es
+
+-- the same by the grammar: its tokens up to `qed` are a text of a tree, which has these events
+pub record IsOfGrammar (n : NameTable) (text : List ℕ) (es : List Event) : Type 0 where
+  pub tokens : List Token
+  pub end : ℕ
+  pub rest : List ℕ
+  pub cut : Cut end rest 0 text tokens
+  pub short : end ≤ most_bytes
+  pub tree : IsTextOf (lookup n) (lexemes text tokens) es
 
 -- The text is cut into these tokens up to a place, they begin a derivation over the names, and behind them may come this symbol.
 pub record IsRead (n : NameTable) (text : List ℕ) (place : ℕ) (rest : List ℕ) (tokens : List Token) (s : Symbol) : Type 0 where

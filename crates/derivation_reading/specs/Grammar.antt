@@ -11,6 +11,8 @@
 --   covers = '[' { place cover } ']'
 --   cover  = 'by' NUM | 'cut' NUM int cover cover | 'from' NUM int cover cover
 --   int    = [ '-' ] NUM
+--
+-- Language says the same by trees of nodes, with no table, and Laws that both are one.
 use Rattle.std.specs.Prelude.{◌-◌, ◌&&◌, nat_le, ℕ, Bool, ℤ, pos, neg_ℤ, suc, List, [], ◌∷◌, codes, slice_index_or, Option, Some, None, option_map, if◌then◌else◌}
 use Rattle.std.specs.List.{position}
 use Rattle.std.specs.Str.{bytes_eq}

@@ -2,6 +2,8 @@ pub mod Terminals
 pub mod Grammar
 pub mod Outcomes
 pub mod Machine
+pub mod Language
+pub mod Laws
 pub mod Begins
 pub mod FirstFault
 pub mod Feeding

@@ -10,8 +10,8 @@ ghost use Rattle.derivation_reading.specs.declared.feeder.Progress.TheVariants.{
 ghost use Rattle.derivation_reading.specs.Terminals.{terminal_of, name_by};
 ghost use Rattle.derivation_reading.specs.Grammar.{lookup, next};
 ghost use Rattle.derivation_reading.specs.Outcomes.{symbols};
-ghost use Rattle.derivation_reading.specs.FirstFault.{AnswersDerivation, IsOnlyDerivation};
-ghost use Rattle.derivation_reading.specs.Feeding.{Comes, Ends, StaysFitting, EndsTree, HasCome, HasLeft, Keeps, Accepts, Goes, Reaches, Stops, FailsOpen, answer_of, failure, without_byte};
+ghost use Rattle.derivation_reading.specs.FirstFault.{AnswersDerivation, IsOnlyDerivation, IsOfGrammar};
+ghost use Rattle.derivation_reading.specs.Feeding.{Comes, Ends, Stays, StaysClosed, StaysFitting, EndsTree, HasCome, HasLeft, Keeps, Accepts, Goes, Reaches, Stops, FailsOpen, answer_of, failure, without_byte};
 
 use crate::production::{Behind, Outcome, next};
 use crate::symbol::{Symbol, terminal_of};
@@ -74,12 +74,14 @@ impl<'a> Feeder<'a> {
         }
     }
 
-    /// Takes the next piece, and records the events that are whole with it. True where the word `qed` came.
+    /// Takes the next piece, and records the events that are whole with it. True where the word
+    /// `qed` came. A reading that has failed fails so from then on, and records nothing.
     pub fn feed(&mut self, piece: &[u8], out: &mut Log) -> Result<bool, TextFault>
         ensures come { Comes self.old self.new piece.now out.old.events out.new.events }
         ensures answer { result ≡ answer_of self.new.progress }
         ensures fits { StaysFitting self.old out.old.events out.new.events }
         ensures tree { EndsTree self.old result out.old.events out.new.events }
+        ensures stays { Stays self.old.progress self.new result out.old.events out.new.events }
     {
         let _dims = self.names.dims();
         for byte in piece {
@@ -88,12 +90,14 @@ impl<'a> Feeder<'a> {
         self.answer()
     }
 
-    /// The text has ended. It is true where it is a derivation.
+    /// The text has ended. It is true where it is a derivation. A reading that has failed fails so
+    /// again.
     pub fn finish(&mut self, out: &mut Log) -> Result<bool, TextFault>
         ensures ended { Ends self.old self.new out.old.events out.new.events }
         ensures answer { result ≡ answer_of self.new.progress }
         ensures fits { StaysFitting self.old out.old.events out.new.events }
         ensures tree { EndsTree self.old result out.old.events out.new.events }
+        ensures stays { Stays self.old.progress self.new result out.old.events out.new.events }
     {
         let _dims = self.names.dims();
         if let Progress::Open(symbol) = self.progress {
@@ -122,7 +126,9 @@ impl<'a> Feeder<'a> {
 
     // Takes a byte, unless the reading has ended.
     fn take(&mut self, byte: u8, out: &mut Log)
-        ensures { Comes self.old self.new (byte ∷ []) out.old.events out.new.events }
+        ensures come { Comes self.old self.new (byte ∷ []) out.old.events out.new.events }
+        ensures stays { StaysClosed self.old.progress self.new.progress
+            out.old.events out.new.events }
     {
         if let Progress::Open(symbol) = self.progress {
             match self.stream.count().cmp(&MOST_BYTES) {
@@ -310,6 +316,7 @@ pub fn read_derivation(
     ensures fits { IfOk result
         (λ log. All (EventFits (length names.now.objects) names.now.dims) log.events) }
     ensures tree { IfOk result (λ log. (root : Node) × (node_events root ≡ log.events)) }
+    ensures grammar { IfOk result (λ log. IsOfGrammar names.now text.now log.events) }
 {
     let _dims = names.dims();
     let mut log = Log::new(alloc);

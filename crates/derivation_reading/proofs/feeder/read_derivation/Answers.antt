@@ -3,6 +3,7 @@ use Rattle.geo_tokens.specs.declared.fault.TextFault.{TextFault}
 use Rattle.derivation.specs.Events.{Kept}
 use Rattle.derivation_reading.specs.FirstFault.{IsText, AnswersDerivation}
 use Rattle.derivation_reading.proofs.Answering.{come, end, fault_come, text_come, fault_ended, text_ended, only}
+use Rattle.derivation_reading.proofs.Recorded.{of_grammar}
 use Rattle.derivation_reading.proofs.feeder.read_derivation.Goals as goal
 use Rattle.derivation_reading.proofs.feeder.read_derivation.Goals.{then-not-branch+in_ok-finish, else-not-branch}
 
@@ -64,3 +65,6 @@ returns-clause-answer c = whole c
 
 pub returns-clause-only : goal.returns-clause-only
 returns-clause-only c = only c.args.names.now c.args.place c.args.text.now (Ok c.if-not-branch.log) (whole c)
+
+pub returns-clause-grammar : goal.returns-clause-grammar
+returns-clause-grammar c = of_grammar c.args.names.now c.args.text.now c.if-not-branch.log.events (whole c)
