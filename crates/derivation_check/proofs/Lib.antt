@@ -11,3 +11,5 @@ pub mod Parts
 pub mod Sound
 pub mod Certain
 pub mod OneAnswer
+pub mod Trees
+pub mod Answered

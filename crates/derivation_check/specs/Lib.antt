@@ -3,3 +3,5 @@ pub mod Machine
 pub mod Judges
 pub mod Sound
 pub mod Checking
+pub mod Trees
+pub mod Wanted

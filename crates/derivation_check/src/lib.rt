@@ -7,10 +7,14 @@
 mod checker;
 mod cuts;
 mod fitting;
+mod judged;
 mod open_box;
 mod progress;
 mod saved;
+mod tree;
 
 pub use checker::{Checker, check};
 pub use fitting::all_fit;
+pub use judged::is_derivation;
 pub use progress::Checked;
+pub use tree::is_one_tree;

@@ -2,10 +2,10 @@
 use Rattle.std.specs.Prelude.{Bool, true, false, List, [], ◌∷◌, ◌++◌, Option, Some, None}
 use Rattle.derivation.specs.declared.event.Event.{Event}
 use Rattle.derivation.specs.declared.event.Event.TheVariants as events
-use Rattle.derivation_trim.specs.declared.tree.Wanted.{Wanted}
-use Rattle.derivation_trim.specs.declared.tree.Wanted.TheVariants.{Node, Cover, Covers}
-use Rattle.derivation_trim.specs.declared.tree.Behind.{Behind}
-use Rattle.derivation_trim.specs.declared.tree.Behind.TheVariants.{Nothing, One, Two}
+use Rattle.derivation_check.specs.declared.tree.Wanted.{Wanted}
+use Rattle.derivation_check.specs.declared.tree.Wanted.TheVariants.{Node, Cover, Covers}
+use Rattle.derivation_check.specs.declared.tree.Behind.{Behind}
+use Rattle.derivation_check.specs.declared.tree.Behind.TheVariants.{Nothing, One, Two}
 
 -- what comes behind an event in the place of what was wanted, where the event begins such a thing
 abbrev pub follows : Wanted → Event → Option (List Wanted)

@@ -2,9 +2,9 @@
 
 ghost use Rattle.std.specs.Prelude.{◌≡◌, ◌++◌, ◌∷◌, ◌&&◌, ◌↔◌, IsTrue, IfOk, OnOk, List, reverse};
 ghost use Rattle.derivation.specs.declared.event.Event.{Event as EventOf};
-ghost use Rattle.derivation_trim.specs.Trees.{IsOneTree};
-ghost use Rattle.derivation_trim.specs.declared.tree.Wanted.TheVariants as wants;
-ghost use Rattle.derivation_trim.specs.Wanted.{follows, listed, said, spells};
+ghost use Rattle.derivation_check.specs.Trees.{IsOneTree};
+ghost use Rattle.derivation_check.specs.declared.tree.Wanted.TheVariants as wants;
+ghost use Rattle.derivation_check.specs.Wanted.{follows, listed, said, spells};
 
 use derivation::Event;
 use std::alloc::{AllocError, Global};

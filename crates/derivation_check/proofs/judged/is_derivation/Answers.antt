@@ -2,9 +2,9 @@ use Rattle.std.proofs.Common.{ℕ, List, length, subst}
 use Rattle.std.specs.List.{All}
 use Rattle.derivation.specs.declared.event.Event.{Event}
 use Rattle.derivation.specs.Fits.{EventFits}
-use Rattle.derivation_trim.specs.Trees.{IsOneTree}
-use Rattle.derivation_trim.proofs.Answered.{yes_where_valid}
-use Rattle.derivation_trim.proofs.judged.is_derivation.Goals as goal
+use Rattle.derivation_check.specs.Trees.{IsOneTree}
+use Rattle.derivation_check.proofs.Answered.{yes_where_valid}
+use Rattle.derivation_check.proofs.judged.is_derivation.Goals as goal
 
 pub returns : goal.returns
 returns g c =

@@ -1,6 +1,6 @@
 use Rattle.std.proofs.Common.{◌≡◌, true, false, sym, ◌∙◌}
 use Rattle.derivation_check.specs.declared.progress.Checked.TheVariants.{Yes, No}
-use Rattle.derivation_trim.proofs.judged.is_yes.Goals as goal
+use Rattle.derivation_check.proofs.judged.is_yes.Goals as goal
 
 pub returns-in-No : goal.returns-in-No
 returns-in-No c = (

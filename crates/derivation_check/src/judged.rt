@@ -3,11 +3,13 @@
 ghost use Rattle.std.specs.Prelude.{◌≡◌, ◌≤◌, ◌↔◌, IsTrue, IfOk};
 ghost use Rattle.geo_conditions.specs.Conditions.{AllFit};
 ghost use Rattle.derivation_check.specs.declared.progress.Checked.TheVariants as answers;
-ghost use Rattle.derivation_trim.specs.Trees.{IsValidTree};
+ghost use Rattle.derivation_check.specs.Trees.{IsValidTree};
 
+use crate::checker::check;
+use crate::fitting::all_fit;
+use crate::progress::Checked;
 use crate::tree::is_one_tree;
 use derivation::Log;
-use derivation_check::{Checked, all_fit, check};
 use geo_base::MAX_DIMS;
 use geo_conditions::{Cond, State};
 use std::alloc::{AllocError, Global};

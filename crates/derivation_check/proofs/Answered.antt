@@ -12,7 +12,7 @@ use Rattle.derivation.proofs.Leaves.{all_at}
 use Rattle.derivation_check.specs.declared.progress.Checked.{Checked}
 use Rattle.derivation_check.specs.declared.progress.Checked.TheVariants.{Yes, No}
 use Rattle.derivation_check.specs.Judges.{Judges}
-use Rattle.derivation_trim.specs.Trees.{IsOneTree, IsValidTree}
+use Rattle.derivation_check.specs.Trees.{IsOneTree, IsValidTree}
 
 -- no node of a valid derivation fails
 none_fails : (cs : List Cond) (S : State) (root : Node) (n : ℕ) → Valid cs S root → Fails cs S root n → ⊥

@@ -1,5 +1,5 @@
 use Rattle.std.proofs.Common.{refl}
-use Rattle.derivation_trim.proofs.tree.follows_node.Goals as goal
+use Rattle.derivation_check.proofs.tree.follows_node.Goals as goal
 
 pub returns-in-Gone : goal.returns-in-Gone
 returns-in-Gone c = rw c.in-Gone.is refl

@@ -1,5 +1,5 @@
-use Rattle.derivation_trim.proofs.Trees.{refused, all_taken}
-use Rattle.derivation_trim.proofs.tree.is_one_tree.Goals as goal
+use Rattle.derivation_check.proofs.Trees.{refused, all_taken}
+use Rattle.derivation_check.proofs.tree.is_one_tree.Goals as goal
 
 pub returns-then-not-branch : goal.returns-then-not-branch
 returns-then-not-branch c =

@@ -14,10 +14,10 @@ use Rattle.derivation.specs.Covers.{CoverTree, Leaf, Fork, events_of, cut_event}
 use Rattle.derivation.specs.PlaceCovers.{PlaceCover, open_events, covers_events}
 use Rattle.derivation.specs.Chains.{bound_event}
 use Rattle.derivation.specs.Nodes as nodes
-use Rattle.derivation_trim.specs.Trees.{IsOneTree}
-use Rattle.derivation_trim.specs.Wanted.{follows, if_some, spells}
-use Rattle.derivation_trim.specs.declared.tree.Wanted.{Wanted}
-use Rattle.derivation_trim.specs.declared.tree.Wanted.TheVariants.{Node, Cover, Covers}
+use Rattle.derivation_check.specs.Trees.{IsOneTree}
+use Rattle.derivation_check.specs.Wanted.{follows, if_some, spells}
+use Rattle.derivation_check.specs.declared.tree.Wanted.{Wanted}
+use Rattle.derivation_check.specs.declared.tree.Wanted.TheVariants.{Node, Cover, Covers}
 
 -- ---- the events of a tree are wanted
 
