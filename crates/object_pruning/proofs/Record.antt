@@ -18,10 +18,11 @@ use Rattle.derivation.specs.Covers.{IsCut, HasNumbersIn}
 use Rattle.derivation.specs.Cuts.{far}
 use Rattle.derivation.specs.Events.{Continues, Growth}
 use Rattle.derivation.specs.PlaceCovers.{covers_events, RecordedBelow, RecordedCovers, SmallerBox}
-use Rattle.derivation.specs.Chains.{Narrows, bound_event}
+use Rattle.derivation.specs.Chains.{Narrows, IsGone, bound_event}
+use Rattle.derivation.proofs.Chains.{leads_nil, leads_on}
 use Rattle.derivation.proofs.Continuing.{continues_same, growth_done}
 use Rattle.derivation.proofs.SmallerCovers.{box_same, box_within, upto_smaller, from_smaller, covers_smaller}
-use Rattle.derivation.proofs.Listings.{recorded_start, recorded_skip, recorded_more, recorded_end, drop_led, bound_led, gone_closed}
+use Rattle.derivation.proofs.Listings.{recorded_start, recorded_skip, recorded_more, recorded_end, drop_led, bound_led}
 use Rattle.geo_state.specs.Trail.{HasSmallIntervals, IsSmallEnd}
 use Rattle.derivation.proofs.Leaves.{covered_numbers}
 use Rattle.sweep.specs.Picks.{ArePicks}
@@ -30,7 +31,8 @@ use Rattle.object_pruning.specs.declared.kept.Placed.{Placed}
 use Rattle.object_pruning.specs.Ends.{IsSooner}
 use Rattle.object_pruning.specs.Pruning.{outcome}
 use Rattle.derivation.specs.Chains.{IsLed, IsClosed}
-use Rattle.object_pruning.specs.Record.{AreEventsOfPruning, end_side, with_end, IsNotBeyond, ListsPlace, AreListed, AreListedBelow}
+use Rattle.object_pruning.specs.declared.prune.Pruned.TheVariants.{Empty}
+use Rattle.object_pruning.specs.Record.{AreEventsOfPruning, IsClosedByGone, end_side, with_end, IsNotBeyond, ListsPlace, AreListed, AreListedBelow}
 
 -- ---- lists of events
 
@@ -80,9 +82,38 @@ none_below cs S o b old (suc n) none =
 
 -- it is gone, with no cover
 pub gone_recorded : (cs : List Cond) (S : State) (o : ℕ) (old mid new : List Event) → o < length S → ((s : ℕ) → has S o s ≡ true → ⊥) → mid ≡ old ++ (Gone (record { 0 = o }) ∷ []) → new ≡ mid ++ (EndCovers ∷ [])
-    → IsClosed cs S old new
+    → IsClosedByGone cs S o old new
 gone_recorded cs S o old mid new there none f g =
-    gone_closed cs S o old mid new there f (recorded_end cs S o (reach S o).region (length (reach S o).places + 1) mid mid new (omega arith) g (none_below cs S o (reach S o).region mid (length (reach S o).places) none))
+    let r : RecordedCovers cs S o (reach S o).region mid new = recorded_end cs S o (reach S o).region (length (reach S o).places + 1) mid mid new (omega arith) g (none_below cs S o (reach S o).region mid (length (reach S o).places) none) in
+    let es = Gone (record { 0 = o }) ∷ covers_events r.list in (
+      es,
+      r.events ∙ ap (λ (xs : List Event). xs ++ covers_events r.list) f ∙ append_assoc old (Gone (record { 0 = o }) ∷ []) (covers_events r.list),
+      record { chain = []; state = S; covers = r.list; events = refl; leads = leads_nil cs S; holds = (there, r.all, r.numbers) },
+    )
+
+-- so it is behind a chain
+pub gone_on : (cs : List Cond) (S T : State) (o : ℕ) (a b c : List Event) → IsLed cs S T a b → IsClosedByGone cs T o b c → IsClosedByGone cs S o a c
+gone_on cs S T o a b c p q = (
+  p.0 ++ q.0,
+  q.1 ∙ ap (λ (xs : List Event). xs ++ q.0) p.1 ∙ append_assoc a p.0 q.0,
+  record {
+    chain = p.0 ++ q.2.chain;
+    state = q.2.state;
+    covers = q.2.covers;
+    events = ap (λ (es : List Event). p.0 ++ es) q.2.events ∙ sym (append_assoc p.0 q.2.chain (Gone (record { 0 = o }) ∷ covers_events q.2.covers));
+    leads = leads_on cs S T q.2.state p.0 q.2.chain p.2 q.2.leads;
+    holds = q.2.holds;
+  },
+)
+
+-- and then the events are closed
+pub gone_closes : (cs : List Cond) (S : State) (o : ℕ) (old new : List Event) → IsClosedByGone cs S o old new → IsClosed cs S old new
+gone_closes cs S o old new q = (q.0, q.1, record { chain = q.2.chain; state = q.2.state; ending = IsGone o q.2.covers; events = q.2.events; leads = q.2.leads; holds = q.2.holds })
+
+-- a pruning that left a point is not empty
+pub left_some : (b : Bool) → outcome b ≡ Empty → ⊥
+left_some true e = absurd cc
+left_some false e = absurd cc
 
 -- ---- what an end cuts off
 

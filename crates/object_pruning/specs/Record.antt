@@ -1,15 +1,16 @@
 -- What a pruning adds to a record.
-use Rattle.std.specs.Prelude.{◌<◌, ◌+◌, ◌≤ℤ◌, ℕ, ℤ, Bool, true, false, List, length, slice_set, Option, None, Some}
+use Rattle.std.specs.Prelude.{◌≡◌, ◌<◌, ◌+◌, ◌≤ℤ◌, ℕ, ℤ, Bool, true, false, List, ◌∷◌, ◌++◌, length, slice_set, Option, None, Some}
 use Rattle.geo_base.specs.Boxes.{coordinate}
 use Rattle.geo_base.specs.Ways.{toward}
 use Rattle.geo_conditions.specs.declared.cond.Cond.{Cond}
 use Rattle.geo_conditions.specs.Reach.{State, reach}
 use Rattle.derivation.specs.declared.event.Event.{Event}
+use Rattle.derivation.specs.declared.event.Event.TheVariants.{Gone}
 use Rattle.derivation.specs.declared.side.Side.{Side}
 use Rattle.derivation.specs.declared.side.Side.TheVariants.{Upto, From}
 use Rattle.derivation.specs.Cuts.{far}
-use Rattle.derivation.specs.PlaceCovers.{RecordedBelow}
-use Rattle.derivation.specs.Chains.{Leads, Closes, moved}
+use Rattle.derivation.specs.PlaceCovers.{PlaceCover, covers_events, RecordedBelow}
+use Rattle.derivation.specs.Chains.{Leads, Closes, EndHolds, IsGone, moved}
 use Rattle.object_pruning.specs.declared.kept.Placed.{Placed}
 use Rattle.object_pruning.specs.declared.prune.Pruned.{Pruned}
 use Rattle.object_pruning.specs.declared.prune.Pruned.TheVariants.{Empty, Changed, Same}
@@ -45,3 +46,17 @@ abbrev pub AreEventsOfPruning : List Cond → State → Pruned → State → Lis
 AreEventsOfPruning cs S Empty T es = Closes cs S es
 AreEventsOfPruning cs S Changed T es = Leads cs S es T
 AreEventsOfPruning cs S Same T es = Leads cs S es T
+
+-- From S the events are a chain, and then the node of the object o, which is gone: its event, and the
+-- covers. They hold at the state behind the chain: one of its whole region for each place left.
+pub record ClosesByGone (cs : List Cond) (S : State) (o : ℕ) (es : List Event) : Type 0 where
+  pub chain : List Event
+  pub state : State
+  pub covers : List PlaceCover
+  pub events : es ≡ chain ++ Gone (record { 0 = o }) ∷ covers_events covers
+  pub leads : Leads cs S chain state
+  pub holds : EndHolds cs state (IsGone o covers)
+
+-- behind the old events stand some that close so
+abbrev pub IsClosedByGone : List Cond → State → ℕ → List Event → List Event → Type 0
+IsClosedByGone cs S o old new = (es : List Event) × (new ≡ old ++ es) × ClosesByGone cs S o es

@@ -9,8 +9,7 @@ ghost use Rattle.derivation.specs.Events.{Grows};
 ghost use Rattle.sweep.specs.Picks.{ArePicks, picked};
 ghost use Rattle.object_pruning.specs.Kept.{AllSupport};
 ghost use Rattle.object_pruning.specs.Pruning.{PrunesTo, outcome};
-ghost use Rattle.derivation.specs.Chains.{IsClosed};
-ghost use Rattle.object_pruning.specs.Record.{AreEventsOfPruning};
+ghost use Rattle.object_pruning.specs.Record.{AreEventsOfPruning, IsClosedByGone};
 ghost use Rattle.object_pruning.specs.Same.{SameBut};
 ghost use Rattle.object_pruning.specs.InRows.{AreRows};
 
@@ -38,8 +37,9 @@ pub enum Pruned {
 
 // Records that the object has no place left, and so no point.
 fn record_gone<R: Recorder>(o: ObjId, rec: &mut R) -> Result<(), AllocError>
-    ensures closed { OnOk result (R.keeps ≡ true → (cs : List Cond) → (S : State) → o.0 < length S
-        → ((s : ℕ) → has S o.0 s ≡ true → ⊥) → IsClosed cs S (R.list rec.old) (R.list rec.new)) }
+    ensures gone { OnOk result (R.keeps ≡ true → (cs : List Cond) → (S : State) → o.0 < length S
+        → ((s : ℕ) → has S o.0 s ≡ true → ⊥)
+        → IsClosedByGone cs S o.0 (R.list rec.old) (R.list rec.new)) }
     ensures grows { Grows R.keeps R.list R.refusals rec.old rec.new result }
 {
     rec.add(Event::Gone(o))?;
@@ -55,8 +55,8 @@ fn record_gone<R: Recorder>(o: ObjId, rec: &mut R) -> Result<(), AllocError>
 /// Every other object stays as it is, and so does what the open levels restore. Kept supports that the object still has are not
 /// sought again, and what is found is kept, as far as there are slots. Of hints nothing need be known: each is tried before a
 /// point is sought, and what is found is the next hint of its slot. The events that are added are a chain from the old state to
-/// the new one, or, where no point is left, one that is closed. The only error is want of memory, and then a refusal was
-/// counted.
+/// the new one, or, where no point is left, one that is closed by the node of the object, which is gone. The only error is want
+/// of memory, and then a refusal was counted.
 pub fn prune_kept<const K: usize, I: Indexical<K>, R: Recorder>(
     t: &mut Trailed<K>,
     o: ObjId,
@@ -83,6 +83,8 @@ pub fn prune_kept<const K: usize, I: Indexical<K>, R: Recorder>(
     ensures record { IfOk result (λ a. R.keeps ≡ true → (es : List Event)
         × (R.list rec.new ≡ R.list rec.old ++ es)
         × AreEventsOfPruning (map I.cond list.now) t.old.state a t.new.state es) }
+    ensures gone { IfOk result (λ a. a ≡ Pruned.Empty → R.keeps ≡ true
+        → IsClosedByGone (map I.cond list.now) t.old.state o.0 (R.list rec.old) (R.list rec.new)) }
     ensures grows { Grows R.keeps R.list R.refusals rec.old rec.new result }
 {
     let places = drop_places(t, o, list, picks, rows, kept, hints, rec)?;
@@ -124,6 +126,8 @@ pub fn prune_object<const K: usize, I: Indexical<K>, R: Recorder>(
     ensures record { IfOk result (λ a. R.keeps ≡ true → (es : List Event)
         × (R.list rec.new ≡ R.list rec.old ++ es)
         × AreEventsOfPruning (map I.cond list.now) t.old.state a t.new.state es) }
+    ensures gone { IfOk result (λ a. a ≡ Pruned.Empty → R.keeps ≡ true
+        → IsClosedByGone (map I.cond list.now) t.old.state o.0 (R.list rec.old) (R.list rec.new)) }
     ensures grows { Grows R.keeps R.list R.refusals rec.old rec.new result }
 {
     let mut kept: [Option<Placed<K>>; 0] = [];

@@ -1,4 +1,4 @@
-use Rattle.std.proofs.Common.{◌≡◌, ◌<◌, ◌++◌, ◌||◌, Bool, true, false, List, map, length, sym, subst, arith, rules}
+use Rattle.std.proofs.Common.{◌≡◌, ◌<◌, ◌++◌, ◌||◌, Bool, true, false, List, map, length, refl, sym, ◌∙◌, subst, arith, rules}
 use Rattle.std.proofs.lemmas.Bool.{not-true, not-false}
 use Rattle.geo_conditions.specs.Conditions.{AllFit}
 use Rattle.geo_state.proofs.Fits.{all_fit}
@@ -9,9 +9,9 @@ use Rattle.object_pruning.specs.Pruning.{PrunesTo}
 use Rattle.object_pruning.specs.Record.{AreEventsOfPruning}
 use Rattle.object_pruning.specs.declared.prune.Pruned.{Pruned}
 use Rattle.derivation.specs.declared.event.Event.{Event}
-use Rattle.object_pruning.proofs.Record.{recorded_as}
+use Rattle.object_pruning.proofs.Record.{recorded_as, gone_on, gone_closes, left_some}
 use Rattle.object_pruning.proofs.Narrowing.{alone_on}
-use Rattle.derivation.proofs.Chains.{led_on, led_closed}
+use Rattle.derivation.proofs.Chains.{led_on}
 use Rattle.derivation.proofs.Continuing.{growth_on, growth_failed}
 use Rattle.object_pruning.proofs.prune.prune_kept.Goals as goal
 
@@ -23,8 +23,8 @@ returns-then-not-places-clause-pruned g c =
     let a = c.in_ok-places.places in
     prunes_empty cs c.args.o.0 S T a.dropped (subst (λ (b : Bool). DropsPlaces cs c.args.o.0 S b a.dropped T) (not-true a.some c.if-not-places.true) c.in_ok-places.ensures.drops)
 
-pub returns-then-not-places-clause-record : goal.returns-then-not-places-clause-record
-returns-then-not-places-clause-record g c = λ kept.
+pub returns-then-not-places-clause-gone : goal.returns-then-not-places-clause-gone
+returns-then-not-places-clause-gone g c = λ empty kept.
     let all = map g.I.Indexical.cond c.args.list.now in
     let cs = picked all c.args.picks.now in
     let list = g.R.Recorder.list in
@@ -35,7 +35,15 @@ returns-then-not-places-clause-record g c = λ kept.
     let k = c.in_ok-places.ensures.drops in
     let object : o < length T = omega (arith, k.inside.objects, c.requires.object) in
     let none = none_left cs o S T a.some a.dropped k (not-true a.some c.if-not-places.true) in
-    led_closed all S T (list c.args.rec.now) (list c.drop_places.new.rec) (list c.record_gone.new.rec) (c.in_ok-places.ensures.led kept) (c.in_ok-record_gone.ensures.closed kept all T object none)
+    gone_on all S T o (list c.args.rec.now) (list c.drop_places.new.rec) (list c.record_gone.new.rec) (c.in_ok-places.ensures.led kept) (c.in_ok-record_gone.ensures.gone kept all T object none)
+
+pub returns-then-not-places-clause-record : goal.returns-then-not-places-clause-record
+returns-then-not-places-clause-record g c = λ kept.
+    let list = g.R.Recorder.list in
+    gone_closes (map g.I.Indexical.cond c.args.list.now) c.args.t.now.state c.args.o.0 (list c.args.rec.now) (list c.record_gone.new.rec) (returns-then-not-places-clause-gone g c refl kept)
+
+pub returns-clause-gone : goal.returns-clause-gone
+returns-clause-gone g c = λ empty. absurd (left_some (c.in_ok-places.places.dropped || c.in_ok-moved.moved) (sym c.changed_or_same.ensures ∙ empty))
 
 pub move_ends-requires : goal.move_ends-requires
 move_ends-requires g c =
