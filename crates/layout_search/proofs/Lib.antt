@@ -9,4 +9,5 @@ pub mod Layouts
 pub mod Listed
 pub mod Pages
 pub mod Stated
+pub mod Unpassed
 mod Spots

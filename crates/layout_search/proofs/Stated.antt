@@ -23,10 +23,10 @@ use Rattle.layout_search.specs.Page.{IsWalkOf}
 use Rattle.layout_search.proofs.Layouts.{full-members, layouts-of}
 
 -- what holds of the images of elements
-all-of : {X Y : Type 0} (P : Y → Type 0) (f : X → Y) (xs : List X) → All P (map f xs) → All (λ x. P (f x)) xs
+pub all-of : {X Y : Type 0} (P : Y → Type 0) (f : X → Y) (xs : List X) → All P (map f xs) → All (λ x. P (f x)) xs
 all-of P f xs h k d b = subst P (get_or-map f xs k d (f d) b) (h k (f d) (omega (arith, b, length-map xs f)))
 
-pairs-of : {X Y : Type 0} (R : Y → Y → Type 0) (f : X → Y) (xs : List X) → AllPairs R (map f xs) → AllPairs (λ x y. R (f x) (f y)) xs
+pub pairs-of : {X Y : Type 0} (R : Y → Y → Type 0) (f : X → Y) (xs : List X) → AllPairs R (map f xs) → AllPairs (λ x y. R (f x) (f y)) xs
 pairs-of R f xs h i j d l b =
     let near : i < length xs = omega arith in
     subst (λ (y : _). R y (f (get_or xs j d))) (get_or-map f xs i d (f d) near) (subst (λ (y : _). R (get_or (map f xs) i (f d)) y) (get_or-map f xs j d (f d) b) (h i j (f d) l (omega (arith, b, length-map xs f))))
@@ -46,7 +46,7 @@ module _ (p : ProblemData) (cs : List Cond) (well : IsWellFormed p) (are : AreCo
       full e = grind (arith, nat_tests, e)
 
   -- what comes after a tuple
-  behind : (after : Option Tuple) (ts : List Tuple) → All (λ q. IsIn (walk_after p cs after) q × (is_full (walk_after p cs after) q ≡ true)) (map (values (variables_for p)) ts) → IfSome after (λ t. All (ComesBefore p t) ts)
+  pub behind : (after : Option Tuple) (ts : List Tuple) → All (λ q. IsIn (walk_after p cs after) q × (is_full (walk_after p cs after) q ≡ true)) (map (values (variables_for p)) ts) → IfSome after (λ t. All (ComesBefore p t) ts)
   behind None ts h = tt
   behind (Some t) ts h = all-of (Precedes (variables_for p) (values (variables_for p) t)) (values (variables_for p)) ts (λ k d b. past (get_or (map (values (variables_for p)) ts) k d) (h k d b))
     where

@@ -4,6 +4,7 @@ use Rattle.geo_base.specs.Tuple.{Tuple}
 use Rattle.geo_conditions.specs.declared.cond.Cond.{Cond}
 use Rattle.geo_conditions.specs.Walk.{EndWord, IsIn, is_full, values, IsListing}
 use Rattle.layout_search.specs.FirstLayout.{AreConditionsOf, walk_after, walk_of}
+use Rattle.layout_search.specs.Page.{IsPage, PassesNoneOver}
 use Rattle.problem_data.specs.Problem.{ProblemData}
 use Rattle.problem_data.specs.Layouts.{IsLayout}
 use Rattle.problem_data.specs.WellFormed.{IsWellFormed}
@@ -21,3 +22,8 @@ ListsLayouts p cs = (after : Option Tuple) (most n : ℕ) (found : List (List �
 
 abbrev pub ListingsAreOfLayouts : Type 0
 ListingsAreOfLayouts = (p : ProblemData) (cs : List Cond) → IsWellFormed p → AreConditionsOf p cs → FullMembersAreLayouts p cs × ListsLayouts p cs
+
+-- a page of a walk of the problem passes no layout over
+abbrev pub PagesPassNoneOver : Type 0
+PagesPassNoneOver = (p : ProblemData) (cs : List Cond) (after : Option Tuple) (most n : ℕ) (ts : List Tuple) (word : EndWord) → IsWellFormed p → AreConditionsOf p cs
+    → IsPage p (walk_after p cs after) most n ts word → PassesNoneOver p after ts word

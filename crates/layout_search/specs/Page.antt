@@ -1,5 +1,5 @@
 -- The layouts of a listing, and what is written of it.
-use Rattle.std.specs.Prelude.{◌≡◌, ℕ, ℤ, List, map, flat_map, All, Option, Result, MatchResult, Bool}
+use Rattle.std.specs.Prelude.{◌≡◌, ◌⊎◌, ℕ, ℤ, List, map, flat_map, All, AllPairs, Contains, Option, IfSome, Result, MatchResult, Bool}
 use Rattle.std.specs.Io.KnownBytes.{Appends}
 use Rattle.geo_base.specs.Tuple.{Tuple}
 use Rattle.geo_chan.specs.declared.outside.PutFault.{PutFault}
@@ -12,6 +12,7 @@ use Rattle.layout_search.specs.FirstLayout.{AreConditionsOf, walk_past}
 use Rattle.layout_text.specs.Block.{block_of}
 use Rattle.problem_data.specs.Problem.{ProblemData}
 use Rattle.problem_data.specs.Layouts.{IsLayout}
+use Rattle.rule_ground.specs.Order.{ComesBefore}
 use Rattle.layout_search.specs.declared.listing.Ending.{Ending}
 use Rattle.layout_search.specs.declared.listing.Ending.TheVariants.{More, End, OutOfBudget}
 
@@ -23,6 +24,21 @@ IsWalkOf p W = (cs : List Cond) × (past : Option (List ℤ)) × AreConditionsOf
 pub record IsPage (p : ProblemData) (W : Tree) (most n : ℕ) (ts : List Tuple) (word : EndWord) : Type 0 where
   pub layouts : All (IsLayout p) ts
   pub listing : IsListing W most n (map (values W.variables) ts) word
+
+-- the layout comes after the tuple, where one is given
+abbrev pub ComesAfter : ProblemData → Option Tuple → Tuple → Type 0
+ComesAfter p after u = IfSome after (λ t. ComesBefore p t u)
+
+-- Layouts after a tuple, where one is given, in the stated order, and none is passed over: each
+-- layout after that tuple stands among them, or comes after all of them; and none comes after them
+-- where the list is said to have ended.
+pub record PassesNoneOver (p : ProblemData) (after : Option Tuple) (ts : List Tuple) (word : EndWord) : Type 0 where
+  pub layouts : All (IsLayout p) ts
+  pub in_order : AllPairs (ComesBefore p) ts
+  pub behind : All (ComesAfter p after) ts
+  pub first : (u : Tuple) → IsLayout p u → ComesAfter p after u
+      → Contains ts u ⊎ All (λ t. ComesBefore p t u) ts
+  pub whole : word ≡ walk.End → (u : Tuple) → IsLayout p u → ComesAfter p after u → Contains ts u
 
 -- the layout blocks, one behind another
 abbrev pub blocks_of : ProblemData → List Tuple → List ℕ

@@ -10,5 +10,5 @@ mod listing;
 mod start;
 
 pub use first::{Outcome, Searched, first_solution, search_first, search_first_unrecorded};
-pub use laws::listings_are_of_layouts;
+pub use laws::{listings_are_of_layouts, pages_pass_none_over};
 pub use listing::{Ending, write_block, write_listing};

@@ -1,6 +1,6 @@
 //! The blocks of a listing.
 
-ghost use Rattle.std.specs.Prelude.{◌≡◌, ◌≤◌, ◌<◌, ◌^◌, IfSome, None, length};
+ghost use Rattle.std.specs.Prelude.{◌≡◌, ◌≤◌, ◌<◌, ◌^◌, IfSome, IsErrOf, None, length, true};
 ghost use Rattle.std.specs.Option.{option_copied};
 ghost use Rattle.geo_chan.specs.Written.{Prints};
 ghost use Rattle.layout_text.specs.Block.{block_of};
@@ -35,7 +35,7 @@ pub enum Ending {
 /// among the first `budget` members of its walk, behind the tuple `after` where one is given; each
 /// block as soon as it is found. Says how the listing ends. After a fault a front part of the
 /// listing was written. All memory is taken before the first block: where the sink wants none,
-/// memory is wanted only where nothing was written.
+/// memory is wanted only where the sink is as it was.
 pub fn write_listing<W: Sink>(
     alloc: Global,
     problem: &Problem,
@@ -48,10 +48,12 @@ pub fn write_listing<W: Sink>(
     requires conditions { AreConditionsOf problem.now conditions.items }
     requires few { length conditions.items ≤ 10 ^ 9 }
     requires after { IfSome (option_copied after) (IsTuple problem.now) }
-    ensures { WritesPage problem.now
+    ensures page { WritesPage problem.now
         (walk_after problem.now conditions.items (option_copied after.entry)) most budget
         (W.written sink.old) (W.written sink.new) (W.faults sink.old) (W.faults sink.new)
         (W.quiet sink.old) (W.quiet sink.new) result }
+    ensures unwritten { W.quiet sink.old ≡ true → IsErrOf result PutFault.Memory
+        → sink.new ≡ sink.old }
 {
     problem.is_said();
     in_dimensions!(
@@ -75,10 +77,12 @@ fn write_in<const K: usize, W: Sink>(
     requires conditions { AreConditionsOf problem.now conditions.items }
     requires few { length conditions.items ≤ 10 ^ 9 }
     requires after { IfSome (option_copied after) (IsTuple problem.now) }
-    ensures { WritesPage problem.now
+    ensures page { WritesPage problem.now
         (walk_after problem.now conditions.items (option_copied after.entry)) most budget
         (W.written sink.old) (W.written sink.new) (W.faults sink.old) (W.faults sink.new)
         (W.quiet sink.old) (W.quiet sink.new) result }
+    ensures unwritten { W.quiet sink.old ≡ true → IsErrOf result PutFault.Memory
+        → sink.new ≡ sink.old }
 {
     problem.is_said();
     let none = NoRecord::new();
@@ -102,9 +106,10 @@ fn write_layouts<const K: usize, W: Sink>(
     requires walked { search.old.walked ≡ 0 }
     requires over { search.old.over ≡ None }
     requires room { IsShaped problem.now layout.old }
-    ensures { WritesPage problem.now search.old.walk most search.old.budget
+    ensures page { WritesPage problem.now search.old.walk most search.old.budget
         (W.written sink.old) (W.written sink.new) (W.faults sink.old) (W.faults sink.new)
         (W.quiet sink.old) (W.quiet sink.new) result }
+    ensures quiet { W.quiet sink.old ≡ true → IsErrOf result PutFault.Memory → ⊥ }
 {
     problem.is_said();
     'listing: for listed in 0..most {

@@ -40,23 +40,23 @@ some-page p cs after most n well are =
     let W = walk_after p cs after in
     goes-on p W n well (cs, option_map (values (variables_for p)) after, are, refl) most [] [] (front_none W) refl (omega arith) (omega arith) (All-nil (IsLayout p))
 
-pub returns-in_err-search : goal.returns-in_err-search
-returns-in_err-search g c =
+pub returns-in_err-search-clause-page : goal.returns-in_err-search-clause-page
+returns-in_err-search-clause-page g c =
     let r = some-page c.args.problem.now c.args.conditions.items (option_copied c.args.after) c.args.most c.args.budget c.is_said.ensures.formed c.requires.conditions in
     let x = err_from_is_err_and c.from_residual.result c.from_residual.ensures.1 in
     rw (x.1, x.2) (page-unbegun c.args.problem.now _ c.args.most c.args.budget _ _ _ r.0 r.1 r.2)
 
-pub returns-in_err-layout : goal.returns-in_err-layout
-returns-in_err-layout g c =
+pub returns-in_err-layout-clause-page : goal.returns-in_err-layout-clause-page
+returns-in_err-layout-clause-page g c =
     let r = some-page c.args.problem.now c.args.conditions.items (option_copied c.args.after) c.args.most c.args.budget c.is_said.ensures.formed c.requires.conditions in
     let x = err_from_is_err_and c.from_residual-in_err-layout.result c.from_residual-in_err-layout.ensures.1 in
     rw (x.1, x.2) (page-unbegun c.args.problem.now _ c.args.most c.args.budget _ _ _ r.0 r.1 r.2)
 
-pub returns : goal.returns
-returns g c =
+pub returns-clause-page : goal.returns-clause-page
+returns-clause-page g c =
     let p = c.args.problem.now in
     let s = c.in_ok-search.search in
     let new = c.write_layouts.new.sink in
     let old = c.args.sink.now in
     let Writes : Tree → ℕ → Type 0 = λ V n. WritesPage p V c.args.most n (g.W.Sink.written old) (g.W.Sink.written new) (g.W.Sink.faults old) (g.W.Sink.faults new) (g.W.Sink.quiet old) (g.W.Sink.quiet new) c.write_layouts.result in
-    subst (λ (V : Tree). Writes V c.args.budget) c.in_ok-search.ensures.walk (subst (Writes s.walk) c.in_ok-search.ensures.budget c.write_layouts.ensures)
+    subst (λ (V : Tree). Writes V c.args.budget) c.in_ok-search.ensures.walk (subst (Writes s.walk) c.in_ok-search.ensures.budget c.write_layouts.ensures.page)

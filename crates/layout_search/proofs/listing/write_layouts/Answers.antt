@@ -3,11 +3,15 @@ use Rattle.std.proofs.lemmas.List.{append-nil, append_assoc, length-append}
 use Rattle.std.proofs.lemmas.Grind.{flat_map-append}
 use Rattle.std.proofs.lemmas.Result.{err_from_is_err_and}
 use Rattle.geo_base.specs.Tuple.{Tuple}
-use Rattle.geo_chan.proofs.Appending.{wrote_none, wrote_ok}
+use Rattle.std.specs.Prelude.{Err, IsErrOf, Result}
+use Rattle.geo_chan.specs.declared.outside.PutFault.{PutFault}
+use Rattle.geo_chan.specs.declared.outside.PutFault.TheVariants.{Memory}
+use Rattle.geo_chan.proofs.Appending.{err_same, wrote_none, wrote_ok}
 use Rattle.geo_conditions.specs.Walk.{Tree}
 use Rattle.layout_search.proofs.Members.{found-tuple}
 use Rattle.layout_search.proofs.Outcomes.{answered}
 use Rattle.layout_text.specs.Block.{block_of}
+use Rattle.layout_search.specs.declared.listing.Ending.{Ending}
 use Rattle.layout_search.specs.declared.listing.Ending.TheVariants.{More, End, OutOfBudget}
 use Rattle.layout_search.specs.Page.{IsPage, blocks_of}
 use Rattle.layout_search.proofs.Layouts.{shaped-tuple}
@@ -33,8 +37,8 @@ take_layout-requires g c =
 pub write_block-requires : goal.write_block-requires
 write_block-requires g c = shaped-tuple c.args.problem.now c.take_layout.new.layout c.take_layout.ensures.tuple
 
-pub returns-in_err-write_block-in-Found : goal.returns-in_err-write_block-in-Found
-returns-in_err-write_block-in-Found g c =
+pub returns-in_err-write_block-in-Found-clause-page : goal.returns-in_err-write_block-in-Found-clause-page
+returns-in_err-write_block-in-Found-clause-page g c =
     let p = c.args.problem.now in
     let a = c.args.search.now in
     let b = c.next.new.self in
@@ -49,8 +53,8 @@ returns-in_err-write_block-in-Found g c =
     let x = err_from_is_err_and c.from_residual.result c.from_residual.ensures.1 in
     rw (x.1, x.2) (page-cut p a.walk c.args.most a.budget _ _ _ _ _ _ ts c.listing.invariant.4 _ _ _ _ t r.0 r.1 c.in_err-write_block-in-Found.ensures page)
 
-pub returns-in-Ended : goal.returns-in-Ended
-returns-in-Ended g c =
+pub returns-in-Ended-clause-page : goal.returns-in-Ended-clause-page
+returns-in-Ended-clause-page g c =
     let p = c.args.problem.now in
     let a = c.args.search.now in
     let b = c.next.new.self in
@@ -61,8 +65,8 @@ returns-in-Ended g c =
     let page = end-page p a.walk a.budget c.is_said.ensures.formed c.requires.walk c.args.most c.listing.search b ts h steps.0 (answered c.listing.search b _ h.over steps) (omega (arith, size, c.listing-test.true)) in
     page-written p a.walk c.args.most a.budget _ _ _ _ _ _ ts c.listing.invariant.4 End page
 
-pub returns-in-Budget : goal.returns-in-Budget
-returns-in-Budget g c =
+pub returns-in-Budget-clause-page : goal.returns-in-Budget-clause-page
+returns-in-Budget-clause-page g c =
     let p = c.args.problem.now in
     let a = c.args.search.now in
     let b = c.next.new.self in
@@ -90,11 +94,18 @@ listing-preserved g c =
       wrote_ok _ _ _ _ _ _ _ _ _ _ _ _ _ c.listing.invariant.4 c.in_ok-write_block-in-Found.ensures (flat_map-append (block_of p) ts (t ∷ []) ∙ ap (λ (x : List _). blocks_of p ts ++ x) (append-nil (block_of p t))),
     )
 
-pub returns : goal.returns
-returns g c =
+pub returns-clause-page : goal.returns-clause-page
+returns-clause-page g c =
     let p = c.args.problem.now in
     let a = c.args.search.now in
     let ts = c.listing.invariant.0 in
     let size = c.listing.invariant.1 in
     let page = more-page p a.walk a.budget c.is_said.ensures.formed c.requires.walk c.args.most c.listing.search ts c.listing.invariant.2 (omega (arith, size, c.listing-test.false)) in
     page-written p a.walk c.args.most a.budget _ _ _ _ _ _ ts c.listing.invariant.4 More page
+
+pub returns-in_err-write_block-in-Found-clause-quiet : goal.returns-in_err-write_block-in-Found-clause-quiet
+returns-in_err-write_block-in-Found-clause-quiet g c = λ quiet wants.
+    let x = err_from_is_err_and c.from_residual.result c.from_residual.ensures.1 in
+    let own = subst (λ (r : Result Ending PutFault). IsErrOf r Memory) x.1 wants in
+    let same = subst (λ (f : PutFault). IsErrOf {T = Ending} (Err f) Memory) x.2 own in
+    (c.in_err-write_block-in-Found.ensures.quiet (c.listing.invariant.4.quiet quiet)).1 (err_same _ Ending _ Memory same)
