@@ -53,51 +53,54 @@ still (Ok false) f = 1 + (2 ^ 40 - f.stream.count)
 still r f = 0
 
 -- These bytes and then others of the source were given to a check that was fresh on the state.
-pub record HasGiven (k : ℕ) (Fresh : State → Type 0) (n : NameTable) (from : ℕ) (is_whole : Bool) (left left_new : Option (List ℕ)) (bytes : List ℕ) (r : Result Bool TextFault) (f : Feeder) (c : Checking)
-    (log : Kept) : Type 0 where
+pub record HasGiven (k : ℕ) (Fresh : State → Type 0) (n : NameTable) (from : ℕ) (is_whole : Bool) (left left_new : Option (List ℕ)) (count count_new : ℕ) (bytes : List ℕ) (r : Result Bool TextFault) (f : Feeder)
+    (c : Checking) (log : Kept) : Type 0 where
   pub more : List ℕ
   pub taken : Consumes left left_new more
+  pub counted : count_new ≤ count + length more
   pub few : length more ≤ 2 ^ 40 + 4096
   pub none : is_whole ≡ true → more ≡ []
   pub far : (first : State) → Fresh first → IsFar first k n from r f c log (bytes ++ more)
 
-module _ (k : ℕ) (Fresh : State → Type 0) (n : NameTable) (from : ℕ) (is_whole : Bool) (left : Option (List ℕ)) (bytes : List ℕ) where
+module _ (k : ℕ) (Fresh : State → Type 0) (n : NameTable) (from : ℕ) (is_whole : Bool) (left : Option (List ℕ)) (count : ℕ) (bytes : List ℕ) where
   pub first_given : (r : Result Bool TextFault) (f : Feeder) (c : Checking) (log : Kept) → ((first : State) → Fresh first → IsFar first k n from r f c log bytes)
-      → HasGiven k Fresh n from is_whole left left bytes r f c log
+      → HasGiven k Fresh n from is_whole left left count count bytes r f c log
   first_given r f c log far = record {
     more = [];
     taken = nothing_taken left [] refl;
+    counted = omega arith;
     few = omega arith;
     none = λ e. refl;
     far = λ first h. subst (λ (t : List ℕ). IsFar first k n from r f c log t) (sym (append-nil bytes)) (far first h);
   }
 
   -- a check that goes on
-  still_open : (mid : Option (List ℕ)) (r : Result Bool TextFault) (f : Feeder) (c : Checking) (log : Kept) → (h : HasGiven k Fresh n from is_whole left mid bytes r f c log) → r ≡ Ok false → (first : State) → Fresh first
+  still_open : (mid : Option (List ℕ)) (m : ℕ) (r : Result Bool TextFault) (f : Feeder) (c : Checking) (log : Kept) → (h : HasGiven k Fresh n from is_whole left mid count m bytes r f c log) → r ≡ Ok false → (first : State) → Fresh first
       → IsFar first k n from (Ok false) f c log (bytes ++ h.more)
-  still_open mid r f c log h e first fresh = subst (λ (s : Result Bool TextFault). IsFar first k n from s f c log (bytes ++ h.more)) e (h.far first fresh)
+  still_open mid m r f c log h e first fresh = subst (λ (s : Result Bool TextFault). IsFar first k n from s f c log (bytes ++ h.more)) e (h.far first fresh)
 
-  module _ (mid new : Option (List ℕ)) (was r : Result Bool TextFault) (f g : Feeder) (c d : Checking) (log kept : Kept) (piece : List ℕ) (first : State) (fresh : Fresh first)
-      (h : HasGiven k Fresh n from is_whole left mid bytes was f c log) (going : was ≡ Ok false)
+  module _ (mid new : Option (List ℕ)) (m l : ℕ) (was r : Result Bool TextFault) (f g : Feeder) (c d : Checking) (log kept : Kept) (piece : List ℕ) (first : State) (fresh : Fresh first)
+      (h : HasGiven k Fresh n from is_whole left mid count m bytes was f c log) (going : was ≡ Ok false)
       (on : (u : State) (text : List ℕ) (es : List Event) → IsChecking u k f c log text es → IsFar u k n from r g d kept (text ++ piece)) where
     -- the piece goes behind what was given
-    pub next_given : Consumes mid new piece → length piece ≤ 4096 → (is_whole ≡ true → piece ≡ []) → HasGiven k Fresh n from is_whole left new bytes r g d kept
-    next_given got small all =
-        let x = still_open mid was f c log h going first fresh in
+    pub next_given : Consumes mid new piece → l ≤ m + length piece → length piece ≤ 4096 → (is_whole ≡ true → piece ≡ []) → HasGiven k Fresh n from is_whole left new count l bytes r g d kept
+    next_given got more small all =
+        let x = still_open mid m was f c log h going first fresh in
         let o = open_text first k f c log (bytes ++ h.more) x.0 x.1 x.2 x.3 in
         record {
           more = h.more ++ piece;
           taken = taken_then left mid new h.more piece (h.more ++ piece) h.taken got refl;
+          counted = omega (arith, h.counted, more, length-append h.more piece);
           few = omega (arith, o.1, small, length-append bytes h.more, length-append h.more piece);
           none = λ e. ap (λ (t : List ℕ). t ++ piece) (h.none e) ∙ all e;
-          far = λ u fresh_u. let y = still_open mid was f c log h going u fresh_u in
+          far = λ u fresh_u. let y = still_open mid m was f c log h going u fresh_u in
               subst (λ (t : List ℕ). IsFar u k n from r g d kept t) (append_assoc bytes h.more piece) (on u (bytes ++ h.more) y.0 y.2);
         }
 
     -- and less may still come
     pub less_still : 0 < length piece → still r g < still was f
     less_still some =
-        let x = still_open mid was f c log h going first fresh in
+        let x = still_open mid m was f c log h going first fresh in
         let o = open_text first k f c log (bytes ++ h.more) x.0 x.1 x.2 x.3 in
         subst (λ (s : Result Bool TextFault). still r g < still s f) (sym going) (go r (on first (bytes ++ h.more) x.0 x.2) o.0)
       where
@@ -109,12 +112,20 @@ module _ (k : ℕ) (Fresh : State → Type 0) (n : NameTable) (from : ℕ) (is_w
         go (Err fault) y before = omega arith
 
   -- what was taken, where the check is still open, and one piece more
-  pub most_given : (mid new : Option (List ℕ)) (r : Result Bool TextFault) (f : Feeder) (c : Checking) (log : Kept) (first : State) → Fresh first → HasGiven k Fresh n from is_whole left mid bytes r f c log → r ≡ Ok false
+  pub most_given : (mid new : Option (List ℕ)) (m : ℕ) (r : Result Bool TextFault) (f : Feeder) (c : Checking) (log : Kept) (first : State) → Fresh first → HasGiven k Fresh n from is_whole left mid count m bytes r f c log → r ≡ Ok false
       → TakesAtMost 4096 mid new → TakesAtMost (2 ^ 40 + 4096) left new
-  most_given mid new r f c log first fresh h e (piece, got, small) =
-      let x = still_open mid r f c log h e first fresh in
+  most_given mid new m r f c log first fresh h e (piece, got, small) =
+      let x = still_open mid m r f c log h e first fresh in
       let o = open_text first k f c log (bytes ++ h.more) x.0 x.1 x.2 x.3 in
       (h.more ++ piece, taken_then left mid new h.more piece (h.more ++ piece) h.taken got refl, omega (arith, o.1, small, length-append bytes h.more, length-append h.more piece))
+
+  -- the same by the source's own count
+  pub count_given : (mid : Option (List ℕ)) (m l : ℕ) (r : Result Bool TextFault) (f : Feeder) (c : Checking) (log : Kept) (first : State) → Fresh first → HasGiven k Fresh n from is_whole left mid count m bytes r f c log → r ≡ Ok false
+      → l ≤ m + 4096 → l ≤ count + (2 ^ 40 + 4096)
+  count_given mid m l r f c log first fresh h e more =
+      let x = still_open mid m r f c log h e first fresh in
+      let o = open_text first k f c log (bytes ++ h.more) x.0 x.1 x.2 x.3 in
+      omega (arith, o.1, more, h.counted, length-append bytes h.more)
 
 -- ---- the end
 
@@ -136,8 +147,8 @@ end_behind false (Some u) (Some v) bytes more P got none (inl e) p = absurd (fal
 end_behind false (Some u) (Some v) bytes more P got none (inr e) p = (more, sym (got ∙ ap (λ (t : List ℕ). more ++ t) e ∙ append-nil more), p)
 
 -- the check has said that the text is a derivation, or what its fault is
-module _ (k : ℕ) (Fresh : State → Type 0) (n : NameTable) (from : ℕ) (is_whole : Bool) (left new : Option (List ℕ)) (bytes : List ℕ) (r : Result Bool TextFault) (f : Feeder) (c : Checking) (log : Kept)
-    (h : HasGiven k Fresh n from is_whole left new bytes r f c log) (first : State) (fresh : Fresh first) where
+module _ (k : ℕ) (Fresh : State → Type 0) (n : NameTable) (from : ℕ) (is_whole : Bool) (left new : Option (List ℕ)) (count count_new : ℕ) (bytes : List ℕ) (r : Result Bool TextFault) (f : Feeder) (c : Checking) (log : Kept)
+    (h : HasGiven k Fresh n from is_whole left new count count_new bytes r f c log) (first : State) (fresh : Fresh first) where
   pub all_checked : r ≡ Ok true → (u : List ℕ) × Follows is_whole left u × HasChecked first k n c (bytes ++ u)
   all_checked e = all_behind is_whole left new bytes h.more (HasChecked first k n c) h.taken h.none (subst (λ (s : Result Bool TextFault). IsFar first k n from s f c log (bytes ++ h.more)) e (h.far first fresh))
 

@@ -76,6 +76,7 @@ fn check_below<S: Source>(
         → IsFront left (S.left source.old) front
         → (input : List ℕ) × Tells left input × FindsIn (none_below d e) input found) }
     ensures most { TakesAtMost (2 ^ 40 + 4096) (S.left source.old) (S.left source.new) }
+    ensures counted { S.taken source.new ≤ S.taken source.old + (2 ^ 40 + 4096) }
     ensures cause { ReadCause (S.faults source.old) (S.faults source.new) result }
 {
     let Front { accepted, second } = front;

@@ -1,6 +1,6 @@
 //! The problem that an input begins with, and what was read with it.
 
-ghost use Rattle.std.specs.Prelude.{◌≡◌, ◌≤◌, IfOk, drop, length};
+ghost use Rattle.std.specs.Prelude.{◌≡◌, ◌≤◌, ◌+◌, IfOk, drop, length};
 ghost use Rattle.command_input.specs.Reading.{ReadCause, TakesAtMost};
 ghost use Rattle.check_commands.specs.Checks.{AnswersFront, bytes_behind};
 
@@ -47,6 +47,7 @@ pub fn take_front<S: Source>(
 ) -> Result<Result<Front, TextFault>, ReadFault>
     ensures answer { IfOk result (AnswersFront (S.left source.old) (S.left source.new)) }
     ensures most { TakesAtMost 1048577 (S.left source.old) (S.left source.new) }
+    ensures counted { S.taken source.new ≤ S.taken source.old + 1048577 }
     ensures cause { ReadCause (S.faults source.old) (S.faults source.new) result }
 {
     let mut read = Vec::new(alloc);

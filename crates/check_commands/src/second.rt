@@ -42,6 +42,7 @@ pub fn check_second<S: Source>(
     ensures answer { IfOk result
         (FindsBehind problem.now conditions.now second.now (S.left source.old)) }
     ensures most { TakesAtMost (2 ^ 40 + 4096) (S.left source.old) (S.left source.new) }
+    ensures counted { S.taken source.new ≤ S.taken source.old + (2 ^ 40 + 4096) }
     ensures cause { ReadCause (S.faults source.old) (S.faults source.new) result }
 {
     problem.is_said();
@@ -67,6 +68,7 @@ fn check_in<const K: usize, S: Source>(
     ensures answer { IfOk result
         (FindsBehind problem.now conditions.now second.now (S.left source.old)) }
     ensures most { TakesAtMost (2 ^ 40 + 4096) (S.left source.old) (S.left source.new) }
+    ensures counted { S.taken source.new ≤ S.taken source.old + (2 ^ 40 + 4096) }
     ensures cause { ReadCause (S.faults source.old) (S.faults source.new) result }
 {
     problem.is_said();
@@ -97,6 +99,7 @@ fn give_text<const K: usize, S: Source>(
         (bytes_behind text.now ++ more)) }
     ensures conditions { check.new.checker.conds ≡ check.old.checker.conds }
     ensures most { TakesAtMost (2 ^ 40 + 4096) (S.left source.old) (S.left source.new) }
+    ensures counted { S.taken source.new ≤ S.taken source.old + (2 ^ 40 + 4096) }
     ensures cause { ReadCause (S.faults source.old) (S.faults source.new) result }
 {
     let mut piece = [0; PIECE];
@@ -127,6 +130,8 @@ fn next_piece<S: Source>(
         → (is_whole ≡ true) ⊎ IsAtEnd (S.left source.new)) }
     ensures none { IfOk result (λ n. is_whole ≡ true → n ≡ 0) }
     ensures kept { TakesAtMost (length piece.old) (S.left source.old) (S.left source.new) }
+    ensures counted { S.taken source.new ≤ S.taken source.old + length piece.old }
+    ensures few { IfOk result (λ n. S.taken source.new ≤ S.taken source.old + n) }
     ensures size { length piece.new ≡ length piece.old }
     ensures cause { ReadCause (S.faults source.old) (S.faults source.new) result }
 {

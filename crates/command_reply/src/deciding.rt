@@ -1,6 +1,6 @@
 //! A command: it decides on a reply to its input, which is then written.
 
-ghost use Rattle.std.specs.Prelude.{◌≡◌, Err, IfOk};
+ghost use Rattle.std.specs.Prelude.{◌≡◌, ◌≤◌, ◌+◌, Err, IfOk, true};
 ghost use Rattle.command_input.specs.Reading.{ReadCause, TakesAtMost};
 ghost use Rattle.command_reply.specs.Ends.{Ends, WantsFirst};
 ghost use Rattle.command_reply.specs.Question.{Decides, FrontOf, IsSound, Question};
@@ -26,6 +26,7 @@ pub trait Deciding {
         ensures ready { IfOk result (λ reply. Self.Answer.ready reply) }
         ensures most { TakesAtMost (question self.now).most
             (S.left source.old) (S.left source.new) }
+        ensures counted { S.taken source.new ≤ S.taken source.old + (question self.now).most }
         ensures cause { ReadCause (S.faults source.old) (S.faults source.new) result }
         ensures unread { (question self.now).most ≡ 0
             → (source.new ≡ source.old) × (result ≡ Err ReadFault.Failed → ⊥) };
@@ -47,11 +48,13 @@ pub fn carry_out<C: Deciding, S: Source, W: Sink>(
         (W.written sink.old) (W.written sink.new) (W.faults sink.old) (W.faults sink.new) result }
     ensures most { TakesAtMost (C.question command.now).most
         (S.left source.old) (S.left source.new) }
+    ensures counted { S.taken source.new ≤ S.taken source.old + (C.question command.now).most }
     ensures unread { (C.question command.now).most ≡ 0
         → (source.new ≡ source.old) × (result ≡ Status.ReadFault → ⊥) }
     ensures kept { result ≡ Status.ReadFault → sink.new ≡ sink.old }
     ensures quiet { WantsFirst (W.quiet sink.old) (W.written sink.old) (W.written sink.new)
         result }
+    ensures unwritten { W.quiet sink.old ≡ true → result ≡ Status.Memory → sink.new ≡ sink.old }
     ensures sound { IsSound (C.question command.now) }
 {
     command.sound();

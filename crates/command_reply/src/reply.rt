@@ -1,6 +1,6 @@
 //! What a command replies, and how that is written.
 
-ghost use Rattle.std.specs.Prelude.{◌≡◌, Ok, ℕ, List, IfOk, codes};
+ghost use Rattle.std.specs.Prelude.{◌≡◌, Ok, ℕ, List, IfOk, IsErrOf, codes, true};
 ghost use Rattle.geo_chan.specs.Piece.{pieces_text};
 ghost use Rattle.geo_tokens.specs.declared.fault.FaultWord.{FaultWord as FaultWordOf};
 ghost use Rattle.geo_tokens.specs.declared.fault.TextFault.TheVariants as faults;
@@ -23,11 +23,13 @@ pub trait Reply {
     ghost ready: { Self → Type 0 };
 
     /// Writes one of these texts, and gives its status. After a fault a front part of one was
-    /// written. Over a quiet sink memory is wanted only where nothing was written.
+    /// written. Over a quiet sink memory is wanted only where the sink is as it was.
     fn write<W: Sink>(self, alloc: Global, sink: &mut W) -> Result<Status, PutFault>
         requires { ready self }
-        ensures { WritesReply (says self) (W.written sink.old) (W.written sink.new)
-            (W.faults sink.old) (W.faults sink.new) (W.quiet sink.old) (W.quiet sink.new) result };
+        ensures reply { WritesReply (says self) (W.written sink.old) (W.written sink.new)
+            (W.faults sink.old) (W.faults sink.new) (W.quiet sink.old) (W.quiet sink.new) result }
+        ensures unwritten { W.quiet sink.old ≡ true → IsErrOf result PutFault.Memory
+            → sink.new ≡ sink.old };
 }
 
 /// A text that was spelled whole, and its status.

@@ -1,6 +1,6 @@
 //! What is taken of an input: a problem, or a problem and a layout of it.
 
-ghost use Rattle.std.specs.Prelude.{IfOk, ℕ, List};
+ghost use Rattle.std.specs.Prelude.{◌≤◌, ◌+◌, IfOk, ℕ, List};
 ghost use Rattle.command_input.specs.Reading.{ReadCause, TakesAtMost, Tells};
 ghost use Rattle.command_reply.specs.Accepted.{AnswersAccepted};
 ghost use Rattle.command_reply.specs.Dimension.{AnswersGivenIn};
@@ -21,6 +21,7 @@ pub fn take_problem<S: Source>(
     ensures answer { IfOk result (λ read. (input : List ℕ) × Tells (S.left source.old) input
         × AnswersAccepted read input) }
     ensures most { TakesAtMost 1048577 (S.left source.old) (S.left source.new) }
+    ensures counted { S.taken source.new ≤ S.taken source.old + 1048577 }
     ensures cause { ReadCause (S.faults source.old) (S.faults source.new) result }
 {
     let text = read_first_text(alloc, source)?;
@@ -35,6 +36,7 @@ pub fn take_given<S: Source>(
     ensures answer { IfOk result (λ read. (input : List ℕ) × Tells (S.left source.old) input
         × AnswersGiven read input) }
     ensures most { TakesAtMost 2097153 (S.left source.old) (S.left source.new) }
+    ensures counted { S.taken source.new ≤ S.taken source.old + 2097153 }
     ensures cause { ReadCause (S.faults source.old) (S.faults source.new) result }
 {
     let text = read_two_texts(alloc, source)?;
@@ -51,6 +53,7 @@ pub fn take_given_in<S: Source>(
     ensures answer { IfOk result (λ read. (input : List ℕ) × Tells (S.left source.old) input
         × AnswersGivenIn d read input) }
     ensures most { TakesAtMost 2097153 (S.left source.old) (S.left source.new) }
+    ensures counted { S.taken source.new ≤ S.taken source.old + 2097153 }
     ensures cause { ReadCause (S.faults source.old) (S.faults source.new) result }
 {
     let text = read_two_texts(alloc, source)?;

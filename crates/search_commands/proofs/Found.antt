@@ -1,6 +1,6 @@
 -- What a search answered is what is found of the text, and what `make` sums up of it.
 use Rattle.std.proofs.Common.{◌≡◌, ◌∙◌, ℕ, List, ◌++◌, length, refl, sym, ap, subst}
-use Rattle.std.specs.Prelude.{codes, Err}
+use Rattle.std.specs.Prelude.{codes}
 use Rattle.std.proofs.lemmas.List.{length-map}
 use Rattle.geo_base.specs.Tuple.{Tuple}
 use Rattle.derivation.specs.declared.recorder.NoRecord.{NoRecord}
@@ -10,21 +10,20 @@ use Rattle.layout_search.specs.declared.first.Outcome.TheVariants.{Found, Nothin
 use Rattle.layout_text.specs.Block.{token_line}
 use Rattle.linear_conditions.specs.CondTree.{cond_view}
 use Rattle.problem_data.specs.Problem.{ProblemData}
+use Rattle.problem_data.specs.Accepted.{Accepts}
 use Rattle.problem_generator.specs.Made.{made_text}
 use Rattle.problem_data.specs.Cells.{IsTuple, IsShaped}
 use Rattle.rule_ground.specs.Ground.{conditions}
 use Rattle.command_reply.specs.declared.accepted.Accepted.{Accepted}
-use Rattle.command_reply.specs.Accepted.{HasRead, AnswersAccepted}
+use Rattle.command_reply.specs.Accepted.{HasRead, IsRefused}
 use Rattle.search_commands.specs.First.{FindsLayout, FindsNone, RunsOut}
 use Rattle.search_commands.specs.Make.{MakeAnswer, counts}
 use Rattle.search_commands.specs.Summed.{IsShapedFor, answer_lines, outcome_status}
-use Rattle.command_reply.specs.Reply.{IsAnswered, IsSaid}
-use Rattle.command_reply.specs.Question.{AnswersInput}
-use Rattle.command_reply.specs.Refusal.{refusal}
-use Rattle.command_reply.proofs.Ending.{Refuses, answers_told}
-use Rattle.command_input.specs.declared.command.Status.{Status}
-use Rattle.command_input.specs.declared.command.Status.TheVariants.{Refused}
-use Rattle.geo_tokens.specs.declared.fault.TextFault.{TextFault}
+use Rattle.command_reply.specs.Reply.{IsAnswered}
+use Rattle.command_reply.proofs.Refusals.{not_refused}
+use Rattle.fewer_rules.specs.Fewer.{HasConditions}
+use Rattle.generated_conditions.specs.Conditions.{HasRackConditions}
+use Rattle.geo_tokens.specs.declared.fault.FaultWord.{FaultWord}
 
 module _ {R : Type 0} (n : ℕ) (input : List ℕ) (a : Accepted) (read : HasRead input a) (o : Outcome R) (lists : Lists a.problem a.conditions.items n o) (finds : Finds a.problem o) where
   pub layout_found : (t : Tuple) → o ≡ Found t → FindsLayout n input a.problem a.conditions.items t
@@ -50,34 +49,38 @@ module _ {R : Type 0} (n : ℕ) (input : List ℕ) (a : Accepted) (read : HasRea
 as_many : (text : List ℕ) (a : Accepted) → HasRead text a → length a.conditions.items ≡ length (conditions a.problem)
 as_many text a h = sym (length-map a.conditions.items cond_view) ∙ ap length h.are
 
+-- the numbers that are written are those of each made problem
+numbers_are : (text : List ℕ) (a : Accepted) → HasRead text a → HasRackConditions a.problem → counts (length a.problem.objects) (length a.conditions.items) ≡ counts 40 3600
+numbers_are text a h rack = λ i. counts (rack.objects i) ((as_many text a h ∙ rack.conditions) i)
+
 -- what is written of a search over a problem that was made from a seed
-pub summed : (seed n : ℕ) (input : List ℕ) (a : Accepted) → HasRead (made_text seed) a → (o : Outcome NoRecord) → Lists a.problem a.conditions.items n o → Finds a.problem o
+pub summed : (seed n : ℕ) (input : List ℕ) (a : Accepted) → HasRead (made_text seed) a → HasRackConditions a.problem → (o : Outcome NoRecord) → Lists a.problem a.conditions.items n o → Finds a.problem o
     → MakeAnswer seed n input (counts (length a.problem.objects) (length a.conditions.items) ++ answer_lines o) (outcome_status o) × IsAnswered (outcome_status o)
-summed seed n input a h (Found t) l f = (
+summed seed n input a h rack (Found t) l f = (
   record {
     problem = a.problem;
     conditions = a.conditions.items;
     tuple = t;
     found = layout_found {R = NoRecord} n (made_text seed) a h (Found t) l f t refl;
-    says = ap (λ k. counts (length a.problem.objects) k ++ (codes "answer layout\n" ++ token_line t)) (as_many (made_text seed) a h);
+    says = ap (λ (u : List ℕ). u ++ (codes "answer layout\n" ++ token_line t)) (numbers_are (made_text seed) a h rack);
   },
   tt,
 )
-summed seed n input a h (Nothing r) l f = (
+summed seed n input a h rack (Nothing r) l f = (
   record {
     problem = a.problem;
     conditions = a.conditions.items;
     found = none_found {R = NoRecord} n (made_text seed) a h (Nothing r) l f r refl;
-    says = ap (λ k. counts (length a.problem.objects) k ++ codes "answer none\n") (as_many (made_text seed) a h);
+    says = ap (λ (u : List ℕ). u ++ codes "answer none\n") (numbers_are (made_text seed) a h rack);
   },
   tt,
 )
-summed seed n input a h OutOfBudget l f = (
+summed seed n input a h rack OutOfBudget l f = (
   record {
     problem = a.problem;
     conditions = a.conditions.items;
     found = ran_out {R = NoRecord} n (made_text seed) a h OutOfBudget l f refl;
-    says = ap (λ k. counts (length a.problem.objects) k ++ codes "answer budget\n") (as_many (made_text seed) a h);
+    says = ap (λ (u : List ℕ). u ++ codes "answer budget\n") (numbers_are (made_text seed) a h rack);
   },
   tt,
 )
@@ -96,7 +99,8 @@ shaped_found p OutOfBudget f = tt
 pub read_conditions : (text : List ℕ) (a : Accepted) → HasRead text a → AreConditionsOf a.problem a.conditions.items
 read_conditions text a h = record { fit = h.fit; meaning = h.meaning }
 
--- the text that is made is refused
-pub make_refused : (seed n : ℕ) (input : List ℕ) (fault : TextFault) (own : List ℕ) (mine : Status) → Refuses fault own mine → AnswersAccepted (Err fault) (made_text seed) → AnswersInput (MakeAnswer seed n) input (IsSaid own mine)
-make_refused seed n input fault own mine (place, word, e, o, m) h =
-    answers_told (MakeAnswer seed n) input (refusal place word) own Refused mine o m (place, word, subst (λ (f : TextFault). AnswersAccepted (Err f) (made_text seed)) e h, refl) tt
+-- the text that is made is not refused
+pub made_not_refused : (seed place : ℕ) (word : FaultWord) → (p : ProblemData) × Accepts (made_text seed) p → ((p : ProblemData) → Accepts (made_text seed) p → HasRackConditions p) → IsRefused (made_text seed) place word → ⊥
+made_not_refused seed place word read each refused =
+    let rules : HasConditions read.0 = (each read.0 read.1).faultless in
+    not_refused (made_text seed) read.0 place word (record { spells = read.1; names = rules.names; expands = rules.expands; grounds = rules.grounds }) refused

@@ -183,8 +183,7 @@ make_is : (seed n : ℕ) (input text : List ℕ) (s : Status) → MakeAnswer see
 make_is seed n input text Answered a = a
 make_is seed n input text No a = a
 make_is seed n input text Budget a = a
-make_is seed n input text Refused a = a
-make_is seed n input text _ a = a
+make_is seed n input text _ a = absurd a
 
 same_none : (n : ℕ) (input t u : List ℕ) → WritesNone IsNoneSummary n input t → WritesNone IsNoneSummary n input u → t ≡ u
 same_none n input t u a b =
@@ -194,13 +193,19 @@ make_text : (seed n : ℕ) (input t u : List ℕ) (s : Status) → MakeAnswer se
 make_text seed n input t u Answered a b = inl (same_layout layout_summary IsNoneSummary budget_summary n (made_text seed) t u a b)
 make_text seed n input t u No a b = inl (same_none n (made_text seed) t u a b)
 make_text seed n input t u Budget a b = inl (same_spent layout_summary IsNoneSummary budget_summary n (made_text seed) t u a b)
-make_text seed n input t u Refused a b = inl (one_refused_text (made_text seed) t u a b)
 make_text seed n input t u _ a b = absurd a
+
+-- nothing is refused, whatever the input
+make_verdict : (seed n : ℕ) (input text : List ℕ) (s : Status) → MakeAnswer seed n input text s → IsVerdict s
+make_verdict seed n input text Answered a = inl refl
+make_verdict seed n input text No a = inr (inl refl)
+make_verdict seed n input text Budget a = inr (inr refl)
+make_verdict seed n input text _ a = absurd a
 
 pub make_sound : (seed n : ℕ) → IsSound (make_question seed n)
 make_sound seed n = record {
   one_status = λ input t u s r a b. found_status layout_summary IsNoneSummary budget_summary n (made_text seed) t u s r (make_is seed n input t s a) (make_is seed n input u r b);
   one_text = make_text seed n;
-  complete = λ input text s given a. found_verdict layout_summary IsNoneSummary budget_summary n (made_text seed) text s given (make_is seed n input text s a);
+  complete = λ input text s given a. make_verdict seed n input text s a;
   within = omega arith;
 }

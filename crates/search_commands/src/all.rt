@@ -1,6 +1,6 @@
 //! `all`: the layouts of a problem by pages. Each block is written as soon as its layout is found.
 
-ghost use Rattle.std.specs.Prelude.{◌≡◌, ℕ, List, IfOk, IfSome};
+ghost use Rattle.std.specs.Prelude.{◌≡◌, ℕ, List, IfOk, IfSome, IsErrOf, true};
 ghost use Rattle.std.specs.Option.{option_copied};
 ghost use Rattle.geo_chan.specs.Written.{Prints};
 ghost use Rattle.layout_search.specs.FirstLayout.{walk_after};
@@ -116,10 +116,12 @@ impl Reply for ListingReply {
 // Writes the layouts, each as soon as it is found, and the line behind them.
 fn write_page<W: Sink>(alloc: Global, listing: Listing, sink: &mut W) -> Result<Status, PutFault>
     requires { CanList listing }
-    ensures { WritesReply (SaysListing listing.problem
+    ensures reply { WritesReply (SaysListing listing.problem
         (walk_after listing.problem listing.conditions.items listing.after) listing.most listing.budget)
         (W.written sink.old) (W.written sink.new) (W.faults sink.old) (W.faults sink.new)
         (W.quiet sink.old) (W.quiet sink.new) result }
+    ensures unwritten { W.quiet sink.old ≡ true → IsErrOf result PutFault.Memory
+        → sink.new ≡ sink.old }
 {
     let Listing {
         problem,

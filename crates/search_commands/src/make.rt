@@ -7,13 +7,16 @@ ghost use Rattle.problem_generator.specs.Made.{made_text};
 ghost use Rattle.command_reply.specs.Accepted.{HasRead};
 ghost use Rattle.command_reply.specs.Question.{AnswersInput};
 ghost use Rattle.command_reply.specs.Reply.{IsSaid};
+ghost use Rattle.generated_conditions.specs.Conditions.{HasRackConditions};
 ghost use Rattle.search_commands.specs.Make.{MakeAnswer, counts, make_question};
 ghost use Rattle.search_commands.specs.Summed.{IsShapedFor, answer_lines, outcome_status};
 
 use command_input::{ReadFault, Status};
-use command_reply::{Accepted, Deciding, TextReply, TextSink, read_accepted, refuse, spelled};
+use command_reply::{Accepted, Deciding, TextReply, TextSink, read_accepted, spelled};
 use derivation::NoRecord;
+use generated_conditions::made_problems_are_accepted;
 use geo_chan::{Piece, PutFault, Sink, Source, write_all_bytes, write_pieces};
+use geo_tokens::fault::TextFault;
 use layout_search::{Outcome, search_first_unrecorded};
 use layout_text::print_token_line;
 use problem_data::problem::Problem;
@@ -51,16 +54,18 @@ impl Deciding for Make {
     fn sound(&self) {}
 }
 
-// What is replied to a seed.
+// What is replied to a seed. The text that is made of it has no fault.
 fn made(alloc: Global, seed: u32, most: u64) -> Result<TextReply, AllocError>
     requires { seed < 2 ^ 31 }
     ensures { IfOk result (λ reply. (input : List ℕ)
         → AnswersInput (MakeAnswer seed most) input (IsSaid reply.text.items reply.status)) }
 {
     let text = make_problem(alloc, seed)?;
+    made_problems_are_accepted(seed);
     match read_accepted(alloc, &text) {
         Ok(accepted) => summed(alloc, accepted, most),
-        Err(fault) => refuse(alloc, fault),
+        Err(TextFault::Memory) => Err(AllocError),
+        Err(TextFault::At(_place, _word)) => unreachable!(),
     }
 }
 
@@ -68,7 +73,7 @@ fn made(alloc: Global, seed: u32, most: u64) -> Result<TextReply, AllocError>
 fn summed(alloc: Global, accepted: Accepted, most: u64) -> Result<TextReply, AllocError>
     requires { (input : List ℕ) × HasRead input accepted }
     ensures { IfOk result (λ reply. (seed : ℕ) (input : List ℕ)
-        → HasRead (made_text seed) accepted
+        → HasRead (made_text seed) accepted → HasRackConditions accepted.problem
         → AnswersInput (MakeAnswer seed most) input (IsSaid reply.text.items reply.status)) }
 {
     let Accepted {

@@ -8,7 +8,8 @@ ghost use Rattle.rule_ground.specs.Start.{first_state};
 ghost use Rattle.search_commands.specs.First.{ShowsNone};
 
 use derivation::Log;
-use derivation_trim::{is_derivation, shortened};
+use derivation_check::is_derivation;
+use derivation_trim::shortened;
 use geo_conditions::Cond;
 use geo_tokens::names::Names;
 use layout_search::in_dimensions;

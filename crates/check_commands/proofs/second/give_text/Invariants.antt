@@ -9,7 +9,7 @@ use Rattle.check_commands.proofs.second.give_text.Given as goal
 abbrev pub invariant-giving : goal.invariant-giving
 invariant-giving g l = record {
   given : HasGiven g.row.K (λ (first : List Reach). IsChecking first g.row.K l.fn.check.feeder l.fn.check.checker l.fn.check.log [] []) l.fn.check.feeder.names.now l.fn.check.feeder.place l.text.is_whole
-      (g.S.Source.left l.fn.source) (g.S.Source.left l.source) (bytes_behind l.text) l.progress l.check.feeder l.check.checker l.check.log;
+      (g.S.Source.left l.fn.source) (g.S.Source.left l.source) (g.S.Source.taken l.fn.source) (g.S.Source.taken l.source) (bytes_behind l.text) l.progress l.check.feeder l.check.checker l.check.log;
   names : l.check.feeder.names.now ≡ l.fn.check.feeder.names.now;
   place : l.check.feeder.place ≡ l.fn.check.feeder.place;
   conditions : l.check.checker.conds ≡ l.fn.check.checker.conds;

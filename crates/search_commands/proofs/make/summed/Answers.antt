@@ -15,6 +15,6 @@ returns c =
     let count : c.len-count.result ≡ length a.conditions.items = search rules in
     let own = counts (length a.problem.objects) c.len-count.result ++ answer_lines o in
     let same : own ≡ counts (length a.problem.objects) (length a.conditions.items) ++ answer_lines o = ap (λ k. counts (length a.problem.objects) k ++ answer_lines o) count in
-    replied c.summary.result own (outcome_status o) _ c.summary.ensures.text c.summary.ensures.status (λ x e s seed input h.
-    let y = summed seed c.args.most input a h o c.in_ok-outcome.ensures.walk c.in_ok-outcome.ensures.layout in
+    replied c.summary.result own (outcome_status o) _ c.summary.ensures.text c.summary.ensures.status (λ x e s seed input h rack.
+    let y = summed seed c.args.most input a h rack o c.in_ok-outcome.ensures.walk c.in_ok-outcome.ensures.layout in
     answers_told (MakeAnswer seed c.args.most) input (counts (length a.problem.objects) (length a.conditions.items) ++ answer_lines o) x.text.items (outcome_status o) x.status (e ∙ same) s y.0 y.1)
