@@ -2,9 +2,10 @@
 use Rattle.std.specs.Prelude.{◌≡◌, ◌⊎◌, ◌≤◌, ◌^◌, ◌-◌, ◌++◌, ℕ, ℤ, List, [], length, codes, filter, Option, Some}
 use Rattle.geo_base.specs.Tuple.{Tuple}
 use Rattle.geo_conditions.specs.declared.cond.Cond.{Cond}
-use Rattle.geo_conditions.specs.Walk.{IsFront, GoesOn, is_full}
+use Rattle.geo_conditions.specs.Walk.{EndWord, GoesOn, IsFront, More, is_full}
 use Rattle.layout_text.specs.Block.{block_of}
 use Rattle.layout_search.specs.FirstLayout.{walk_of}
+use Rattle.layout_search.specs.Page.{PassesNoneOver, blocks_of}
 use Rattle.json_sheets.specs.SheetText.{TextSpells}
 use Rattle.problem_data.specs.Accepted.{most_bytes}
 use Rattle.problem_data.specs.Problem.{ProblemData}
@@ -16,7 +17,7 @@ use Rattle.check_commands.specs.Claims.{Claim, no_layout, none_below}
 use Rattle.command_input.specs.declared.command.Command.{Command}
 use Rattle.command_input.specs.declared.command.Command.TheVariants.{FromJson, Show}
 use Rattle.command_input.specs.declared.command.Status.{Status}
-use Rattle.command_input.specs.declared.command.Status.TheVariants.{Answered, No, Refused, Budget, Memory, BadDimension}
+use Rattle.command_input.specs.declared.command.Status.TheVariants.{Answered, No, Refused, Budget, Memory, BadDimension, BadToken}
 use Rattle.command_reply.specs.Accepted.{IsAccepted, AreConditions}
 use Rattle.command_reply.specs.Dimension.{HasFewerDimensions, IsAlone}
 use Rattle.command_reply.specs.Refusal.{RefusedAnswer}
@@ -24,6 +25,7 @@ use Rattle.command_reply.specs.Texts.{AreTextsOf}
 use Rattle.geo_best.specs.declared.extent.Extent.{Extent}
 use Rattle.geo_best.specs.Rounds.{IsBare, IsLeast, RoundsEnd}
 use Rattle.layout_search.specs.declared.first.Outcome.TheVariants.{OutOfBudget}
+use Rattle.search_commands.specs.All.{HasBadToken, IsFrom, last_line, last_status}
 use Rattle.search_commands.specs.Best.{bare_lines, extent_lines}
 use Rattle.search_commands.specs.First.{SaysNone, out_of_budget}
 use Rattle.search_commands.specs.Why.{SaysCore}
@@ -122,6 +124,29 @@ PromisesBest d n input text Budget = PromisesSpentRound d n input text
 PromisesBest d n input text Refused = RefusedAnswer input text
 PromisesBest d n input text BadDimension = HasFewerDimensions IsAlone d input text
 PromisesBest d n input text _ = ⊥
+
+-- Layouts of an accepted problem in the stated order, from the first one or from the one behind that
+-- of the token. Each layout there stands among them or comes after all of them; behind `end` none is
+-- missing, and behind `more` there are as many as were asked for.
+pub record PromisesListing (most n : ℕ) (token : Option (List ℕ)) (input text : List ℕ) (status : Status) : Type 0 where
+  pub problem : ProblemData
+  pub after : Option Tuple
+  pub layouts : List Tuple
+  pub word : EndWord
+  pub accepted : IsAccepted input problem
+  pub from : IsFrom problem token after
+  pub passes : PassesNoneOver problem after layouts word
+  pub full : word ≡ More → length layouts ≡ most
+  pub says : text ≡ blocks_of problem layouts ++ last_line n word
+  pub ends : status ≡ last_status word
+
+-- `all C N` and `all C N TOKEN`, for every accepted problem.
+abbrev pub PromisesAll : ℕ → ℕ → Option (List ℕ) → List ℕ → List ℕ → Status → Type 0
+PromisesAll most n token input text Answered = PromisesListing most n token input text Answered
+PromisesAll most n token input text Budget = PromisesListing most n token input text Budget
+PromisesAll most n token input text BadToken = HasBadToken token input text
+PromisesAll most n token input text Refused = RefusedAnswer input text
+PromisesAll most n token input text _ = ⊥
 
 -- The rules R refuse together, as the derivation behind them shows: with them the problem has no
 -- layout, and without any one of them it has the layout that stands in the same place.

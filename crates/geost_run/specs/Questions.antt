@@ -60,7 +60,7 @@ AnswerTo command = (question_of command).answer
 abbrev pub BeginsOf : Command → List ℕ → List ℕ → Type 0
 BeginsOf command = FrontOf (AnswerTo command)
 
--- The texts of the input are without a fault.
+-- The texts of the input are without a fault. `make` reads none, so that every input is.
 abbrev pub IsFaultless : Command → List ℕ → Type 0
 IsFaultless command = (question_of command).faultless
 

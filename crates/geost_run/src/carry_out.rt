@@ -1,6 +1,6 @@
 //! Which command carries out what the words ask for.
 
-ghost use Rattle.std.specs.Prelude.{◌≡◌};
+ghost use Rattle.std.specs.Prelude.{◌≡◌, ◌≤◌, ◌+◌, true};
 ghost use Rattle.command_input.specs.Reading.{TakesAtMost};
 ghost use Rattle.command_input.specs.Words.{form_of};
 ghost use Rattle.command_reply.specs.Ends.{Ends, WantsFirst};
@@ -30,11 +30,13 @@ pub fn carry_out<S: Source, W: Sink>(
         (W.written sink.old) (W.written sink.new) (W.faults sink.old) (W.faults sink.new) result }
     ensures most { TakesAtMost (most_taken command.entry)
         (S.left source.old) (S.left source.new) }
+    ensures counted { S.taken source.new ≤ S.taken source.old + most_taken command.entry }
     ensures unread { most_taken command.entry ≡ 0
         → (source.new ≡ source.old) × (result ≡ Status.ReadFault → ⊥) }
     ensures kept { result ≡ Status.ReadFault → sink.new ≡ sink.old }
     ensures quiet { WantsFirst (W.quiet sink.old) (W.written sink.old) (W.written sink.new)
         result }
+    ensures unwritten { W.quiet sink.old ≡ true → result ≡ Status.Memory → sink.new ≡ sink.old }
     ensures sound { IsSound (question_of command.entry) }
 {
     match command {

@@ -28,7 +28,8 @@ pub fn answer_words<S: Source, W: Sink>(
     sink: &mut W,
 ) -> Status
     ensures read { (given : _) → words ≡ Ok given → RunsWell (map string_bytes given.items)
-        (S.left source.old) (S.left source.new) (S.faults source.old) (S.faults source.new)
+        (S.left source.old) (S.left source.new) (S.taken source.old) (S.taken source.new)
+        (S.faults source.old) (S.faults source.new)
         (W.written sink.old) (W.written sink.new) (W.faults sink.old) (W.faults sink.new)
         (W.quiet sink.old) (source.new ≡ source.old) (sink.new ≡ sink.old) result }
     ensures memory { words ≡ Err Unread.Memory

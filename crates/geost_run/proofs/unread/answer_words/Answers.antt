@@ -7,12 +7,14 @@ returns-in-Ok-clause-read g c = λ given e.
     let both : Ok c.in-Ok.words ≡ Ok given = sym c.in-Ok.is ∙ e in
     let is : c.in-Ok.words ≡ given = cc in
     let r = c.run.ensures in
-    subst (λ ws. RunsWell (map string_bytes ws) (g.S.Source.left c.args.source.now) (g.S.Source.left c.run.new.source) (g.S.Source.faults c.args.source.now) (g.S.Source.faults c.run.new.source)
+    subst (λ ws. RunsWell (map string_bytes ws) (g.S.Source.left c.args.source.now) (g.S.Source.left c.run.new.source) (g.S.Source.taken c.args.source.now) (g.S.Source.taken c.run.new.source) (g.S.Source.faults c.args.source.now) (g.S.Source.faults c.run.new.source)
     (g.W.Sink.written c.args.sink.now) (g.W.Sink.written c.run.new.sink) (g.W.Sink.faults c.args.sink.now) (g.W.Sink.faults c.run.new.sink) (g.W.Sink.quiet c.args.sink.now)
     (c.run.new.source ≡ c.args.source.now) (c.run.new.sink ≡ c.args.sink.now) c.run.result) (c.deref.ensures.value ∙ ap (λ v. v.items) is) (record {
       ends = r.ends;
       most = r.most;
       most_of_one = r.most_of_one;
+      counted = r.counted;
+      counted_of_one = r.counted_of_one;
       one_status = r.one_status;
       one_text = r.one_text;
       headline = r.headline;
@@ -21,12 +23,14 @@ returns-in-Ok-clause-read g c = λ given e.
       best = r.best;
       sound_best = r.sound_best;
       loads = r.loads;
+      lists = r.lists;
       why = r.why;
       returns = r.returns;
       complete = r.complete;
       unread = r.unread;
       unread_by_make = r.unread_by_make;
       kept = r.kept;
+      unwritten = r.unwritten;
       quiet_unread = r.quiet;
       wanting = r.wanting;
     })
