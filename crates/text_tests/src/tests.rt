@@ -8,6 +8,7 @@ mod formulas;
 mod mistakes;
 mod names;
 mod problems;
+mod spellings;
 mod statements;
 mod streams;
 mod tokens;

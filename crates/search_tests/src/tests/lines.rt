@@ -17,7 +17,7 @@ pub fn line(alloc: Global, ranges: &[(i64, i64)]) -> Result<State<1>, AllocError
 }
 
 /// The coordinate of one object minus that of another one is at most 0 when this is added.
-type Literal = (ObjId, ObjId, i8);
+pub type Literal = (ObjId, ObjId, i8);
 
 /// One of the literals of each list is true. Nothing makes an empty one true.
 pub type Rules = &'static [&'static [Literal]];
@@ -39,7 +39,8 @@ pub const THREE_APART: Rules = &[
     &[(A, B, 2), (B, A, 2)],
 ];
 
-fn literal(alloc: Global, (a, b, constant): Literal) -> Result<Cond, AllocError> {
+/// The condition of one of them.
+pub fn difference(alloc: Global, (a, b, constant): Literal) -> Result<Cond, AllocError> {
     let constant = i64::from(constant);
     let form = if a.0 < b.0 {
         Form::new(alloc, &[(a, 0, 1), (b, 0, -1)], constant)?
@@ -54,11 +55,11 @@ fn literal(alloc: Global, (a, b, constant): Literal) -> Result<Cond, AllocError>
 /// One of the literals is true.
 fn condition(alloc: Global, literals: &[Literal]) -> Result<Cond, AllocError> {
     if let [only] = literals {
-        return literal(alloc, *only);
+        return difference(alloc, *only);
     }
     let mut parts = Conds::new(alloc);
     for one in literals {
-        parts.push(literal(alloc, *one)?)?;
+        parts.push(difference(alloc, *one)?)?;
     }
     Ok(Cond::AtLeast(1, parts))
 }

@@ -7,12 +7,14 @@ ghost use Rattle.geo_conditions.specs.Reach.{Reach};
 ghost use Rattle.object_pruning.specs.Kept.{AllSupport};
 
 use crate::tests::events::are_same;
-use crate::tests::literals::{A, of_one, of_two, state};
-use derivation::{Event, Log};
-use geo_conditions::{Cond, Conds, State, fits};
+use crate::tests::indexicals::indexicals;
+use crate::tests::lines::difference;
+use crate::tests::literals::{A, B, C, of_one, of_two, state};
+use derivation::{Event, Log, NoRecord, Recorder};
+use geo_conditions::{Cond, Conds, ObjId, State, all_fit, fits};
 use geo_state::{Trailed, is_small};
 use indexical::AnyIndexical;
-use object_pruning::{Placed, prune_kept, slots};
+use object_pruning::{Placed, prune_kept, prune_object, slots};
 use std::alloc::{AllocError, Global};
 use std::test::Fail;
 
@@ -217,5 +219,53 @@ fn supports_are_kept(rt: HostRuntime) -> Result<(), Fail> {
     let mut kept = blank::<18>();
     assert!(rt; is_right(rt.alloc(), &ROWS[0], &mut kept, &mut blank::<18>())?);
     assert!(rt; slots::<1>() == kept.len() && supports(&kept) >= 2);
+    Ok(())
+}
+
+/// A box of `size` of the first object's shape at that place, and a box of `other` cells of the
+/// object o, do not overlap.
+fn apart(
+    alloc: Global,
+    (place, size): (u8, i8),
+    (o, other): (ObjId, i8),
+) -> Result<Cond, AllocError> {
+    let mut parts = Conds::new(alloc);
+    parts.push(Cond::NotShape(A, place))?;
+    parts.push(difference(alloc, (A, o, size))?)?;
+    parts.push(difference(alloc, (o, A, other))?)?;
+    Ok(Cond::AtLeast(1, parts))
+}
+
+/// An object of two shapes, of the sizes 3 and 1, and the objects B of size 2 and C of size 1.
+fn beside_two(alloc: Global) -> Result<Vec<Cond>, AllocError> {
+    let mut list = Vec::new(alloc);
+    for shape in [(1, 3), (2, 1)] {
+        list.push(apart(alloc, shape, (B, 2))?)?;
+        list.push(apart(alloc, shape, (C, 1))?)?;
+    }
+    Ok(list)
+}
+
+/// Whether both shapes are kept, with the loosest bounds over them: of the long shape 2 to 6, of the
+/// short one 2 to 8.
+fn is_loosest<R: Recorder>(alloc: Global, rec: &mut R) -> Result<bool, AllocError> {
+    let s = state(alloc, &[(2, 0, 9), (1, 0, 0), (1, 9, 9)])?;
+    let list = beside_two(alloc)?;
+    if list.len() != 4 || s.objects() != 3 || !is_small(&s) || !all_fit(&list, &s) {
+        return Ok(false);
+    }
+    let list = indexicals::<1>(alloc, list)?;
+    if list.len() != 4 {
+        return Ok(false);
+    }
+    let mut t = Trailed::start(alloc, s, 0)?;
+    prune_object(&mut t, A, &list, &[1, 2, 3, 4], rec)?;
+    Ok(is_open(t.state(), (2, 8), BOTH))
+}
+
+#[test]
+fn the_bounds_are_the_loosest_over_the_shapes(rt: HostRuntime) -> Result<(), Fail> {
+    assert!(rt; is_loosest(rt.alloc(), &mut NoRecord::new())?);
+    assert!(rt; is_loosest(rt.alloc(), &mut Log::new(rt.alloc()))?);
     Ok(())
 }

@@ -16,7 +16,7 @@ use std::test::Fail;
 use sweep::sweep;
 
 /// A corner within the limits.
-fn corner(x: i8, y: i8) -> Point<2>
+pub fn corner(x: i8, y: i8) -> Point<2>
     ensures { IsSmallPoint 2 result.coordinates }
 {
     Point::filled(i64::from(x)).with(1, i64::from(y))

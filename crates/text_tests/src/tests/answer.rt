@@ -3,6 +3,7 @@
 use crate::tests::formulas::{FORMULA_LEVELS, FORMULAS};
 use crate::tests::mistakes::{KINDS, NAMES, RIGHT};
 use crate::tests::problems::{CANONICAL_FORMULAS, PIECES, PROBLEMS};
+use crate::tests::spellings::{EXPRESSIONS, SPELLED_FORMULAS};
 use crate::tests::statements::{STATEMENT_LEVELS, STATEMENTS};
 use crate::tests::tokens::{ENDS, TOKENS};
 use geo_chan::CleanSink;
@@ -14,7 +15,8 @@ use problem_syntax::syntax::read_statements;
 use problem_text::print::print_problem;
 use problem_text::read::read_problem;
 use rule_names::check::check_names;
-use rule_reading::read::read_formula;
+use rule_print::{print_expr, print_formula};
+use rule_reading::read::{read_expr, read_formula};
 use std::alloc::{AllocError, Global};
 use std::test::Fail;
 
@@ -27,6 +29,10 @@ enum Part {
     End,
     /// The number of the token behind the formula that begins with the first one.
     Formula,
+    /// The same, and behind that number the canonical spelling of the formula.
+    SpelledFormula,
+    /// The same of an expression.
+    Expression,
     /// The number of its statements.
     Statements,
     /// The canonical text of the problem.
@@ -62,6 +68,22 @@ fn formula(alloc: Global, text: &[u8]) -> Result<String, TextFault> {
     let list = tokens(alloc, text)?;
     let (_formula, behind) = read_formula(alloc, text, list.as_slice(), 0)?;
     Ok(format!(in alloc; "{behind}")?)
+}
+
+fn spelled_formula(alloc: Global, text: &[u8]) -> Result<String, TextFault> {
+    let list = tokens(alloc, text)?;
+    let (tree, behind) = read_formula(alloc, text, list.as_slice(), 0)?;
+    let mut spelled = Vec::new(alloc);
+    print_formula(alloc, &tree, &mut spelled)?;
+    Ok(format!(in alloc; "{behind} {}", text_of(alloc, &spelled)?)?)
+}
+
+fn expression(alloc: Global, text: &[u8]) -> Result<String, TextFault> {
+    let list = tokens(alloc, text)?;
+    let (tree, behind) = read_expr(alloc, text, list.as_slice(), 0)?;
+    let mut spelled = Vec::new(alloc);
+    print_expr(alloc, &tree, &mut spelled)?;
+    Ok(format!(in alloc; "{behind} {}", text_of(alloc, &spelled)?)?)
 }
 
 fn statements(alloc: Global, text: &[u8]) -> Result<String, TextFault> {
@@ -113,6 +135,8 @@ fn answer(alloc: Global, part: Part, text: &[u8]) -> Result<String, TextFault> {
         Part::Tokens => cut(alloc, text),
         Part::End => Ok(format!(in alloc; "{:?}", first_text_end(text))?),
         Part::Formula => formula(alloc, text),
+        Part::SpelledFormula => spelled_formula(alloc, text),
+        Part::Expression => expression(alloc, text),
         Part::Statements => statements(alloc, text),
         Part::Problem => problem(alloc, text),
         Part::Pieces => pieces(alloc, text),
@@ -154,6 +178,8 @@ fn texts_say_what_is_wanted(rt: HostRuntime) -> Result<(), Fail> {
         (Part::End, ENDS),
         (Part::Formula, FORMULAS),
         (Part::Formula, FORMULA_LEVELS),
+        (Part::SpelledFormula, SPELLED_FORMULAS),
+        (Part::Expression, EXPRESSIONS),
         (Part::Statements, STATEMENTS),
         (Part::Statements, STATEMENT_LEVELS),
         (Part::Problem, PROBLEMS),
