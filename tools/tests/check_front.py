@@ -14,7 +14,7 @@ from pathlib import Path
 
 from harness import TOP, Case, Cases, Failed, Setting, hear_interrupts, want, want_in
 
-MOST_README_LINES = 105
+MOST_README_LINES = 80
 LONGEST_WAIT = 30
 # what the script says of words that the program does not know
 HINTS = {
