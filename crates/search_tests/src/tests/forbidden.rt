@@ -1,12 +1,18 @@
-//! Which conditions are met by two boxes.
+//! Which conditions are met by two boxes, and the box that a condition forbids.
 
-ghost use Rattle.std.specs.Prelude.{◌<◌, ◌≤◌};
+ghost use Rattle.std.specs.Prelude.{◌≡◌, ◌<◌, ◌≤◌, length};
+ghost use Rattle.geo_base.specs.Boxes.{Has};
 ghost use Rattle.geo_base.specs.declared.TheConstants.{MAX_DIMS};
+ghost use Rattle.geo_conditions.specs.Conditions.{FitsIn};
 
-use crate::tests::literals::{A, B, of_one, of_two};
-use geo_conditions::{Cond, Conds};
-use indexical::AnyIndexical;
+use crate::tests::literals::{A, B, of_one, of_two, state};
+use crate::tests::sweeping::corner;
+use geo_base::{KBox, Point, Steps, Way};
+use geo_conditions::{Cond, Conds, State, fits};
+use indexical::{AnyIndexical, Indexical};
 use std::alloc::{AllocError, Global};
+use std::marker::Brand;
+use std::sync::ledger::{Blank, Ledger};
 use std::test::Fail;
 
 /// The condition `a.x1 >= 3 or a.x2 >= 1`.
@@ -53,5 +59,66 @@ fn two_boxes_are_found_in_their_condition(rt: HostRuntime) -> Result<(), Fail> {
         assert!(rt; is_by_boxes::<5>(alloc, leaves)? && is_by_boxes::<6>(alloc, leaves)?);
     }
     assert!(rt; !AnyIndexical::<2>::from_cond(far_or_high(alloc)?).has_boxes());
+    Ok(())
+}
+
+/// The box of the region that has c and that the condition forbids the first object, as it is asked
+/// over this ledger.
+fn forbid_with<L: Ledger>(
+    blank: Blank,
+    x: &AnyIndexical<2>,
+    s: &State<2>,
+    c: &Point<2>,
+    region: &KBox<2>,
+) -> Option<KBox<2>>
+    requires name { blank.name ≡ L.name }
+    requires parts { blank.parts ≡ L.parts }
+    requires some { 0 < blank.parts }
+    requires fits { FitsIn x.now.cond s.now }
+    requires object { 0 < length s.now }
+    requires inside { Has 2 region.now.lo.coordinates region.now.hi.coordinates c.now.coordinates }
+{
+    let mut steps = Steps::<L>::new(blank);
+    x.forbid(s, A, 1, c, region, &Way::new(0, true), &mut steps)
+}
+
+/// The same.
+fn forbidden(x: &AnyIndexical<2>, s: &State<2>, c: &Point<2>, region: &KBox<2>) -> Option<KBox<2>>
+    requires fits { FitsIn x.now.cond s.now }
+    requires object { 0 < length s.now }
+    requires inside { Has 2 region.now.lo.coordinates region.now.hi.coordinates c.now.coordinates }
+{
+    forbid_with::<Brand>(Blank::new(1), x, s, c, region)
+}
+
+/// The corners of a box of a plane.
+fn corners(b: &KBox<2>) -> ((i64, i64), (i64, i64)) {
+    ((b.lo.get(0), b.lo.get(1)), (b.hi.get(0), b.hi.get(1)))
+}
+
+/// The corners of what `far_or_high` forbids of the points from (0, 0) to (3, 1), at one of them.
+fn forbidden_at(
+    alloc: Global,
+    c: &Point<2>,
+) -> Result<Option<((i64, i64), (i64, i64))>, AllocError> {
+    let s = state::<2>(alloc, &[(1, 0, 3)])?;
+    let condition = far_or_high(alloc)?;
+    let region = KBox::new(corner(0, 0), corner(3, 1));
+    if s.objects() == 0 || !fits(&condition, &s) || !region.has(c) {
+        return Ok(None);
+    }
+    let x = AnyIndexical::<2>::from_cond(condition);
+    match forbidden(&x, &s, c, &region) {
+        Some(b) => Ok(Some(corners(&b))),
+        None => Ok(None),
+    }
+}
+
+#[test]
+fn a_disjunction_forbids_its_whole_part(rt: HostRuntime) -> Result<(), Fail> {
+    let alloc = rt.alloc();
+    assert!(rt; forbidden_at(alloc, &corner(0, 0))? == Some(((0, 0), (2, 0))));
+    assert!(rt; forbidden_at(alloc, &corner(2, 0))? == Some(((0, 0), (2, 0))));
+    assert!(rt; forbidden_at(alloc, &corner(3, 0))?.is_none());
     Ok(())
 }
