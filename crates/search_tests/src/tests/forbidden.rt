@@ -5,11 +5,12 @@ ghost use Rattle.geo_base.specs.Boxes.{Has};
 ghost use Rattle.geo_base.specs.declared.TheConstants.{MAX_DIMS};
 ghost use Rattle.geo_conditions.specs.Conditions.{FitsIn};
 
+use crate::tests::indexicals::cube;
 use crate::tests::literals::{A, B, of_one, of_two, state};
 use crate::tests::sweeping::corner;
 use geo_base::{KBox, Point, Steps, Way};
 use geo_conditions::{Cond, Conds, State, fits};
-use indexical::{AnyIndexical, Indexical};
+use indexical::{AnyIndexical, Indexical, TreeIndexical};
 use std::alloc::{AllocError, Global};
 use std::marker::Brand;
 use std::sync::ledger::{Blank, Ledger};
@@ -120,5 +121,91 @@ fn a_disjunction_forbids_its_whole_part(rt: HostRuntime) -> Result<(), Fail> {
     assert!(rt; forbidden_at(alloc, &corner(0, 0))? == Some(((0, 0), (2, 0))));
     assert!(rt; forbidden_at(alloc, &corner(2, 0))? == Some(((0, 0), (2, 0))));
     assert!(rt; forbidden_at(alloc, &corner(3, 0))?.is_none());
+    Ok(())
+}
+
+/// Whether both boxes are the same, or there is none.
+fn are_same<const K: usize>(first: &Option<KBox<K>>, second: &Option<KBox<K>>) -> bool {
+    match (first, second) {
+        (Some(b), Some(other)) => {
+            let mut same = true;
+            for d in 0..K {
+                same &= b.lo.get(d) == other.lo.get(d) && b.hi.get(d) == other.hi.get(d);
+            }
+            same
+        }
+        (None, None) => true,
+        _ => false,
+    }
+}
+
+/// Whether the condition of two boxes forbids as two boxes what it forbids as a tree, at points with
+/// `each` in all dimensions but the first. The second object lies in 3 to 5 in each dimension.
+fn is_as_tree<const K: usize, L: Ledger>(
+    alloc: Global,
+    each: i64,
+    up: bool,
+    steps: &mut Steps<L>,
+) -> Result<bool, AllocError>
+    requires dimensions { (0 < K) × (K ≤ MAX_DIMS) }
+{
+    let s = state::<K>(alloc, &[(1, 0, 9), (1, 3, 5)])?;
+    let one = apart(alloc, K, (true, true))?;
+    let other = apart(alloc, K, (true, true))?;
+    if s.objects() == 0 || !fits(&one, &s) || !fits(&other, &s) {
+        return Ok(false);
+    }
+    let boxes = AnyIndexical::<K>::from_cond(one);
+    let tree = TreeIndexical::new(other);
+    let region = cube::<K>(0, 9);
+    let way = Way::new(0, up);
+    for x in 0..10 {
+        let c = Point::filled(each).with(0, x);
+        if region.has(&c) {
+            let first = boxes.forbid(&s, A, 1, &c, &region, &way, steps);
+            if !are_same(&first, &tree.forbid(&s, A, 1, &c, &region, &way, steps)) {
+                return Ok(false);
+            }
+        }
+    }
+    Ok(true)
+}
+
+/// The same at each point.
+fn are_as_trees<const K: usize, L: Ledger>(
+    alloc: Global,
+    steps: &mut Steps<L>,
+) -> Result<bool, AllocError>
+    requires dimensions { (0 < K) × (K ≤ MAX_DIMS) }
+{
+    for each in 0..10 {
+        let up = is_as_tree::<K, L>(alloc, each, true, steps)?;
+        if !up || !is_as_tree::<K, L>(alloc, each, false, steps)? {
+            return Ok(false);
+        }
+    }
+    Ok(true)
+}
+
+/// The same in one to four dimensions, over this ledger.
+fn agree_with<L: Ledger>(blank: Blank, alloc: Global) -> Result<bool, AllocError>
+    requires name { blank.name ≡ L.name }
+    requires parts { blank.parts ≡ L.parts }
+    requires some { 0 < blank.parts }
+{
+    let mut steps = Steps::<L>::new(blank);
+    let low = are_as_trees::<1, L>(alloc, &mut steps)? && are_as_trees::<2, L>(alloc, &mut steps)?;
+    let high = are_as_trees::<3, L>(alloc, &mut steps)? && are_as_trees::<4, L>(alloc, &mut steps)?;
+    Ok(low && high)
+}
+
+/// The same.
+fn agree(alloc: Global) -> Result<bool, AllocError> {
+    agree_with::<Brand>(Blank::new(1), alloc)
+}
+
+#[test]
+fn two_boxes_forbid_what_their_tree_does(rt: HostRuntime) -> Result<(), Fail> {
+    assert!(rt; agree(rt.alloc())?);
     Ok(())
 }
