@@ -1,11 +1,14 @@
-"""The problems that scripts of this folder try: boxes that fit one after another, crates in a warehouse, pentominoes in trays.
+"""The problems that scripts of this folder try: boxes that fit one after another, crates in a warehouse, pentominoes in trays,
+jobs in a shop.
 
 Each has the text that the program reads and, to compare, a model for MiniZinc's constraint geost with the same search order.
 """
 from __future__ import annotations
 
-from collections.abc import Iterable
+from collections import Counter
+from collections.abc import Iterable, Iterator
 from dataclasses import dataclass
+from itertools import chain
 
 Cell = tuple[int, int]
 Numbers = tuple[int, ...]
@@ -234,4 +237,44 @@ def rack(boxes: int) -> str:
     lines += [f"object b{o} as box4 at 0..{width} ;" for o in range(boxes)]
     lines += [f"rule shelf : within 0..{width - 1} ;", "rule free : apart ;"]
     lines += [f"rule r{o} : b{o}.x1 < b{o + 1}.x1 ;" for o in range(boxes - 1)]
+    return "\n".join([*lines, "end"])
+
+
+def drawn(seed: int) -> Iterator[int]:
+    """Numbers below 2^15 from a seed, by the linear congruence of the C standard's `rand`."""
+    state = seed
+    while True:
+        state = (state * 1_103_515_245 + 12_345) % 2**31
+        yield state >> 16
+
+
+def shop(seed: int, steps: list[int], machines: int) -> str:
+    """Jobs of so many steps each, every step of 2 to 9 hours and on another machine than the one before: x1 is the hour, x2 the machine.
+
+    First in the order come the steps on the machine that has the most hours, and of one machine those with the most hours left of
+    their job. There are twice the hours of the longest job.
+    """
+    numbers = drawn(seed)
+    jobs: list[list[tuple[int, int]]] = []
+    for count in steps:
+        job: list[tuple[int, int]] = []
+        while len(job) < count:
+            machine, hours = next(numbers) % machines, 2 + next(numbers) % 8
+            if not job or job[-1][0] != machine:
+                job.append((machine, hours))
+        jobs.append(job)
+    hours_of = [sum(hours for _, hours in job) for job in jobs]
+    end = 2 * max(hours_of)
+    lines = ["geost 1 dims 2", *[f"shape h{hours} box 0 0 size {hours} 1 ;" for hours in range(2, 10)]]
+    left = {(j, s): sum(hours for _, hours in job[s:]) for j, job in enumerate(jobs) for s in range(len(job))}
+    load = Counter[int]()
+    for machine, hours in chain.from_iterable(jobs):
+        load[machine] += hours
+    for j, s in sorted(left, key=lambda it: (-load[jobs[it[0]][it[1]][0]], -left[it], it)):
+        machine, hours = jobs[j][s]
+        place = f"0..{end - hours} {machine}..{machine}"
+        lines.append(f"object j{j + 1}s{s + 1} as h{hours} at {place} with hours = {hours}, job = {j + 1}, step = {s + 1} ;")
+    lines.append("rule machines : apart ;")
+    lines.append("rule steps : forall p in objects : forall q in objects :")
+    lines.append("  [ p.job = q.job and p.step + 1 = q.step implies p.x1 + p.hours <= q.x1 ] ;")
     return "\n".join([*lines, "end"])
