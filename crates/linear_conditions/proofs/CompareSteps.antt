@@ -9,6 +9,7 @@ use Rattle.geo_conditions.specs.Form.{Sum}
 use Rattle.problem_data.specs.Problem.{ProblemData}
 use Rattle.rule_expand.specs.Plain.{PlainExprTree}
 use Rattle.rule_expand.specs.PlainTruth.{PlainEnv}
+use Rattle.linear_conditions.specs.declared.short.Short.{Short}
 use Rattle.linear_conditions.specs.declared.wide.WideSum.{WideSum}
 use Rattle.linear_conditions.specs.declared.fault.GroundFault.{GroundFault}
 use Rattle.linear_conditions.specs.declared.fault.GroundFault.TheVariants.{Overflow, TooMany, Memory}
@@ -17,13 +18,13 @@ use Rattle.linear_conditions.specs.Fixings.{Fixing}
 use Rattle.linear_conditions.specs.Ordered.{IsOrdered}
 use Rattle.linear_conditions.specs.Room.{CanAdd}
 use Rattle.linear_conditions.specs.Sums.{scale, has_terms, fits_sum}
-use Rattle.linear_conditions.specs.Forms.{sum_of_expr}
+use Rattle.linear_conditions.specs.Forms.{fits_expr, sum_of_expr}
 use Rattle.linear_conditions.specs.Leaves.{negated, difference, plus_one, Leaves, leaves_of, leaf_fits, IsLeaf, AreLeaves}
 use Rattle.linear_conditions.specs.Folding.{fold_linear, joined}
 use Rattle.linear_conditions.specs.Counts.{Counts, Fault, Done, and_then, allowed, within_limits, one_visit, count_sums}
-use Rattle.linear_conditions.specs.Compare.{allowed_leaves, ground_leaves}
+use Rattle.linear_conditions.specs.Compare.{AreSides, allowed_leaves, ground_compare, ground_difference, ground_leaves}
 use Rattle.linear_conditions.specs.Faults.{IsFault, IsMisfit, Gives}
-use Rattle.linear_conditions.specs.Views.{wide_view}
+use Rattle.linear_conditions.specs.Views.{short_view, wide_view}
 use Rattle.linear_conditions.proofs.Ordered.{add_terms-ordered, scale-ordered, both-true, form-of}
 use Rattle.linear_conditions.proofs.Bounds.{can-add, fits-up}
 use Rattle.linear_conditions.proofs.FormSteps.{negated-up}
@@ -104,3 +105,29 @@ unfolding allowed
 compared-misfit rel g a b k Overflow h = ap (λ x. cond x (ground_leaves (leaves_of rel g) k) (Fault words.Overflow)) (unfit a b (fits_sum g) (list_all leaf_fits (leaves_of rel g).forms) h)
 compared-misfit rel g a b k TooMany h = absurd h
 compared-misfit rel g a b k Memory h = tt
+
+short-misfit : (rel : Rel) (g : Sum) (k : Counts) → fits_sum g ≡ false → ground_difference g rel k ≡ Fault words.Overflow
+unfolding allowed
+short-misfit rel g k h = ap (λ x. cond (x && list_all leaf_fits (leaves_of rel g).forms) (ground_leaves (leaves_of rel g) k) (Fault words.Overflow)) h
+
+pub short-unfit : (rel : Rel) (g : Sum) (k : Counts) (e : GroundFault) → IsMisfit (fits_sum g) e → IsFault CondTree (ground_difference g rel k) e
+short-unfit rel g k Overflow h = short-misfit rel g k h
+short-unfit rel g k TooMany h = absurd h
+short-unfit rel g k Memory h = tt
+
+-- what is said of two short forms is said of the sides of the comparison
+pub sides-compared : (p : ProblemData) (a b : PlainExprTree) (env : PlainEnv) (fix : List Fixing) (left right : Short) (rel : Rel) (k : Counts) → AreSides p a b env fix left right →
+    ground_difference (difference (short_view left) (short_view right)) rel k ≡ ground_compare p a rel b env fix k
+unfolding allowed
+sides-compared p a b env fix left right rel k s =
+    let f = difference (short_view left) (short_view right) in
+    ap (λ (x : Bool). cond x (ground_leaves (leaves_of rel f) k) (Fault words.Overflow)) (sides-fit (fits_expr p a env fix) (fits_expr p b env fix) (fits_sum f && list_all leaf_fits (leaves_of rel f).forms) s.left_fits s.right_fits)
+    ∙ ap (λ (g : Sum). cond (fits_expr p a env fix && (fits_expr p b env fix && (fits_sum (difference g (short_view right)) && list_all leaf_fits (leaves_of rel (difference g (short_view right))).forms)))
+    (ground_leaves (leaves_of rel (difference g (short_view right))) k) (Fault words.Overflow)) s.left_is
+    ∙ ap (λ (g : Sum). cond (fits_expr p a env fix && (fits_expr p b env fix && (fits_sum (difference (sum_of_expr p a env fix) g) && list_all leaf_fits (leaves_of rel (difference (sum_of_expr p a env fix) g)).forms)))
+    (ground_leaves (leaves_of rel (difference (sum_of_expr p a env fix) g)) k) (Fault words.Overflow)) s.right_is
+  where
+    sides-fit : (a b c : Bool) → a ≡ true → b ≡ true → c ≡ (a && (b && c))
+    sides-fit true true c g h = refl
+    sides-fit true false c g h = cc
+    sides-fit false b c g h = cc

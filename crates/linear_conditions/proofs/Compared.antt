@@ -34,19 +34,19 @@ difference-value : (f g : Sum) (t : Tuple) → value (difference f g) t ≡ valu
 difference-value f g t = add_sums-value f (negated g) t ∙ ap (λ y. value f t +ℤ y) (negated-value g t)
 
 -- at most 0
-abbrev small : ℤ → Bool
+abbrev pub small : ℤ → Bool
 small z = le_z z (pos 0)
 
-small_le : (a b d : ℤ) → d ≡ a +ℤ neg_ℤ b → small d ≡ not (int_lt b a)
+pub small_le : (a b d : ℤ) → d ≡ a +ℤ neg_ℤ b → small d ≡ not (int_lt b a)
 small_le a b d e = grind (arith, ints)
 
-small_lt : (a b d : ℤ) → d ≡ (a +ℤ neg_ℤ b) +ℤ pos 1 → small d ≡ int_lt a b
+pub small_lt : (a b d : ℤ) → d ≡ (a +ℤ neg_ℤ b) +ℤ pos 1 → small d ≡ int_lt a b
 small_lt a b d e = grind (arith, ints)
 
-small_ge : (a b d : ℤ) → d ≡ neg_ℤ (a +ℤ neg_ℤ b) → small d ≡ not (int_lt a b)
+pub small_ge : (a b d : ℤ) → d ≡ neg_ℤ (a +ℤ neg_ℤ b) → small d ≡ not (int_lt a b)
 small_ge a b d e = grind (arith, ints)
 
-small_gt : (a b d : ℤ) → d ≡ neg_ℤ (a +ℤ neg_ℤ b) +ℤ pos 1 → small d ≡ int_lt b a
+pub small_gt : (a b d : ℤ) → d ≡ neg_ℤ (a +ℤ neg_ℤ b) +ℤ pos 1 → small d ≡ int_lt b a
 small_gt a b d e = grind (arith, ints)
 
 linear-small : (t : Tuple) (f : Sum) (v : ℤ) → value f t ≡ v → true_on t (fold_linear f) ≡ small v

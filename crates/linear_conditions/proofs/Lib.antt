@@ -16,6 +16,8 @@ pub mod CounterSteps
 pub mod ObjectFields
 pub mod FormSteps
 pub mod CompareSteps
+pub mod NumberSteps
+pub mod SideSteps
 pub mod Sizes
 pub mod Tame
 pub mod Inside

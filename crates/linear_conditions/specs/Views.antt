@@ -9,6 +9,8 @@ use Rattle.linear_conditions.specs.declared.wide.WideTerm.{WideTerm}
 use Rattle.linear_conditions.specs.declared.wide.WideSum.{WideSum}
 use Rattle.linear_conditions.specs.declared.wide.Atom.{Atom}
 use Rattle.linear_conditions.specs.declared.wide.Atom.TheVariants as atoms
+use Rattle.linear_conditions.specs.declared.short.Short.{Short}
+use Rattle.linear_conditions.specs.declared.short.Short.TheVariants as shorts
 use Rattle.linear_conditions.specs.declared.leaves.Leaves.{Leaves as LeavesCode}
 use Rattle.linear_conditions.specs.declared.leaves.Leaves.TheVariants as codes
 use Rattle.linear_conditions.specs.Leaves.{Leaves}
@@ -34,6 +36,10 @@ wide_view f = record { terms = wide_terms f.terms.items; constant = f.constant }
 abbrev pub atom_view : Atom → Sum
 atom_view (atoms.Number z) = constant_sum z
 atom_view (atoms.Coordinate o d) = record { terms = term o.0 d (pos 1) ∷ []; constant = pos 0 }
+
+abbrev pub short_view : Short → Sum
+short_view (shorts.Number z) = constant_sum z
+short_view (shorts.Shifted o d z) = record { terms = term o.0 d (pos 1) ∷ []; constant = z }
 
 abbrev pub leaves_view : LeavesCode → Leaves
 leaves_view (codes.One f) = record { all = true; forms = wide_view f ∷ [] }

@@ -10,5 +10,7 @@ pub mod fold;
 pub mod forms;
 pub mod laws;
 mod leaves;
+mod short;
+mod sides;
 pub mod verdict;
 pub mod wide;

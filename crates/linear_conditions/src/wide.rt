@@ -5,10 +5,11 @@ ghost use Rattle.std.specs.Int.{w64, w128};
 ghost use Rattle.geo_conditions.specs.Form.{IsForm};
 ghost use Rattle.geo_conditions.specs.Terms.{term_of};
 ghost use Rattle.linear_conditions.specs.Sums.{add_at, add_sums, constant_sum, fits_sum, has_terms, is_before, is_bounded, is_zero, place_among, raised, same_coordinate, scale, term, unless_zero};
-ghost use Rattle.linear_conditions.specs.Leaves.{plus_one};
+ghost use Rattle.linear_conditions.specs.Leaves.{difference, negated, plus_one};
 ghost use Rattle.linear_conditions.specs.Room.{CanAdd, CanScale, HasRoom};
-ghost use Rattle.linear_conditions.specs.Views.{atom_view, wide_term, wide_terms, wide_view};
+ghost use Rattle.linear_conditions.specs.Views.{atom_view, short_view, wide_term, wide_terms, wide_view};
 
+use crate::short::Short;
 use geo_conditions::{Form, ObjId};
 use smallvec::SmallVec;
 use std::alloc::{AllocError, Global};
@@ -130,7 +131,7 @@ fn push_unless_zero(terms: &mut SmallVec<WideTerm, 2>, t: WideTerm) -> Result<()
 }
 
 /// Whether a number is within the bounds of a form.
-fn is_within(z: i128) -> bool
+pub fn is_within(z: i128) -> bool
     ensures { result ≡ is_bounded z }
 {
     -BOUND <= z && z <= BOUND
@@ -178,6 +179,25 @@ impl WideSum {
         match atom {
             Atom::Number(z) => Ok(WideSum::constant_of(alloc, z)),
             Atom::Coordinate(object, dimension) => WideSum::coordinate(alloc, object, dimension),
+        }
+    }
+
+    /// A form with at most one coordinate.
+    pub fn of_short(alloc: Global, f: Short) -> Result<WideSum, AllocError>
+        ensures { IfOk result (λ g. wide_view g ≡ short_view f) }
+    {
+        match f {
+            Short::Number(z) => Ok(WideSum::constant_of(alloc, i128::from(z))),
+            Short::Shifted(object, dimension, z) => {
+                let mut terms = SmallVec::new(alloc);
+                terms.push(WideTerm {
+                    object,
+                    dimension,
+                    factor: 1,
+                })?;
+                let constant = i128::from(z);
+                Ok(WideSum { terms, constant })
+            }
         }
     }
 
@@ -287,6 +307,28 @@ impl WideSum {
                 dimension,
                 factor: 1,
             }),
+        }
+    }
+
+    /// Takes a form with at most one coordinate away.
+    pub fn subtract_short(&mut self, f: Short) -> Result<(), AllocError>
+        requires { CanAdd (wide_view self.old) (negated (short_view f)) }
+        ensures { OnOk result (wide_view self.new
+            ≡ difference (wide_view self.old) (short_view f)) }
+    {
+        match f {
+            Short::Number(z) => {
+                self.constant -= i128::from(z);
+                Ok(())
+            }
+            Short::Shifted(object, dimension, z) => {
+                self.constant -= i128::from(z);
+                self.add_at(WideTerm {
+                    object,
+                    dimension,
+                    factor: -1,
+                })
+            }
         }
     }
 

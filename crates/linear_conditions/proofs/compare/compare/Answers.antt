@@ -1,18 +1,17 @@
-use Rattle.std.proofs.lemmas.Result.{err_from_is_err_and}
+use Rattle.std.proofs.Common.{◌≡◌, subst}
+use Rattle.std.specs.Prelude.{MatchResult}
 use Rattle.rule_expand.specs.PlainView.{plain_expr_view}
 use Rattle.rule_values.specs.View.{env_view}
-use Rattle.linear_conditions.specs.Forms.{sum_of_expr, fits_expr}
-use Rattle.linear_conditions.specs.Leaves.{difference}
+use Rattle.linear_conditions.specs.CondTree.{CondTree, cond_view}
+use Rattle.linear_conditions.specs.Counts.{Done, Outcome}
+use Rattle.linear_conditions.specs.Faults.{IsFault}
 use Rattle.linear_conditions.specs.Views.{fixings_view}
-use Rattle.linear_conditions.proofs.CompareSteps.{compared-misfit}
+use Rattle.linear_conditions.proofs.CompareSteps.{sides-compared}
 use Rattle.linear_conditions.proofs.compare.compare.Goals as goal
 
-pub returns-in_err-f : goal.returns-in_err-f
-returns-in_err-f c =
-    let r = err_from_is_err_and c.from_residual.result c.from_residual.ensures.1 in
-    let p = c.args.problem.now in
-    let env = env_view c.args.env.now in
-    let fix = fixings_view c.args.fixings.now in
-    let a = plain_expr_view c.args.a.now in
-    let b = plain_expr_view c.args.b.now in
-    rw (r.1, r.2) (compared-misfit c.args.rel (difference (sum_of_expr p a env fix) (sum_of_expr p b env fix)) (fits_expr p a env fix) (fits_expr p b env fix) c.args.counter.now _ c.in_err-f.ensures.value)
+pub returns-in-Some : goal.returns-in-Some
+returns-in-Some c =
+    subst (λ (o : Outcome CondTree). MatchResult c.compare_sides.result (λ x. o ≡ Done (cond_view x) c.compare_sides.new.counter) (λ e. IsFault CondTree o e))
+    (sides-compared c.args.problem.now (plain_expr_view c.args.a.now) (plain_expr_view c.args.b.now) (env_view c.args.env.now) (fixings_view c.args.fixings.now)
+    c.in-Some.left c.in-Some.right c.args.rel c.args.counter.now c.in-Some.ensures)
+    c.compare_sides.ensures
