@@ -18,6 +18,7 @@ pub mod FormSteps
 pub mod CompareSteps
 pub mod NumberSteps
 pub mod SideSteps
+pub mod JoinSteps
 pub mod Sizes
 pub mod Tame
 pub mod Inside

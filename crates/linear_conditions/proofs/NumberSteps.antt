@@ -1,5 +1,5 @@
 -- The condition of a comparison of two numbers.
-use Rattle.std.proofs.Common.{◌≡◌, ◌&&◌, ◌||◌, Bool, true, false, cond, not, List, [], ◌∷◌, map, ℤ, pos, negsuc, ◌+ℤ◌, ◌-ℤ◌, ◌*ℤ◌, neg_ℤ, sym, ap, ◌∙◌, refl, subst, arith}
+use Rattle.std.proofs.Common.{◌≡◌, ◌&&◌, ◌||◌, Bool, true, false, cond, not, [], ◌∷◌, map, ℤ, pos, negsuc, ◌+ℤ◌, ◌-ℤ◌, ◌*ℤ◌, neg_ℤ, sym, ap, ◌∙◌, refl, subst, arith}
 use Rattle.std.proofs.lemmas.Int.{ints}
 use Rattle.std.specs.List.{list_all}
 use Rattle.std.specs.Prelude.{int_lt}
@@ -11,7 +11,7 @@ use Rattle.problem_data.specs.Truth.{compare}
 use Rattle.linear_conditions.specs.declared.fault.GroundFault.{GroundFault}
 use Rattle.linear_conditions.specs.CondTree.{CondTree}
 use Rattle.linear_conditions.specs.Sums.{constant_sum, is_bounded}
-use Rattle.linear_conditions.specs.Leaves.{negated, difference, leaves_of, leaf_fits}
+use Rattle.linear_conditions.specs.Leaves.{difference, leaves_of, leaf_fits}
 use Rattle.linear_conditions.specs.Folding.{certain, fold_linear, joined}
 use Rattle.linear_conditions.specs.Counts.{Counts, Fault, Done, and_then, allowed, within_limits, one_visit, count_sums, visit}
 use Rattle.linear_conditions.specs.Compare.{ground_difference, ground_leaves}

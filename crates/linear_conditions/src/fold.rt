@@ -1,10 +1,11 @@
 //! Folding: conditions that are true or false on every tuple go.
 
-ghost use Rattle.std.specs.Prelude.{◌≡◌, ◌≢◌, ◌∷◌, [], ◌<◌, ◌^◌, ◌<ℤ◌, ◌≤ℤ◌, ◌-ℤ◌, IfOk, if◌then◌else◌, length, map, pos};
+ghost use Rattle.std.specs.Prelude.{◌≡◌, Bool, false, ◌≢◌, ◌∷◌, [], ◌<◌, ◌^◌, ◌<ℤ◌, ◌≤ℤ◌, ◌-ℤ◌, IfOk, if◌then◌else◌, length, map, pos};
 ghost use Rattle.linear_conditions.specs.CondTree.{cond_view};
 ghost use Rattle.linear_conditions.specs.Folding.{bare_verdict, certain, decides, fold_count, fold_linear, fold_open, joined, one_or_node, verdict};
 ghost use Rattle.linear_conditions.specs.Leaves.{IsLeaf};
 ghost use Rattle.linear_conditions.specs.Views.{wide_view};
+ghost use Rattle.linear_conditions.specs.declared.verdict.Verdict.TheVariants.{Open};
 
 use crate::verdict::Verdict;
 use crate::wide::WideSum;
@@ -98,7 +99,7 @@ fn only_of(alloc: Global, kept: Vec<Cond>) -> Cond
 fn children_of(alloc: Global, kept: Vec<Cond>) -> Result<Conds, AllocError>
     ensures { IfOk result (λ cs. cs.items.items ≡ kept.items) }
 {
-    let mut children = Conds::new(alloc);
+    let mut children = Conds::with_capacity(alloc, kept.len())?;
     for c in kept {
         children.push(c)?;
     }
@@ -160,9 +161,63 @@ fn wanted(all: bool, several: usize) -> i64
     if all { several as i64 } else { 1 }
 }
 
+/// A condition alone: what is certain has one form.
+pub fn joined_one(alloc: Global, c: Cond) -> Cond
+    ensures { (all : Bool) → cond_view result ≡ joined all (cond_view c ∷ []) }
+{
+    match verdict(&c) {
+        Verdict::Holds => certain(alloc, true),
+        Verdict::Fails => certain(alloc, false),
+        Verdict::Open => c,
+    }
+}
+
+/// A node of two conditions: both of them, or one.
+fn node_of_two(alloc: Global, all: bool, first: Cond, second: Cond) -> Result<Cond, AllocError>
+    requires first { verdict (cond_view first) ≡ Open }
+    requires second { verdict (cond_view second) ≡ Open }
+    ensures { IfOk result (λ c. cond_view c
+        ≡ joined all (cond_view first ∷ (cond_view second ∷ []))) }
+{
+    let mut children = Conds::with_capacity(alloc, 2)?;
+    children.push(first)?;
+    children.push(second)?;
+    Ok(node_of(wanted(all, 2), children))
+}
+
+/// An open condition with one that does not decide.
+fn open_with(alloc: Global, all: bool, first: Cond, second: Cond) -> Result<Cond, AllocError>
+    requires first { verdict (cond_view first) ≡ Open }
+    requires second { decides all (cond_view second) ≡ false }
+    ensures { IfOk result (λ c. cond_view c
+        ≡ joined all (cond_view first ∷ (cond_view second ∷ []))) }
+{
+    match verdict(&second) {
+        Verdict::Open => node_of_two(alloc, all, first, second),
+        _ => Ok(first),
+    }
+}
+
+/// Two conditions, folded: both of them, or one.
+pub fn joined_two(alloc: Global, all: bool, first: Cond, second: Cond) -> Result<Cond, AllocError>
+    ensures { IfOk result (λ c. cond_view c
+        ≡ joined all (cond_view first ∷ (cond_view second ∷ []))) }
+{
+    if decides(all, &first) || decides(all, &second) {
+        return Ok(certain(alloc, !all));
+    }
+    match verdict(&first) {
+        Verdict::Open => open_with(alloc, all, first, second),
+        _ => Ok(joined_one(alloc, second)),
+    }
+}
+
 /// All of the conditions, or one of them, folded.
 pub fn joined(alloc: Global, all: bool, cs: Vec<Cond>) -> Result<Cond, AllocError>
     ensures { IfOk result (λ c. cond_view c ≡ joined all (map cond_view cs.items)) }
 {
+    if cs.len() == 1 {
+        return Ok(joined_one(alloc, only_of(alloc, cs)));
+    }
     fold_count(alloc, wanted(all, cs.len()), cs)
 }

@@ -9,7 +9,7 @@ ghost use Rattle.linear_conditions.specs.Folding.{fold_linear, joined};
 ghost use Rattle.linear_conditions.specs.Leaves.{AreLeaves, IsLeaf, leaf_fits, leaves_of, negated};
 ghost use Rattle.linear_conditions.specs.Views.{leaves_view, wide_view};
 
-use crate::fold::{fold_linear, joined};
+use crate::fold::{fold_linear, joined_two};
 use crate::wide::WideSum;
 use geo_conditions::Cond;
 use rule_syntax::tree::Rel;
@@ -80,10 +80,9 @@ fn fold_two(alloc: Global, all: bool, f: &WideSum, g: &WideSum) -> Result<Cond, 
     ensures { IfOk result (λ c. cond_view c
         ≡ joined all (fold_linear (wide_view f.now) ∷ (fold_linear (wide_view g.now) ∷ []))) }
 {
-    let mut both = Vec::new(alloc);
-    both.push(fold_linear(alloc, f)?)?;
-    both.push(fold_linear(alloc, g)?)?;
-    joined(alloc, all, both)
+    let first = fold_linear(alloc, f)?;
+    let second = fold_linear(alloc, g)?;
+    joined_two(alloc, all, first, second)
 }
 
 /// The condition that the leaves make together.

@@ -1,4 +1,4 @@
-use Rattle.std.proofs.Common.{rules, ◌-ℤ◌, to_z, of_z, to_z-of_z, sym, ap, ◌∙◌}
+use Rattle.std.proofs.Common.{rules, ◌-ℤ◌, to_z, of_z, to_z-of_z, ap, ◌∙◌}
 use Rattle.std.specs.Int.{w64, w128}
 use Rattle.std.proofs.lemmas.Result.{err_from_is_err_and}
 use Rattle.problem_data.specs.Truth.{compare}
