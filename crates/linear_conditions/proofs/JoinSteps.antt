@@ -1,10 +1,14 @@
 -- Steps of the program that joins one or two conditions.
-use Rattle.std.proofs.Common.{◌≡◌, ◌≢◌, ◌+◌, Bool, true, false, not, List, [], ◌∷◌, pos, ◌-ℤ◌, sym, ap, ◌∙◌, refl}
+use Rattle.std.proofs.Common.{◌≡◌, ◌≢◌, ℕ, ◌+◌, Bool, true, false, not, List, [], ◌∷◌, ℤ, pos, ◌-ℤ◌, sym, ap, ◌∙◌, refl, arith}
+use Rattle.std.specs.List.{list_all}
+use Rattle.std.proofs.lemmas.Int.{ints}
 use Rattle.std.specs.Prelude.{if◌then◌else◌}
 use Rattle.linear_conditions.specs.declared.verdict.Verdict.{Verdict}
 use Rattle.linear_conditions.specs.declared.verdict.Verdict.TheVariants.{Holds, Fails, Open}
 use Rattle.linear_conditions.specs.CondTree.{CondTree}
-use Rattle.linear_conditions.specs.Folding.{certain, verdict, decides, fold_open, joined}
+use Rattle.linear_conditions.specs.Open.{is_open}
+use Rattle.linear_conditions.proofs.Ordered.{both-true}
+use Rattle.linear_conditions.specs.Folding.{certain, count_holding, fold_count, still_open, verdict, decides, fold_open, joined}
 
 -- one condition by what it says, and two
 abbrev one_by : CondTree → Verdict → CondTree
@@ -94,3 +98,31 @@ rest-by false c d Open w h k = absurd (k refl)
 -- one that says nothing, and another
 pub rest-alone : (all : Bool) (c d : CondTree) → decides all c ≡ false → verdict c ≢ Open → joined all (d ∷ []) ≡ joined all (c ∷ (d ∷ []))
 rest-alone all c d k t = one-is all d ∙ sym (two-is all c d ∙ rest-by all c d (verdict c) (verdict d) k t)
+
+open-head : (c : CondTree) (cs : List CondTree) (v : Verdict) → (elim v [ Holds ↦ false | Fails ↦ false | Open ↦ true ]) ≡ true →
+    (elim v [ Holds ↦ still_open cs | Fails ↦ still_open cs | Open ↦ c ∷ still_open cs ]) ≡ c ∷ still_open cs
+open-head c cs Open h = refl
+open-head c cs Holds h = cc
+open-head c cs Fails h = cc
+
+open-none : (v : Verdict) (n : ℕ) → (elim v [ Holds ↦ false | Fails ↦ false | Open ↦ true ]) ≡ true → (elim v [ Holds ↦ 1 | Fails ↦ 0 | Open ↦ 0 ]) + n ≡ n
+open-none Open n h = omega arith
+open-none Holds n h = cc
+open-none Fails n h = cc
+
+all-open-are : (cs : List CondTree) → list_all is_open cs ≡ true → (count_holding cs ≡ 0) × (still_open cs ≡ cs)
+all-open-are [] h = (refl, refl)
+all-open-are (c ∷ cs) h =
+    let b = both-true (is_open c) (list_all is_open cs) h in
+    let r = all-open-are cs b.1 in
+    (open-none (verdict c) (count_holding cs) b.0 ∙ r.0, open-head c cs (verdict c) b.0 ∙ ap (λ xs. c ∷ xs) r.1)
+
+-- where all are open, none is taken out
+pub all-open : (n : ℤ) (cs : List CondTree) → list_all is_open cs ≡ true → fold_open n cs ≡ fold_count n cs
+all-open n cs h =
+    let r = all-open-are cs h in
+    let e : n ≡ n -ℤ pos (count_holding cs) = nothing n (count_holding cs) r.0 in
+    ap (λ m. fold_open m cs) e ∙ ap (fold_open (n -ℤ pos (count_holding cs))) (sym r.1)
+  where
+    nothing : (n : ℤ) (k : ℕ) → k ≡ 0 → n ≡ n -ℤ pos k
+    nothing n k e = omega (arith, ints)

@@ -6,6 +6,7 @@ pub mod Forms
 pub mod Settled
 pub mod Leaves
 pub mod Folding
+pub mod Open
 pub mod Counts
 pub mod Compare
 pub mod Room

@@ -1,9 +1,11 @@
 //! Folding: conditions that are true or false on every tuple go.
 
-ghost use Rattle.std.specs.Prelude.{◌≡◌, Bool, false, ◌≢◌, ◌∷◌, [], ◌<◌, ◌^◌, ◌<ℤ◌, ◌≤ℤ◌, ◌-ℤ◌, IfOk, if◌then◌else◌, length, map, pos};
+ghost use Rattle.std.specs.Prelude.{◌≡◌, ◌≢◌, ◌∷◌, [], ◌<◌, ◌^◌, ◌<ℤ◌, ◌≤ℤ◌, ◌-ℤ◌, IfOk, Bool, false, if◌then◌else◌, length, map, pos};
+ghost use Rattle.std.specs.List.{list_all};
 ghost use Rattle.linear_conditions.specs.CondTree.{cond_view};
 ghost use Rattle.linear_conditions.specs.Folding.{bare_verdict, certain, decides, fold_count, fold_linear, fold_open, joined, one_or_node, verdict};
 ghost use Rattle.linear_conditions.specs.Leaves.{IsLeaf};
+ghost use Rattle.linear_conditions.specs.Open.{is_open};
 ghost use Rattle.linear_conditions.specs.Views.{wide_view};
 ghost use Rattle.linear_conditions.specs.declared.verdict.Verdict.TheVariants.{Open};
 
@@ -137,8 +139,30 @@ fn fold_open(alloc: Global, n: i64, kept: Vec<Cond>) -> Result<Cond, AllocError>
     one_or_node(alloc, n, kept)
 }
 
-/// At least n of the conditions, folded: those that hold lower n by one each.
-pub fn fold_count(alloc: Global, n: i64, cs: Vec<Cond>) -> Result<Cond, AllocError>
+/// Whether nothing is certain of a condition.
+fn is_open(c: &Cond) -> bool
+    ensures { result ≡ is_open (cond_view c.now) }
+{
+    match verdict(c) {
+        Verdict::Open => true,
+        _ => false,
+    }
+}
+
+/// Whether nothing is certain of any of the conditions.
+fn are_open(cs: &[Cond]) -> bool
+    ensures { result ≡ list_all is_open (map cond_view cs.now) }
+{
+    for c in cs {
+        if !is_open(c) {
+            return false;
+        }
+    }
+    true
+}
+
+/// At least n of the conditions, of which some are certain: those that hold lower n by one each.
+fn fold_mixed(alloc: Global, n: i64, cs: Vec<Cond>) -> Result<Cond, AllocError>
     ensures { IfOk result (λ c. cond_view c ≡ fold_count n (map cond_view cs.items)) }
 {
     let mut left = n;
@@ -151,6 +175,16 @@ pub fn fold_count(alloc: Global, n: i64, cs: Vec<Cond>) -> Result<Cond, AllocErr
         }
     }
     fold_open(alloc, left, kept)
+}
+
+/// At least n of the conditions, folded. Mostly all are open, and none is moved then.
+pub fn fold_count(alloc: Global, n: i64, cs: Vec<Cond>) -> Result<Cond, AllocError>
+    ensures { IfOk result (λ c. cond_view c ≡ fold_count n (map cond_view cs.items)) }
+{
+    if are_open(cs.as_slice()) {
+        return fold_open(alloc, n, cs);
+    }
+    fold_mixed(alloc, n, cs)
 }
 
 /// How many of several are wanted: all of them, or one.
