@@ -18,13 +18,15 @@ ghost use Rattle.rule_values.specs.View.{env_view, thing_view};
 
 use crate::elements::{Element, asks_shapes, element_of, shape_count, things_of};
 use crate::optional::{absent_place, add_absence, ground_gone, optional_child};
-use crate::quantifiers::{Manner, body_sign, is_counted, manner_of, quantifier_node, shape_child};
+use crate::quantifiers::{
+    Manner, body_sign, is_counted, joined_two, manner_of, quantifier_node, shape_child,
+};
 use geo_conditions::{Cond, ObjId};
 use linear_conditions::compare::compare;
 use linear_conditions::counter::Counter;
 use linear_conditions::fault::GroundFault;
 use linear_conditions::fixings::Fixings;
-use linear_conditions::fold::{certain, decides, joined};
+use linear_conditions::fold::{certain, decides, joined, joined_one as alone};
 use problem_data::problem::Problem;
 use rule_expand::plain::{PlainColl, PlainFormula, Subject};
 use rule_syntax::tree::{QuantKind, Rel};
@@ -105,20 +107,7 @@ pub fn joined_one(alloc: Global, all: bool, part: Cond) -> Result<Cond, GroundFa
     ensures { MatchResult result (λ c. cond_view c ≡ joined all (cond_view part ∷ [])) (λ e. e
         ≡ Memory) }
 {
-    let mut parts = Vec::new(alloc);
-    parts.push(part)?;
-    join(alloc, all, parts)
-}
-
-// All or one of two operands.
-fn joined_two(alloc: Global, all: bool, first: Cond, second: Cond) -> Result<Cond, GroundFault>
-    ensures { MatchResult result (λ c. cond_view c
-        ≡ joined all (cond_view first ∷ (cond_view second ∷ []))) (λ e. e ≡ Memory) }
-{
-    let mut parts = Vec::new(alloc);
-    parts.push(first)?;
-    parts.push(second)?;
-    join(alloc, all, parts)
+    Ok(alone(alloc, part))
 }
 
 /// The condition of a formula under plus (true) or minus. `fixings` are the objects whose shapes are fixed.

@@ -11,7 +11,7 @@ ghost use Rattle.problem_data.specs.Places.{absent_place};
 
 use crate::elements::shape_count;
 use crate::formulas::add_cond;
-use crate::quantifiers::{Manner, of_two};
+use crate::quantifiers::{Manner, joined_two};
 use geo_conditions::{Cond, ObjId};
 use linear_conditions::counter::Counter;
 use linear_conditions::fault::GroundFault;
@@ -61,9 +61,9 @@ pub fn optional_child(
         ≡ optional_child manner object.0 place (cond_view body)) (λ e. e ≡ Memory) }
 {
     if absent_truth(manner) {
-        of_two(alloc, 1, Cond::Shape(object, place), body)
+        joined_two(alloc, false, Cond::Shape(object, place), body)
     } else {
-        of_two(alloc, 2, Cond::NotShape(object, place), body)
+        joined_two(alloc, true, Cond::NotShape(object, place), body)
     }
 }
 

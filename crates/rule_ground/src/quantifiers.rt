@@ -2,13 +2,13 @@
 
 ghost use Rattle.std.specs.Prelude.{◌≡◌, ◌<◌, ◌∷◌, ◌^◌, ◌-ℤ◌, ◌≤ℤ◌, [], MatchResult, map, pos};
 ghost use Rattle.linear_conditions.specs.CondTree.{cond_view};
-ghost use Rattle.linear_conditions.specs.Folding.{fold_count};
+ghost use Rattle.linear_conditions.specs.Folding.{joined};
 ghost use Rattle.linear_conditions.specs.declared.fault.GroundFault.TheVariants.{Memory};
 ghost use Rattle.rule_ground.specs.Grounding.{body_sign, is_counted, manner, quantifier_node, shape_child};
 
 use geo_conditions::{Cond, ObjId};
 use linear_conditions::fault::GroundFault;
-use linear_conditions::fold::{fold_count, joined};
+use linear_conditions::fold::{fold_count, joined, joined_two as paired};
 use rule_syntax::tree::QuantKind;
 use std::alloc::Global;
 
@@ -114,15 +114,12 @@ pub fn quantifier_node(
     }
 }
 
-/// At least so many of two.
-pub fn of_two(alloc: Global, n: i64, first: Cond, second: Cond) -> Result<Cond, GroundFault>
+/// All or one of two conditions.
+pub fn joined_two(alloc: Global, all: bool, first: Cond, second: Cond) -> Result<Cond, GroundFault>
     ensures { MatchResult result (λ c. cond_view c
-        ≡ fold_count n (cond_view first ∷ (cond_view second ∷ []))) (λ e. e ≡ Memory) }
+        ≡ joined all (cond_view first ∷ (cond_view second ∷ []))) (λ e. e ≡ Memory) }
 {
-    let mut parts = Vec::new(alloc);
-    parts.push(first)?;
-    parts.push(second)?;
-    Ok(fold_count(alloc, n, parts)?)
+    Ok(paired(alloc, all, first, second)?)
 }
 
 /// The child of an object with its shape at that place.
@@ -137,9 +134,9 @@ pub fn shape_child(
         ≡ shape_child manner object.0 place (cond_view body)) (λ e. e ≡ Memory) }
 {
     match manner {
-        Manner::All => of_two(alloc, 1, Cond::NotShape(object, place), body),
-        Manner::One => of_two(alloc, 2, Cond::Shape(object, place), body),
-        Manner::Holding => of_two(alloc, 2, Cond::Shape(object, place), body),
-        Manner::Failing => of_two(alloc, 2, Cond::Shape(object, place), body),
+        Manner::All => joined_two(alloc, false, Cond::NotShape(object, place), body),
+        Manner::One => joined_two(alloc, true, Cond::Shape(object, place), body),
+        Manner::Holding => joined_two(alloc, true, Cond::Shape(object, place), body),
+        Manner::Failing => joined_two(alloc, true, Cond::Shape(object, place), body),
     }
 }
