@@ -1,9 +1,9 @@
 //! The sides of comparisons as short forms. Where a side is none, `forms` makes its form.
 
-ghost use Rattle.std.specs.Prelude.{◌≡◌, ◌&&◌, negsuc, true};
+ghost use Rattle.std.specs.Prelude.{◌≡◌, true};
 ghost use Rattle.linear_conditions.specs.Faults.{GivesShort};
 ghost use Rattle.linear_conditions.specs.Forms.{field_sum, fits_expr, product_fits, product_step, products_fit, products_taken, sum_fits, sum_of_expr, sum_step, sums_added, sums_fit};
-ghost use Rattle.linear_conditions.specs.Sums.{add_sums, fits_sum, scale};
+ghost use Rattle.linear_conditions.specs.Sums.{add_sums, fits_sum};
 ghost use Rattle.linear_conditions.specs.Views.{fixings_view, short_view};
 ghost use Rattle.rule_expand.specs.PlainTruth.{subject_in};
 ghost use Rattle.rule_expand.specs.PlainView.{plain_expr_view, plain_product_view, plain_products_view, plain_sum_view, plain_sums_view};

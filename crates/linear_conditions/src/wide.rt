@@ -189,14 +189,9 @@ impl WideSum {
         match f {
             Short::Number(z) => Ok(WideSum::constant_of(alloc, i128::from(z))),
             Short::Shifted(object, dimension, z) => {
-                let mut terms = SmallVec::new(alloc);
-                terms.push(WideTerm {
-                    object,
-                    dimension,
-                    factor: 1,
-                })?;
-                let constant = i128::from(z);
-                Ok(WideSum { terms, constant })
+                let mut sum = WideSum::coordinate(alloc, object, dimension)?;
+                sum.constant = i128::from(z);
+                Ok(sum)
             }
         }
     }
