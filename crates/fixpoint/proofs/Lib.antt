@@ -11,3 +11,4 @@ pub mod Standing
 pub mod Record
 pub mod Blaming
 pub mod TakenApart
+pub mod Watching

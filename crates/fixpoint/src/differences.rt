@@ -6,12 +6,14 @@ ghost use Rattle.geo_conditions.specs.Reach.{reach};
 ghost use Rattle.fixpoint.specs.Links.{AreLinks};
 ghost use Rattle.fixpoint.specs.Marks.{IsSquare, NotesChanges};
 ghost use Rattle.fixpoint.specs.Queue.{CatchesUp};
+ghost use Rattle.watches.specs.Watches.{Later};
 
 use crate::links::Links;
 use crate::waking::wake;
 use geo_base::MAX_DIMS;
 use geo_conditions::{ObjId, State};
 use indexical::AnyIndexical;
+use watches::Watches;
 
 // Whether the object has the same places in both states.
 fn has_same_places<const K: usize>(a: &State<K>, b: &State<K>, o: ObjId) -> bool
@@ -45,7 +47,7 @@ fn is_same<const K: usize>(a: &State<K>, b: &State<K>, o: ObjId) -> bool
     has_same_region(a, b, o) && has_same_places(a, b, o)
 }
 
-/// Queues each object that differs in the two states, and wakes those that it may hinder.
+/// Queues each object that differs in the two states, wakes those that it may hinder, and tells the watches.
 pub fn queue_changed<const K: usize>(
     list: &[AnyIndexical<K>],
     links: &Links,
@@ -53,20 +55,24 @@ pub fn queue_changed<const K: usize>(
     to: &State<K>,
     queued: &mut [bool],
     dirty: &mut [Vec<bool>],
+    watches: &mut Watches,
 )
     requires k { K ≤ MAX_DIMS }
     requires fits { AllFit (map (λ x. x.cond) list.now) to.now }
     requires objects { (length from.now ≡ length to.now) × (length queued.old ≡ length to.now) }
     requires links { AreLinks (map (λ x. x.cond) list.now) (length queued.old) links.now }
     requires square { IsSquare (length queued.old) dirty.old }
+    requires watches { length watches.old.changed.items ≡ length to.now }
     ensures queued { CatchesUp (map (λ x. x.cond) list.now) from.now to.now queued.old queued.new }
     ensures noted { NotesChanges (map (λ x. x.cond) list.now) from.now to.now dirty.old dirty.new }
     ensures square { IsSquare (length queued.old) dirty.new }
+    ensures later { Later (λ o. reach from.now o ≡ reach to.now o) watches.old watches.new }
 {
     let _objects = from.objects();
     for u in 0..queued.len() {
         if !is_same(from, to, ObjId(u as u16)) {
             queued[u] = true;
+            watches.change(u);
             wake(list, links, u, to, queued, dirty);
         }
     }

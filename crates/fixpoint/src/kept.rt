@@ -2,7 +2,8 @@
 
 ghost use Rattle.std.specs.Prelude.{◌≡◌, ◌≢◌, ℕ, ◌+◌, ◌-◌, ◌<◌, ◌≤◌, Bool, true, false, List, None, Some, length, map, slice_get, slice_index_or, IfOk, IsTrue, MatchOption};
 ghost use Rattle.std.specs.List.{All, list_any};
-ghost use Rattle.geo_conditions.specs.Conditions.{AllFit, FitsIn};
+ghost use Rattle.geo_conditions.specs.declared.cond.Cond.{Cond};
+ghost use Rattle.geo_conditions.specs.Conditions.{AllFit};
 ghost use Rattle.geo_conditions.specs.Reach.{reach, is_only};
 ghost use Rattle.object_pruning.specs.Kept.{retried};
 ghost use Rattle.object_pruning.specs.InRows.{IsInGroup};
@@ -12,14 +13,16 @@ ghost use Rattle.fixpoint.specs.Pairs.{AreSomePairs, HaveBeside, HaveIn, IsGroup
 ghost use Rattle.fixpoint.specs.Kept.{AllStand, AsksSlot, IsBlank, IsKnown, RetriesMarked, RetriesThose, Stand, StandBut, StandsAlone};
 ghost use Rattle.fixpoint.specs.Marks.{IsCleared, IsSquare};
 ghost use Rattle.fixpoint.specs.declared.kept.TheConstants.{BLOCK};
+ghost use Rattle.watches.specs.Watches.{Hold};
 
 use crate::links::Links;
 use crate::pairs::{Pairs, RowGroup};
 use geo_base::MAX_DIMS;
 use geo_conditions::{ObjId, State};
-use indexical::{AnyIndexical, Watched};
+use indexical::AnyIndexical;
 use object_pruning::{Group, Placed, are_possible, is_same_point, retry, slots};
 use std::alloc::{AllocError, Global};
+use watches::Watches;
 
 /// The slots of an object, with nothing kept. The answer is an error where memory is short.
 pub fn blank_slots<const K: usize>(alloc: Global) -> Result<Vec<Option<Placed<K>>>, AllocError>
@@ -48,24 +51,29 @@ pub fn all_blank<const K: usize>(
     Ok(kept)
 }
 
-// Asks the condition again at what is kept of the object, and forgets where it is refuted. Where enough parts are possible that do
-// not name the object, by what is watched of them, there is nothing to ask.
+// Asks the i-th condition again at what is kept of the object, and forgets where it is refuted. Where it surely spares the object,
+// there is nothing to ask.
 fn retry_watched<const K: usize>(
-    x: &AnyIndexical<K>,
+    list: &[AnyIndexical<K>],
+    i: usize,
     o: ObjId,
     s: &State<K>,
-    watched: &mut Watched,
+    watches: &mut Watches,
     kept: &mut [Option<Placed<K>>],
 )
     requires k { K ≤ MAX_DIMS }
-    requires fits { FitsIn x.now.cond s.now }
+    requires fits { AllFit (map (λ x. x.cond) list.now) s.now }
     requires object { o.0 < length s.now }
-    ensures { kept.new ≡ map (retried x.now.cond s.now o.0) kept.old }
+    requires condition { i < length list.now }
+    requires hold { Hold (map (λ x. x.cond) list.now) s.now watches.old }
+    ensures kept { (c : Cond) → kept.new
+        ≡ map (retried (slice_index_or (map (λ x. x.cond) list.now) i c) s.now o.0) kept.old }
+    ensures hold { Hold (map (λ x. x.cond) list.now) s.now watches.new }
 {
-    if x.surely_spares_watched(s, o, watched) {
+    if watches.surely_spares(list, i, s, o) {
         return;
     }
-    retry(kept, s, o, x);
+    retry(kept, s, o, &list[i]);
 }
 
 // Whether one of the objects is marked.
@@ -81,29 +89,36 @@ fn is_any_marked(list: &[ObjId], marks: &[bool]) -> bool
     false
 }
 
-// Asks the condition again at what is kept of the object, if it names a marked one.
+// Asks the i-th condition again at what is kept of the object, if it names a marked one.
 fn retry_marked<const K: usize>(
-    x: &AnyIndexical<K>,
+    list: &[AnyIndexical<K>],
+    i: usize,
     named: &[ObjId],
     marks: &[bool],
     o: ObjId,
     s: &State<K>,
-    watched: &mut Watched,
+    watches: &mut Watches,
     kept: &mut [Option<Placed<K>>],
 )
     requires k { K ≤ MAX_DIMS }
-    requires fits { FitsIn x.now.cond s.now }
+    requires fits { AllFit (map (λ x. x.cond) list.now) s.now }
     requires object { o.0 < length s.now }
+    requires condition { i < length list.now }
     requires marks { length marks.now ≡ length s.now }
-    requires named { NamedBy x.now.cond (length s.now) named.now }
-    ensures { RetriesMarked x.now.cond s.now o.0 marks.now kept.old kept.new }
+    requires named { (c : Cond) → NamedBy (slice_index_or (map (λ x. x.cond) list.now) i c)
+        (length s.now) named.now }
+    requires hold { Hold (map (λ x. x.cond) list.now) s.now watches.old }
+    ensures kept { (c : Cond) → RetriesMarked (slice_index_or (map (λ x. x.cond) list.now) i c)
+        s.now o.0 marks.now kept.old kept.new }
+    ensures hold { Hold (map (λ x. x.cond) list.now) s.now watches.new }
 {
     if is_any_marked(named, marks) {
-        retry_watched(x, o, s, watched, kept);
+        retry_watched(list, i, o, s, watches, kept);
     }
 }
 
-// Asks the condition of that number again, if it names a marked object.
+// Asks the condition of that number again, if it names a marked object. One that rests on two others, which did not change since that
+// was found, is not asked.
 fn retry_number<const K: usize>(
     list: &[AnyIndexical<K>],
     links: &Links,
@@ -111,7 +126,7 @@ fn retry_number<const K: usize>(
     s: &State<K>,
     marks: &[bool],
     number: u32,
-    watched: &mut [Watched],
+    watches: &mut Watches,
     kept: &mut [Option<Placed<K>>],
 )
     requires k { K ≤ MAX_DIMS }
@@ -119,20 +134,16 @@ fn retry_number<const K: usize>(
     requires links { AreLinks (map (λ x. x.cond) list.now) (length s.now) links.now }
     requires object { (o.0 < length s.now) × (length marks.now ≡ length s.now) }
     requires number { (0 < number) × (number - 1 < length list.now) }
-    requires watched { length watched.old ≡ length list.now }
-    ensures { RetriesThose (map (λ x. x.cond) list.now) s.now o.0 marks.now
+    requires hold { Hold (map (λ x. x.cond) list.now) s.now watches.old }
+    ensures kept { RetriesThose (map (λ x. x.cond) list.now) s.now o.0 marks.now
         (λ i. i ≡ number) kept.old kept.new }
+    ensures hold { Hold (map (λ x. x.cond) list.now) s.now watches.new }
 {
     let i = number as usize - 1;
-    retry_marked(
-        &list[i],
-        &links.named[i],
-        marks,
-        o,
-        s,
-        &mut watched[i],
-        kept,
-    );
+    if watches.is_known_to_spare(i, o) {
+        return;
+    }
+    retry_marked(list, i, &links.named[i], marks, o, s, watches, kept);
 }
 
 // Asks the conditions of a group again that name a marked object.
@@ -143,7 +154,7 @@ fn retry_group<const K: usize>(
     o: ObjId,
     s: &State<K>,
     marks: &[bool],
-    watched: &mut [Watched],
+    watches: &mut Watches,
     kept: &mut [Option<Placed<K>>],
 )
     requires k { K ≤ MAX_DIMS }
@@ -151,14 +162,15 @@ fn retry_group<const K: usize>(
     requires links { AreLinks (map (λ x. x.cond) list.now) (length s.now) links.now }
     requires object { (o.0 < length s.now) × (length marks.now ≡ length s.now) }
     requires numbers { (i : ℕ) → IsInGroup group.now i → (0 < i) × (i - 1 < length list.now) }
-    requires watched { length watched.old ≡ length list.now }
-    ensures { RetriesThose (map (λ x. x.cond) list.now) s.now o.0 marks.now
+    requires hold { Hold (map (λ x. x.cond) list.now) s.now watches.old }
+    ensures kept { RetriesThose (map (λ x. x.cond) list.now) s.now o.0 marks.now
         (IsInGroup group.now) kept.old kept.new }
+    ensures hold { Hold (map (λ x. x.cond) list.now) s.now watches.new }
 {
     let first = group.first as usize;
     let end = group.last as usize + 1;
     for i in first..end {
-        retry_number(list, links, o, s, marks, i as u32, watched, kept);
+        retry_number(list, links, o, s, marks, i as u32, watches, kept);
     }
 }
 
@@ -170,7 +182,7 @@ fn ask_others<const K: usize>(
     o: ObjId,
     s: &State<K>,
     marks: &[bool],
-    watched: &mut [Watched],
+    watches: &mut Watches,
     kept: &mut [Option<Placed<K>>],
 )
     requires k { K ≤ MAX_DIMS }
@@ -178,12 +190,13 @@ fn ask_others<const K: usize>(
     requires links { AreLinks (map (λ x. x.cond) list.now) (length s.now) links.now }
     requires object { (o.0 < length s.now) × (length marks.now ≡ length s.now) }
     requires numbers { (i : ℕ) → HaveIn others.now i → (0 < i) × (i - 1 < length list.now) }
-    requires watched { length watched.old ≡ length list.now }
-    ensures { RetriesThose (map (λ x. x.cond) list.now) s.now o.0 marks.now
+    requires hold { Hold (map (λ x. x.cond) list.now) s.now watches.old }
+    ensures kept { RetriesThose (map (λ x. x.cond) list.now) s.now o.0 marks.now
         (HaveIn others.now) kept.old kept.new }
+    ensures hold { Hold (map (λ x. x.cond) list.now) s.now watches.new }
 {
     for k in 0..others.len() {
-        retry_group(list, links, &others[k].group, o, s, marks, watched, kept);
+        retry_group(list, links, &others[k].group, o, s, marks, watches, kept);
     }
 }
 
@@ -438,22 +451,23 @@ fn ask_again<const K: usize>(
     o: usize,
     s: &State<K>,
     marks: &[bool],
-    watched: &mut [Watched],
+    watches: &mut Watches,
     kept: &mut [Option<Placed<K>>],
 )
     requires k { K ≤ MAX_DIMS }
     requires fits { AllFit (map (λ x. x.cond) list.now) s.now }
     requires links { AreLinks (map (λ x. x.cond) list.now) (length s.now) links.now }
     requires object { (o < length s.now) × (length marks.now ≡ length s.now) }
-    requires watched { length watched.old ≡ length list.now }
+    requires hold { Hold (map (λ x. x.cond) list.now) s.now watches.old }
     requires stand { StandBut (map (λ x. x.cond) list.now) s.now o marks.now kept.old }
-    ensures { Stand (map (λ x. x.cond) list.now) s.now o kept.new }
+    ensures kept { Stand (map (λ x. x.cond) list.now) s.now o kept.new }
+    ensures hold { Hold (map (λ x. x.cond) list.now) s.now watches.new }
 {
     let _objects = s.objects();
     let object = ObjId(o as u16);
     let pairs = &links.pairs[o];
     ask_pairs(list, pairs, object, s, marks, kept);
-    ask_others(list, links, &pairs.others, object, s, marks, watched, kept);
+    ask_others(list, links, &pairs.others, object, s, marks, watches, kept);
 }
 
 // Takes all marks away.
@@ -472,7 +486,7 @@ pub fn refresh<const K: usize>(
     o: usize,
     s: &State<K>,
     dirty: &mut [Vec<bool>],
-    watched: &mut [Watched],
+    watches: &mut Watches,
     kept: &mut [Vec<Option<Placed<K>>>],
 )
     requires k { K ≤ MAX_DIMS }
@@ -480,12 +494,13 @@ pub fn refresh<const K: usize>(
     requires links { AreLinks (map (λ x. x.cond) list.now) (length s.now) links.now }
     requires object { (o < length s.now) × (length kept.old ≡ length s.now) }
     requires square { IsSquare (length s.now) dirty.old }
-    requires watched { length watched.old ≡ length list.now }
+    requires hold { Hold (map (λ x. x.cond) list.now) s.now watches.old }
     requires stand { AllStand (map (λ x. x.cond) list.now) s.now dirty.old kept.old }
     ensures kept { StandsAlone (map (λ x. x.cond) list.now) s.now o kept.old kept.new }
     ensures cleared { IsCleared o dirty.old dirty.new }
     ensures square { IsSquare (length s.now) dirty.new }
+    ensures hold { Hold (map (λ x. x.cond) list.now) s.now watches.new }
 {
-    ask_again(list, links, o, s, &dirty[o], watched, &mut kept[o]);
+    ask_again(list, links, o, s, &dirty[o], watches, &mut kept[o]);
     clear(&mut dirty[o]);
 }

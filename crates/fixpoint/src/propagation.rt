@@ -18,6 +18,7 @@ ghost use Rattle.fixpoint.specs.Marks.{IsSquare};
 ghost use Rattle.fixpoint.specs.Near.{BarePossible, Unhindered};
 ghost use Rattle.fixpoint.specs.Queue.{Prunes, Queues, RestFine};
 ghost use Rattle.fixpoint.specs.Record.{NoneLower, RecordsPruning};
+ghost use Rattle.watches.specs.Watches.{Hold};
 
 use crate::differences::queue_changed;
 use crate::kept::{all_blank, blank_slots, refresh};
@@ -28,9 +29,10 @@ use derivation::{Event, Recorder};
 use geo_base::{KBox, MAX_DIMS, Point};
 use geo_conditions::{MAX_OBJECTS, ObjId, State};
 use geo_state::{Propagate, Settled, Trailed};
-use indexical::{AnyIndexical, Watched};
+use indexical::AnyIndexical;
 use object_pruning::{Placed, Pruned, prune_kept};
 use std::alloc::{AllocError, Global};
+use watches::Watches;
 
 // The number of the first picked condition that is refuted on the state.
 fn first_refuted<const K: usize>(
@@ -105,7 +107,7 @@ fn prune_and_wake<const K: usize, R: Recorder>(
     t: &mut Trailed<K>,
     queued: &mut [bool],
     dirty: &mut [Vec<bool>],
-    watched: &mut [Watched],
+    watches: &mut Watches,
     kept: &mut [Vec<Option<Placed<K>>>],
     hints: &mut [Option<Placed<K>>],
     rec: &mut R,
@@ -116,7 +118,7 @@ fn prune_and_wake<const K: usize, R: Recorder>(
         × (length queued.old ≡ length t.old.state) }
     requires links { AreLinks (map (λ x. x.cond) list.now) (length t.old.state) links.now }
     requires square { IsSquare (length t.old.state) dirty.old }
-    requires watched { length watched.old ≡ length list.now }
+    requires hold { Hold (map (λ x. x.cond) list.now) t.old.state watches.old }
     requires stand { AllStand (map (λ x. x.cond) list.now) t.old.state dirty.old kept.old }
     ensures pruned { IfOk result (λ a.
         Prunes (map (λ x. x.cond) list.now) t.old.state o a t.new.state) }
@@ -127,16 +129,20 @@ fn prune_and_wake<const K: usize, R: Recorder>(
         (Unhindered (map (λ x. x.cond) list.now) t.new.state o) o queued.old queued.new }
     ensures square { IsSquare (length t.old.state) dirty.new }
     ensures stand { AllStand (map (λ x. x.cond) list.now) t.new.state dirty.new kept.new }
+    ensures hold { Hold (map (λ x. x.cond) list.now) t.new.state watches.new }
     ensures record { IfOk result (λ a. R.keeps ≡ true
         → RecordsPruning (map (λ x. x.cond) list.now) t.old.state a t.new.state
         (R.list rec.old) (R.list rec.new)) }
     ensures grows { Grows R.keeps R.list R.refusals rec.old rec.new result }
 {
-    refresh(list, links, o, t.state(), dirty, watched, kept);
+    refresh(list, links, o, t.state(), dirty, watches, kept);
     let pruned = prune_linked(list, links, o, t, kept, hints, rec);
     match pruned {
         Ok(Pruned::Same) => {}
-        _ => wake(list, links, o, t.state(), queued, dirty),
+        _ => {
+            watches.change(o);
+            wake(list, links, o, t.state(), queued, dirty);
+        }
     }
     pruned
 }
@@ -149,7 +155,7 @@ fn prune_queued<const K: usize, R: Recorder>(
     queued: &mut [bool],
     dirty: &mut [Vec<bool>],
     t: &mut Trailed<K>,
-    watched: &mut [Watched],
+    watches: &mut Watches,
     kept: &mut [Vec<Option<Placed<K>>>],
     hints: &mut [Option<Placed<K>>],
     rec: &mut R,
@@ -162,13 +168,14 @@ fn prune_queued<const K: usize, R: Recorder>(
     requires bare { BarePossible (map (λ x. x.cond) list.now) t.old.state }
     requires fine { RestFine (map (λ x. x.cond) list.now) t.old.state queued.old }
     requires square { IsSquare (length queued.old) dirty.old }
-    requires watched { length watched.old ≡ length list.now }
+    requires hold { Hold (map (λ x. x.cond) list.now) t.old.state watches.old }
     requires stand { AllStand (map (λ x. x.cond) list.now) t.old.state dirty.old kept.old }
     ensures settles { SettlesOr (map (λ x. x.cond) list.now) t.old.state result t.new.state }
     ensures levels { (t.new.levels ≡ t.old.levels) × (t.new.restores ≡ t.old.restores) }
     ensures fine { RestFine (map (λ x. x.cond) list.now) t.new.state queued.new }
     ensures square { IsSquare (length queued.old) dirty.new }
     ensures stand { AllStand (map (λ x. x.cond) list.now) t.new.state dirty.new kept.new }
+    ensures hold { Hold (map (λ x. x.cond) list.now) t.new.state watches.new }
     ensures record { IfOk result (λ a. R.keeps ≡ true
         → Records (map (λ x. x.cond) list.now) t.old.state a t.new.state
         (R.list rec.old) (R.list rec.new)) }
@@ -177,7 +184,7 @@ fn prune_queued<const K: usize, R: Recorder>(
     let mut next = 0;
     while let Some(o) = pop(queued, next) {
         next = o + 1;
-        match prune_and_wake(list, links, o, t, queued, dirty, watched, kept, hints, rec) {
+        match prune_and_wake(list, links, o, t, queued, dirty, watches, kept, hints, rec) {
             Ok(Pruned::Same) => {}
             Ok(Pruned::Changed) => {}
             Ok(Pruned::Empty) => {
@@ -201,7 +208,7 @@ fn settle<const K: usize, R: Recorder>(
     last: &mut State<K>,
     queued: &mut [bool],
     dirty: &mut [Vec<bool>],
-    watched: &mut [Watched],
+    watches: &mut Watches,
     kept: &mut [Vec<Option<Placed<K>>>],
     hints: &mut [Option<Placed<K>>],
     t: &mut Trailed<K>,
@@ -214,7 +221,7 @@ fn settle<const K: usize, R: Recorder>(
     requires links { AreLinks (map (λ x. x.cond) list.now) (length queued.old) links.now }
     requires fine { RestFine (map (λ x. x.cond) list.now) last.old queued.old }
     requires square { IsSquare (length queued.old) dirty.old }
-    requires watched { length watched.old ≡ length list.now }
+    requires hold { Hold (map (λ x. x.cond) list.now) last.old watches.old }
     requires stand { AllStand (map (λ x. x.cond) list.now) last.old dirty.old kept.old }
     ensures settles { SettlesOr (map (λ x. x.cond) list.now) t.old.state result t.new.state }
     ensures levels { (t.new.levels ≡ t.old.levels) × (t.new.restores ≡ t.old.restores) }
@@ -222,6 +229,7 @@ fn settle<const K: usize, R: Recorder>(
     ensures fine { RestFine (map (λ x. x.cond) list.now) last.new queued.new }
     ensures square { IsSquare (length queued.old) dirty.new }
     ensures stand { AllStand (map (λ x. x.cond) list.now) last.new dirty.new kept.new }
+    ensures hold { Hold (map (λ x. x.cond) list.now) last.new watches.new }
     ensures record { IfOk result (λ a. R.keeps ≡ true
         → Records (map (λ x. x.cond) list.now) t.old.state a t.new.state
         (R.list rec.old) (R.list rec.new)) }
@@ -235,8 +243,8 @@ fn settle<const K: usize, R: Recorder>(
             Err(e) => Err(e),
         };
     }
-    queue_changed(list, links, last, t.state(), queued, dirty);
-    let settled = prune_queued(list, links, queued, dirty, t, watched, kept, hints, rec);
+    queue_changed(list, links, last, t.state(), queued, dirty, watches);
+    let settled = prune_queued(list, links, queued, dirty, t, watches, kept, hints, rec);
     last.copy_from(t.state());
     settled
 }
@@ -262,7 +270,7 @@ pub struct QueueFixpoint<const K: usize> {
     last: State<K>,
     pub queued: Vec<bool>,
     dirty: Vec<Vec<bool>>,
-    watched: Vec<Watched>,
+    watches: Watches,
     kept: Vec<Vec<Option<Placed<K>>>>,
     hints: Vec<Option<Placed<K>>>,
     ghost dims: { (0 < K) × (K ≤ MAX_DIMS) },
@@ -271,7 +279,7 @@ pub struct QueueFixpoint<const K: usize> {
         × (length kept.items ≡ length queued.items) },
     ghost fine: { ∥ RestFine (map (λ x. x.cond) list.items) last queued.items ∥₁ },
     ghost square: { IsSquare (length queued.items) dirty.items },
-    ghost watching: { length watched.items ≡ length list.items },
+    ghost watching: { Hold (map (λ x. x.cond) list.items) last watches },
     ghost stand: { AllStand (map (λ x. x.cond) list.items) last dirty.items kept.items },
 }
 
@@ -283,7 +291,7 @@ impl<const K: usize> Drop for QueueFixpoint<K> {
             last: _last,
             queued: _queued,
             dirty: _dirty,
-            watched: _watched,
+            watches: _watches,
             kept: _kept,
             hints: _hints,
         } = self;
@@ -309,7 +317,7 @@ impl<const K: usize> QueueFixpoint<K> {
         let last = some_state(alloc, objects)?;
         let queued = Vec::from_elem(alloc, true, objects)?;
         let dirty = no_marks(alloc, objects)?;
-        let watched = Vec::from_elem(alloc, Watched::new(), list.len())?;
+        let watches = Watches::start(alloc, list.len(), objects)?;
         let kept = all_blank(alloc, objects)?;
         let hints = blank_slots(alloc)?;
         Ok(QueueFixpoint {
@@ -318,7 +326,7 @@ impl<const K: usize> QueueFixpoint<K> {
             last,
             queued,
             dirty,
-            watched,
+            watches,
             kept,
             hints,
         })
@@ -334,7 +342,7 @@ impl<const K: usize> QueueFixpoint<K> {
             last: _last,
             queued: _queued,
             dirty: _dirty,
-            watched: _watched,
+            watches: _watches,
             kept: _kept,
             hints: _hints,
         } = self;
@@ -358,7 +366,7 @@ impl<const K: usize> Propagate<K> for QueueFixpoint<K> {
             &mut self.last,
             &mut self.queued,
             &mut self.dirty,
-            &mut self.watched,
+            &mut self.watches,
             &mut self.kept,
             &mut self.hints,
             t,

@@ -36,8 +36,8 @@ ask_others-requires g c =
     subst (λ (n : ℕ). (0 < i) × (i - 1 < n)) (length-map c.args.list.now f) (group_within cs S o v.1.row v.1.group c.requires.fits h (row l.picks.items o, (c.requires.links.picks o h).within, are.others v.1 (v.0, v.2)) i v.3) in
     search rules
 
-pub returns : goal.returns
-returns g c =
+pub returns-clause-kept : goal.returns-clause-kept
+returns-clause-kept g c =
     let cs = map (λ (x : AnyIndexical g.row.K). x.cond) c.args.list.now in
     let S = c.args.s.now in
     let o = c.args.o in
@@ -47,6 +47,6 @@ returns g c =
     let mid = c.ask_pairs.new.kept in
     let new = c.ask_others.new.kept in
     let first = subst (λ (p : Pairs). RetriesThose cs S o marks (HaveBeside p.beside.items) old mid) c.index-pairs.ensures c.ask_pairs.ensures in
-    let others = subst (λ (bs : List RowGroup). RetriesThose cs S o marks (HaveIn bs) mid new) c.deref.ensures.value c.ask_others.ensures in
+    let others = subst (λ (bs : List RowGroup). RetriesThose cs S o marks (HaveIn bs) mid new) c.deref.ensures.value c.ask_others.ensures.kept in
     let second = subst (λ (p : Pairs). RetriesThose cs S o marks (HaveIn p.others.items) mid new) c.index-pairs.ensures others in
     pairs_asked cs S o marks c.args.links.now own old mid new c.requires.links c.requires.object.0 first second c.requires.stand

@@ -25,7 +25,7 @@ ask_again-requires g c =
     let stand : StandBut cs S o c.deref.result.now c.deref_mut.result.now =
     subst (λ (ms : List Bool). StandBut cs S o ms c.deref_mut.result.now) (sym noted) (subst (λ (v : List (Option (Placed g.row.K))). StandBut cs S o (row marks o) v) (sym slots) (c.requires.stand o object.0)) in
     let there : (o < length S) × (length c.deref.result.now ≡ length S) = (object.0, ap length noted ∙ c.requires.square.each o object.0) in
-    (omega arith, (omega arith, (omega arith, (c.requires.k, (c.requires.fits, (c.requires.links, (there, (c.requires.watched, stand))))))))
+    (omega arith, (omega arith, (omega arith, (c.requires.k, (c.requires.fits, (c.requires.links, (there, (c.requires.hold, stand))))))))
 
 pub returns-clause-kept : goal.returns-clause-kept
 returns-clause-kept g c =
@@ -38,7 +38,7 @@ returns-clause-kept g c =
     let now = c.ask_again.new.kept in
     let long : length now ≡ length was.items = c.ask_again.auto.kept ∙ ap length c.deref_mut.ensures.value in
     let back : (with_items was now).items ≡ now = with_items_is was now (omega (arith, long, was.ok)) in
-    stands_alone cs S o kept (with_items was now) k (subst (λ (v : List (Option (Placed g.row.K))). Stand cs S o v) (sym back) c.ask_again.ensures)
+    stands_alone cs S o kept (with_items was now) k (subst (λ (v : List (Option (Placed g.row.K))). Stand cs S o v) (sym back) c.ask_again.ensures.kept)
 
 pub returns-clause-cleared : goal.returns-clause-cleared
 returns-clause-cleared g c =

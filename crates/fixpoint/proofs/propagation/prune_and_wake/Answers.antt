@@ -12,6 +12,8 @@ use Rattle.object_pruning.specs.declared.prune.Pruned.{Pruned}
 use Rattle.object_pruning.specs.declared.prune.Pruned.TheVariants.{Same}
 use Rattle.std.specs.Prelude.{IfOk, Result}
 use Rattle.fixpoint.proofs.Standing.{stand_cleared, stand_changed, stand_same}
+use Rattle.watches.specs.Watches.{Hold}
+use Rattle.fixpoint.proofs.Watching.{hold_changed}
 use Rattle.fixpoint.proofs.propagation.prune_and_wake.Goals as goal
 
 pub refresh-requires : goal.refresh-requires
@@ -27,7 +29,8 @@ refresh-requires g c =
     let object : (c.args.o < length X) × (length c.args.kept.now ≡ length X) = (omega (arith, r.0, same), r.1 ∙ same) in
     let square : IsSquare (length X) c.args.dirty.now = subst (λ (n : ℕ). IsSquare n c.args.dirty.now) same c.requires.square in
     let stand : AllStand cs X c.args.dirty.now c.args.kept.now = subst (λ (Y : State). AllStand cs Y c.args.dirty.now c.args.kept.now) value c.requires.stand in
-    (omega arith, (omega arith, (omega arith, (c.requires.k.1, (fits, (links, (object, (square, (c.requires.watched, stand)))))))))
+    let hold : Hold cs X c.args.watches.now = subst (λ (Y : State). Hold cs Y c.args.watches.now) value c.requires.hold in
+    (omega arith, (omega arith, (omega arith, (c.requires.k.1, (fits, (links, (object, (square, (hold, stand)))))))))
 
 pub prune_linked-pruned-requires : goal.prune_linked-pruned-requires
 prune_linked-pruned-requires g c =
@@ -86,3 +89,27 @@ returns-in_default-clause-stand g c =
     let noted : MarksAt (Unhindered cs T o) o marks c.wake.new.dirty = subst (λ (Y : State). MarksAt (Unhindered cs Y o) o marks c.wake.new.dirty) c.state-in_default.ensures.value c.wake.ensures.marked in
     let rows : length marks ≡ length S = c.refresh.ensures.square.rows ∙ ap length c.state.ensures.value in
     stand_changed cs S T o marks c.wake.new.dirty asked c.prune_linked-pruned.new.kept c.prune_linked-pruned.ensures.alone.0 rows before c.prune_linked-pruned.ensures.stand noted
+
+pub change-requires : goal.change-requires
+change-requires g c = omega (arith, c.requires.object.0, c.refresh.ensures.hold.objects, ap length c.state.ensures.value)
+
+pub returns-in-Ok-Same-clause-hold : goal.returns-in-Ok-Same-clause-hold
+returns-in-Ok-Same-clause-hold g c =
+    let cs = map (λ (x : AnyIndexical g.row.K). x.cond) c.args.list.now in
+    let S = c.args.t.now.state in
+    let T = c.prune_linked-pruned.new.t.state in
+    let o = c.args.o in
+    let w = c.refresh.new.watches in
+    let pruned : Prunes cs S o c.in-Ok-Same.field-0 T = subst (λ (r : Result Pruned _). IfOk r (λ a. Prunes cs S o a T)) c.in-Ok-Same.is c.prune_linked-pruned.ensures.pruned in
+    let here : c.in-Ok-Same.field-0 ≡ Same = rw c.in-Ok-Same.is at c.in-Ok-Same.field-0-is in
+    let same : Prunes cs S o Same T = subst (λ (a : Pruned). Prunes cs S o a T) here pruned in
+    subst (λ (X : State). Hold cs X w) (c.state.ensures.value ∙ sym same.0) c.refresh.ensures.hold
+
+pub returns-in_default-clause-hold : goal.returns-in_default-clause-hold
+returns-in_default-clause-hold g c =
+    let cs = map (λ (x : AnyIndexical g.row.K). x.cond) c.args.list.now in
+    let S = c.args.t.now.state in
+    let T = c.prune_linked-pruned.new.t.state in
+    let w = c.refresh.new.watches in
+    let before : Hold cs S w = subst (λ (X : State). Hold cs X w) c.state.ensures.value c.refresh.ensures.hold in
+    hold_changed cs S T c.args.o w c.change.new.self c.prune_linked-pruned.ensures.alone.0 before c.change.ensures

@@ -14,6 +14,7 @@ use Rattle.object_pruning.proofs.Cases.{from_none}
 use Rattle.fixpoint.proofs.Turns.{Going, measure, going_start, going_same, going_changed, gone_kept, gone_dead, rest_dead, smaller_same, smaller_changed}
 use Rattle.fixpoint.proofs.Record.{records_start, records_on, records_dead}
 use Rattle.derivation.proofs.Continuing.{growth_none, growth_on}
+use Rattle.watches.specs.Watches.{Hold}
 use Rattle.fixpoint.proofs.propagation.prune_queued.Goals as goal
 
 pub loop-o-init : goal.loop-o-init
@@ -26,6 +27,7 @@ loop-o-init g c =
       levels = (refl, refl);
       square = c.requires.square;
       stand = c.requires.stand;
+      hold = c.requires.hold;
       recorded = λ kept. records_start cs S (g.R.Recorder.list c.args.rec.now);
       grows = growth_none _ _ _;
     }
@@ -37,6 +39,7 @@ prune_and_wake-requires g c =
     let objects : length c.args.queued.now ≡ length c.loop-o.t.state = c.requires.objects.0 ∙ sym i.going.keeps.inside.objects in
     let slots : length c.loop-o.kept ≡ length c.loop-o.t.state = c.loop-o.auto.kept ∙ c.requires.objects.1 ∙ sym i.going.keeps.inside.objects in
     let stand : AllStand cs c.loop-o.t.state c.loop-o.dirty c.loop-o.kept = i.stand in
+    let hold : Hold cs c.loop-o.t.state c.loop-o.watches = i.hold in
     let square : IsSquare (length c.loop-o.t.state) c.loop-o.dirty = subst (λ (n : ℕ). IsSquare n c.loop-o.dirty) objects i.square in
     let marks : length c.pop.new.queued ≡ length c.loop-o.t.state = ap length c.in-Some.ensures.2 ∙ length-set c.loop-o.queued c.in-Some.o false ∙ i.going.objects in
     let links : AreLinks cs (length c.loop-o.t.state) c.args.links.now = subst (λ (n : ℕ). AreLinks cs n c.args.links.now) objects c.requires.links in
@@ -75,6 +78,7 @@ loop-o-preserved-in-Ok-Same g c =
       levels = (c.prune_and_wake.ensures.levels.0 ∙ i.levels.0, c.prune_and_wake.ensures.levels.1 ∙ i.levels.1);
       square = subst (λ (n : ℕ). IsSquare n c.prune_and_wake.new.dirty) (i.going.keeps.inside.objects ∙ sym c.requires.objects.0) c.prune_and_wake.ensures.square;
       stand = c.prune_and_wake.ensures.stand;
+      hold = c.prune_and_wake.ensures.hold;
       recorded = λ kept. records_on cs S R T (g.R.Recorder.list c.args.rec.now) mid new (i.recorded kept) (subst (λ (a : Pruned). RecordsPruning cs R a T mid new) e (c.in-Ok-Same.ensures.record kept));
       grows = growth_on i.grows c.in-Ok-Same.ensures.grows;
     }
@@ -158,6 +162,7 @@ loop-o-preserved g c =
       levels = (c.prune_and_wake.ensures.levels.0 ∙ i.levels.0, c.prune_and_wake.ensures.levels.1 ∙ i.levels.1);
       square = subst (λ (n : ℕ). IsSquare n c.prune_and_wake.new.dirty) (i.going.keeps.inside.objects ∙ sym c.requires.objects.0) c.prune_and_wake.ensures.square;
       stand = c.prune_and_wake.ensures.stand;
+      hold = c.prune_and_wake.ensures.hold;
       recorded = λ kept. records_on cs S R T (g.R.Recorder.list c.args.rec.now) mid new (i.recorded kept) (subst (λ (a : Pruned). RecordsPruning cs R a T mid new) e (c.in-Ok-Changed.ensures.record kept));
       grows = growth_on i.grows c.in-Ok-Changed.ensures.grows;
     }

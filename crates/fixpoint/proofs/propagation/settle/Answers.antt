@@ -7,7 +7,7 @@ use Rattle.geo_state.specs.declared.propagate.Settled.{Settled}
 use Rattle.geo_state.specs.declared.propagate.Settled.TheVariants.{Kept, Dead as NoneLeft}
 use Rattle.geo_state.specs.Settle.{SettlesOr}
 use Rattle.geo_conditions.specs.Conditions.{AllFit}
-use Rattle.geo_conditions.specs.Reach.{State}
+use Rattle.geo_conditions.specs.Reach.{State, reach}
 use Rattle.geo_conditions.specs.Supported.{NoneRefuted, NoneInside}
 use Rattle.geo_conditions.proofs.Points.{inside_self}
 use Rattle.indexical.specs.declared.any.AnyIndexical.{AnyIndexical}
@@ -28,6 +28,8 @@ use Rattle.fixpoint.proofs.Effect.{hopeless, bare_possible}
 use Rattle.fixpoint.proofs.Turns.{caught_up}
 use Rattle.fixpoint.proofs.Standing.{stand_noted}
 use Rattle.derivation.proofs.Continuing.{growth_added, growth_refused}
+use Rattle.watches.specs.Watches.{Hold, Later}
+use Rattle.watches.proofs.Holding.{hold_later}
 use Rattle.fixpoint.proofs.propagation.settle.Goals as goal
 
 pub first_refuted-requires : goal.first_refuted-requires
@@ -95,6 +97,8 @@ prune_queued-settled-requires g c =
     let stand : AllStand cs S c.queue_changed.new.dirty c.args.kept.now = stand_noted cs L S c.args.dirty.now c.queue_changed.new.dirty c.args.kept.now o.1 c.requires.stand noted in
     let square : IsSquare (length new) c.queue_changed.new.dirty = subst (λ (n : ℕ). IsSquare n c.queue_changed.new.dirty) (sym caught.objects) c.queue_changed.ensures.square in
     let slots : length c.args.kept.now ≡ length S = o.2 in
+    let later : Later (λ u. reach L u ≡ reach S u) c.args.watches.now c.queue_changed.new.watches = subst (λ (X : State). Later (λ u. reach L u ≡ reach X u) c.args.watches.now c.queue_changed.new.watches) c.state-2.ensures.value c.queue_changed.ensures.later in
+    let hold : Hold cs S c.queue_changed.new.watches = hold_later cs L S c.args.watches.now c.queue_changed.new.watches o.1 c.requires.hold later in
     search rules
 
 pub queue_changed-requires : goal.queue_changed-requires
@@ -107,6 +111,7 @@ queue_changed-requires g c =
     let same : length S ≡ length X = ap length value in
     let fits : AllFit cs X = subst (AllFit cs) value c.requires.fits in
     let objects : (length c.args.last.now ≡ length X) × (length c.args.queued.now ≡ length X) = (o.1 ∙ same, o.0 ∙ same) in
+    let times : length c.args.watches.now.changed.items ≡ length X = c.requires.hold.objects ∙ o.1 ∙ same in
     search rules
 
 pub returns-in-Ok-clause-grows : goal.returns-in-Ok-clause-grows

@@ -1,7 +1,7 @@
 use Rattle.std.proofs.Common.{◌≡◌, ℕ, Bool, true, false, List, map, length, get_or, ap, sym, ◌∙◌, subst, arith, rules}
 use Rattle.std.specs.Prelude.{replicate}
 use Rattle.std.proofs.lemmas.Bool.{false≢true}
-use Rattle.std.proofs.lemmas.List.{get_or-replicate}
+use Rattle.std.proofs.lemmas.List.{get_or-replicate, length-map}
 use Rattle.indexical.specs.declared.any.AnyIndexical.{AnyIndexical}
 use Rattle.fixpoint.specs.Links.{AreLinks}
 use Rattle.fixpoint.specs.Marks.{IsSquare}
@@ -27,6 +27,6 @@ invariant_of-result g c =
       objects = (c.in_ok-last.ensures ∙ sym long, c.in_ok-kept.ensures.0 ∙ sym long);
       fine = ∣ fine ∣₁;
       square = subst (λ (m : ℕ). IsSquare m c.in_ok-dirty.dirty.items) (sym long) c.in_ok-dirty.ensures;
-      watching = omega (arith, c.in_ok-watched.ensures.len, c.len.ensures, c.in_ok-watched.watched.ok.0);
+      watching = c.in_ok-watches.ensures cs last (omega (arith, length-map c.args.list.items f, c.len.ensures, c.args.list.ok.0)) c.in_ok-last.ensures;
       stand = blank_stands cs last c.in_ok-dirty.dirty.items c.in_ok-kept.kept.items c.in_ok-kept.ensures.1;
     }

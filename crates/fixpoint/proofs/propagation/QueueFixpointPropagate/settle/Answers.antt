@@ -12,6 +12,7 @@ use Rattle.fixpoint.specs.Marks.{MarkRows, IsSquare}
 use Rattle.fixpoint.specs.Queue.{RestFine}
 use Rattle.fixpoint.proofs.Stable.{rest_of}
 use Rattle.fixpoint.proofs.StableRows.{links_taken}
+use Rattle.watches.specs.Watches.{Hold}
 use Rattle.fixpoint.proofs.propagation.QueueFixpointPropagate.settle.Goals as goal
 
 pub settle-requires : goal.settle-requires
@@ -31,8 +32,8 @@ settle-requires g c =
     subst (λ (l : List (AnyIndexical g.row.K)). RestFine (map f l) self.last q) (sym same) (subst (RestFine (map f self.list.items) self.last) (sym marks) (rest_of (map f self.list.items) self.last self.queued.items self.fine)) in
     let objects : length q ≡ length S = ap length marks ∙ sym c.requires.objects in
     let before : length self.last ≡ length S = self.objects.0 ∙ sym c.requires.objects in
-    let kept = c.deref_mut-4.result.now in
-    let points : kept ≡ self.kept.items = c.deref_mut-4.ensures.value in
+    let kept = c.deref_mut-3.result.now in
+    let points : kept ≡ self.kept.items = c.deref_mut-3.ensures.value in
     let slots : length kept ≡ length S = ap length points ∙ self.objects.1 ∙ sym c.requires.objects in
     let noted = c.deref_mut-2.result.now in
     let rows : noted ≡ self.dirty.items = c.deref_mut-2.ensures.value in
@@ -40,7 +41,7 @@ settle-requires g c =
     let stand : AllStand cs self.last noted kept =
     subst (λ (l : List (AnyIndexical g.row.K)). AllStand (map f l) self.last noted kept) (sym same)
     (subst (λ (ms : MarkRows). AllStand (map f self.list.items) self.last ms kept) (sym rows) (subst (λ (vs : Slots g.row.K). AllStand (map f self.list.items) self.last self.dirty.items vs) (sym points) self.stand)) in
-    let seen : length c.deref_mut-3.result.now ≡ length list = ap length c.deref_mut-3.ensures.value ∙ self.watching ∙ sym (ap length same) in
+    let hold : Hold cs self.last self.watches = subst (λ (l : List (AnyIndexical g.row.K)). Hold (map f l) self.last self.watches) (sym same) self.watching in
     let some : 0 < g.row.K = self.dims.0 in
     search rules
 
@@ -72,7 +73,7 @@ invariant_of-self g c =
     let fine : RestFine cs c.settle.new.last (with_items self.queued new).items =
     subst (RestFine cs c.settle.new.last) (sym back) (subst (λ (l : List (AnyIndexical g.row.K)). RestFine (map f l) c.settle.new.last new) same c.settle.ensures.fine) in
     let slots = c.settle.new.kept in
-    let rows : length slots ≡ length self.kept.items = c.settle.auto.kept ∙ ap length c.deref_mut-4.ensures.value in
+    let rows : length slots ≡ length self.kept.items = c.settle.auto.kept ∙ ap length c.deref_mut-3.ensures.value in
     let whole : (with_items self.kept slots).items ≡ slots = with_items_is self.kept slots (omega (arith, rows, self.kept.ok)) in
     let noted = c.settle.new.dirty in
     let wide : length noted ≡ length self.dirty.items = c.settle.auto.dirty ∙ ap length c.deref_mut-2.ensures.value in
@@ -83,15 +84,13 @@ invariant_of-self g c =
     subst (λ (ms : MarkRows). AllStand cs c.settle.new.last ms (with_items self.kept slots).items) (sym square_back)
     (subst (λ (vs : Slots g.row.K). AllStand cs c.settle.new.last noted vs) (sym whole) (subst (λ (l : List (AnyIndexical g.row.K)). AllStand (map f l) c.settle.new.last noted slots) same c.settle.ensures.stand)) in
     let marks : length self.queued.items ≡ length (with_items self.queued new).items = sym (ap length back ∙ long) in
-    let watched = c.settle.new.watched in
-    let many : length watched ≡ length self.watched.items = c.settle.auto.watched ∙ ap length c.deref_mut-3.ensures.value in
-    let watched_back : (with_items self.watched watched).items ≡ watched = with_items_is self.watched watched (omega (arith, many, self.watched.ok.0)) in
+    let hold : Hold cs c.settle.new.last c.settle.new.watches = subst (λ (l : List (AnyIndexical g.row.K)). Hold (map f l) c.settle.new.last c.settle.new.watches) same c.settle.ensures.hold in
     record {
       dims = self.dims;
       linked = linked;
       objects = (c.settle.ensures.objects ∙ self.objects.0 ∙ marks, ap length whole ∙ rows ∙ self.objects.1 ∙ marks);
       fine = ∣ fine ∣₁;
       square = square;
-      watching = ap length watched_back ∙ many ∙ self.watching;
+      watching = hold;
       stand = stand;
     }

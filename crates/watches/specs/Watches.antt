@@ -1,0 +1,53 @@
+-- What is watched of conditions on a state that changes.
+use Rattle.std.specs.Prelude.{◌≡◌, ℕ, ◌<◌, ◌≤◌, List, length, slice_index_or, slice_set}
+use Rattle.std.specs.List.{All}
+use Rattle.geo_conditions.specs.declared.cond.Cond.{Cond}
+use Rattle.geo_conditions.specs.Reach.{State}
+use Rattle.indexical.specs.Free.{SparesAnywhere}
+use Rattle.watches.specs.Rests.{RestsOn}
+use Rattle.watches.specs.declared.watches.Watch.{Watch}
+use Rattle.watches.specs.declared.watches.Watches.{Watches}
+use Rattle.watches.specs.declared.watches.TheConstants.{LAST}
+
+-- the object did not change after that time
+abbrev pub Rested : Watches → ℕ → ℕ → Type 0
+Rested w t o = slice_index_or w.changed.items o LAST ≤ t
+
+-- neither object of the watch changed since
+abbrev pub IsFresh : Watches → Watch → Type 0
+IsFresh w x = Rested w x.since x.first.0 × Rested w x.since x.second.0
+
+-- it was found before now, and before the clock stopped
+abbrev pub IsPast : Watches → Watch → Type 0
+IsPast w x = (x.since ≤ w.clock) × (x.since < LAST)
+
+-- of the conditions on the state: where neither object of a watch changed since, the condition rests on both
+pub record Hold (cs : List Cond) (S : State) (w : Watches) : Type 0 where
+  pub watched : length w.watched.items ≡ length cs
+  pub found : length w.found.items ≡ length cs
+  pub objects : length w.changed.items ≡ length S
+  pub past : All (IsPast w) w.found.items
+  pub rests : (i : ℕ) (c : Cond) (d : Watch) → i < length cs → IsFresh w (slice_index_or w.found.items i d) → RestsOn (slice_index_or cs i c) S (slice_index_or w.found.items i d).first.0 (slice_index_or w.found.items i d).second.0
+
+-- the i-th watch alone is another one
+pub record IsPut (i : ℕ) (x : Watch) (old new : Watches) : Type 0 where
+  pub watched : length new.watched.items ≡ length old.watched.items
+  pub found : new.found.items ≡ slice_set old.found.items i x
+  pub changed : new.changed.items ≡ old.changed.items
+  pub clock : new.clock ≡ old.clock
+
+-- what is watched is the same, and of what did not change since a time of old the test is met
+pub record Later (Same : ℕ → Type 0) (old new : Watches) : Type 0 where
+  pub watched : length new.watched.items ≡ length old.watched.items
+  pub found : new.found.items ≡ old.found.items
+  pub objects : length new.changed.items ≡ length old.changed.items
+  pub clock : old.clock ≤ new.clock
+  pub back : (o t : ℕ) → t ≤ old.clock → t < LAST → Rested new t o → Rested old t o × Same o
+
+-- of any so many conditions and any state of so many objects
+abbrev pub HoldAnyhow : ℕ → ℕ → Watches → Type 0
+HoldAnyhow conditions objects w = (cs : List Cond) (S : State) → length cs ≡ conditions → length S ≡ objects → Hold cs S w
+
+-- where what is watched holds, the i-th condition is possible wherever the object is put
+abbrev pub TellSpared : Watches → ℕ → ℕ → Type 0
+TellSpared w i o = (cs : List Cond) (S : State) (c : Cond) → i < length cs → Hold cs S w → SparesAnywhere (slice_index_or cs i c) S o
