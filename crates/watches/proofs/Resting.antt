@@ -1,5 +1,5 @@
 -- A part of which one is enough, and the objects that it names.
-use Rattle.std.proofs.Common.{◌≡◌, ◌⊎◌, ℕ, suc, ◌<◌, Bool, true, false, List, [], ◌∷◌, length, get_or, refl, sym, ap, ◌∙◌, subst, inl, inr, arith, ℤ, pos, ◌≤ℤ◌, not, eqb, eqb-true}
+use Rattle.std.proofs.Common.{◌≡◌, ◌≢◌, ◌⊎◌, ℕ, suc, ◌<◌, Bool, true, false, List, [], ◌∷◌, length, get_or, refl, sym, ap, ◌∙◌, subst, inl, inr, arith, ℤ, pos, ◌≤ℤ◌, not, eqb, eqb-true}
 use Rattle.std.specs.List.{list_any}
 use Rattle.std.proofs.lemmas.Int.{ints}
 use Rattle.std.proofs.lemmas.Bool.{false≢true, or_cases}
@@ -69,5 +69,5 @@ some true r h e = refl
 some false r h e = absurd (false≢true (sym h ∙ e))
 
 -- what is not refuted by such a part
-pub rests_unrefuted : (x c : Cond) (S : State) (a b : ℕ) (r : Bool) → IsPart x c → NamesOnly x a b → r ≡ false → r ≡ not (possible x S) → RestsOn c S a b
-rests_unrefuted x c S a b r p n h e = rests_on_named x c S a b p n (some (possible x S) r h e)
+pub rests_unrefuted : (x c : Cond) (S : State) (a b o : ℕ) (r : Bool) → IsPart x c → NamesOnly x a b × (a ≢ o) × (b ≢ o) → r ≡ false → r ≡ not (possible x S) → RestsOn c S a b × (a ≢ o) × (b ≢ o)
+rests_unrefuted x c S a b o r p n h e = (rests_on_named x c S a b p n.0 (some (possible x S) r h e), n.1, n.2)

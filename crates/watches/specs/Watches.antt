@@ -1,5 +1,5 @@
 -- What is watched of conditions on a state that changes.
-use Rattle.std.specs.Prelude.{◌≡◌, ℕ, ◌<◌, ◌≤◌, List, length, slice_index_or, slice_set}
+use Rattle.std.specs.Prelude.{◌≡◌, ℕ, ◌+◌, ◌<◌, ◌≤◌, List, length, slice_index_or, slice_set}
 use Rattle.std.specs.List.{All}
 use Rattle.geo_conditions.specs.declared.cond.Cond.{Cond}
 use Rattle.geo_conditions.specs.Reach.{State}
@@ -7,7 +7,7 @@ use Rattle.indexical.specs.Free.{SparesAnywhere}
 use Rattle.watches.specs.Rests.{RestsOn}
 use Rattle.watches.specs.declared.watches.Watch.{Watch}
 use Rattle.watches.specs.declared.watches.Watches.{Watches}
-use Rattle.watches.specs.declared.watches.TheConstants.{LAST}
+use Rattle.watches.specs.declared.watches.TheConstants.{LAST, PLACES}
 
 -- the object did not change after that time
 abbrev pub Rested : Watches → ℕ → ℕ → Type 0
@@ -21,24 +21,39 @@ IsFresh w x = Rested w x.since x.first.0 × Rested w x.since x.second.0
 abbrev pub IsPast : Watches → Watch → Type 0
 IsPast w x = (x.since ≤ w.clock) × (x.since < LAST)
 
--- of the conditions on the state: where neither object of a watch changed since, the condition rests on both
+-- of the conditions on the state: where neither object of a watch changed since, its condition rests on both
 pub record Hold (cs : List Cond) (S : State) (w : Watches) : Type 0 where
   pub watched : length w.watched.items ≡ length cs
-  pub found : length w.found.items ≡ length cs
+  pub looks : length w.looks.items ≡ PLACES
+  pub found : length w.found.items ≡ PLACES + PLACES
   pub objects : length w.changed.items ≡ length S
   pub past : All (IsPast w) w.found.items
-  pub rests : (i : ℕ) (c : Cond) (d : Watch) → i < length cs → IsFresh w (slice_index_or w.found.items i d) → RestsOn (slice_index_or cs i c) S (slice_index_or w.found.items i d).first.0 (slice_index_or w.found.items i d).second.0
+  pub rests : All (λ x. (c : Cond) → x.condition < length cs → IsFresh w x → RestsOn (slice_index_or cs x.condition c) S x.first.0 x.second.0) w.found.items
 
--- the i-th watch alone is another one
-pub record IsPut (i : ℕ) (x : Watch) (old new : Watches) : Type 0 where
+-- the k-th watch alone is another one
+pub record IsPut (k : ℕ) (x : Watch) (old new : Watches) : Type 0 where
   pub watched : length new.watched.items ≡ length old.watched.items
-  pub found : new.found.items ≡ slice_set old.found.items i x
+  pub looks : length new.looks.items ≡ length old.looks.items
+  pub found : new.found.items ≡ slice_set old.found.items k x
   pub changed : new.changed.items ≡ old.changed.items
   pub clock : new.clock ≡ old.clock
+
+-- what is found is the same
+pub record IsNoted (old new : Watches) : Type 0 where
+  pub watched : length new.watched.items ≡ length old.watched.items
+  pub looks : length new.looks.items ≡ length old.looks.items
+  pub found : new.found.items ≡ old.found.items
+  pub changed : new.changed.items ≡ old.changed.items
+  pub clock : new.clock ≡ old.clock
+
+-- what is watched still holds, if the i-th condition rests on the two objects
+abbrev pub IsWatched : ℕ → ℕ → ℕ → Watches → Watches → Type 0
+IsWatched i a b old new = (cs : List Cond) (S : State) → Hold cs S old → ((c : Cond) → i < length cs → RestsOn (slice_index_or cs i c) S a b) → Hold cs S new
 
 -- what is watched is the same, and of what did not change since a time of old the test is met
 pub record Later (Same : ℕ → Type 0) (old new : Watches) : Type 0 where
   pub watched : length new.watched.items ≡ length old.watched.items
+  pub looks : length new.looks.items ≡ length old.looks.items
   pub found : new.found.items ≡ old.found.items
   pub objects : length new.changed.items ≡ length old.changed.items
   pub clock : old.clock ≤ new.clock

@@ -1,11 +1,11 @@
 //! For each condition two objects on which it was found to rest, and for each object when it changed last.
 
-ghost use Rattle.std.specs.Prelude.{◌≡◌, ◌≢◌, ◌<◌, ◌≤◌, length, map, slice_index_or, IfOk, IsTrue};
+ghost use Rattle.std.specs.Prelude.{◌≡◌, ◌≢◌, ◌+◌, ◌<◌, ◌≤◌, length, map, slice_index_or, IfOk, IsTrue};
 ghost use Rattle.geo_conditions.specs.declared.cond.Cond.{Cond};
 ghost use Rattle.geo_conditions.specs.Conditions.{AllFit};
 ghost use Rattle.indexical.specs.Free.{SparesAnywhere};
-ghost use Rattle.watches.specs.declared.watches.TheConstants.{LAST};
-ghost use Rattle.watches.specs.Watches.{Hold, HoldAnyhow, IsFresh, IsPut, Later, TellSpared};
+ghost use Rattle.watches.specs.declared.watches.TheConstants.{LAST, PLACES};
+ghost use Rattle.watches.specs.Watches.{Hold, HoldAnyhow, IsFresh, IsNoted, IsPut, IsWatched, Later, TellSpared};
 
 use crate::parts::{Pair, rests_by};
 use geo_base::MAX_DIMS;
@@ -16,66 +16,111 @@ use std::alloc::{AllocError, Global};
 // The clock stops at this time. What is found then is not kept, since it could not be told from what changed later.
 const LAST: u64 = 1_000_000_000_000_000_000;
 
-// So often in a row no part is found before a condition is given up, and so many parts are looked at together.
-const TRIES: u16 = 1000;
+// Watches and looks have places by the numbers of their conditions, round and round.
+const PLACES: usize = 4096;
 
-/// Two objects on which a condition was found to rest, the time at which that was found, and the part by which it was.
+// So often in a row no objects are found before a condition is given up.
+const MOST_MISSES: u16 = 1000;
+
+// So many parts are looked at together.
+const MOST_LOOKS: u16 = 64;
+
+/// Two objects on which a condition was found to rest, and the time at which that was found.
 #[derive(Clone, Copy)]
 pub struct Watch {
+    condition: usize,
     first: ObjId,
     second: ObjId,
     since: u64,
-    part: u16,
-    misses: u16,
 }
 
 impl Watch {
+    // Found at that time.
+    fn of(condition: usize, pair: Pair, since: u64) -> Watch
+        ensures { (result.condition ≡ condition) × (result.first ≡ pair.first)
+            × (result.second ≡ pair.second) × (result.since ≡ since) }
+    {
+        Watch {
+            condition,
+            first: pair.first,
+            second: pair.second,
+            since,
+        }
+    }
+
     // Nothing was found yet.
     fn new() -> Watch
         ensures { result.since ≡ 0 }
     {
         Watch {
+            condition: 0,
             first: ObjId(0),
             second: ObjId(0),
             since: 0,
-            part: 0,
-            misses: 0,
-        }
-    }
-
-    // Objects that were found by that part.
-    fn of(pair: Pair, since: u64, part: u16) -> Watch
-        ensures { (result.first ≡ pair.first) × (result.second ≡ pair.second)
-            × (result.since ≡ since) }
-    {
-        Watch {
-            first: pair.first,
-            second: pair.second,
-            since,
-            part,
-            misses: 0,
-        }
-    }
-
-    // The same objects. The next part is to be looked at.
-    fn missed(&self) -> Watch
-        ensures { (result.first ≡ self.now.first) × (result.second ≡ self.now.second)
-            × (result.since ≡ self.now.since) }
-    {
-        Watch {
-            first: self.first,
-            second: self.second,
-            since: self.since,
-            part: self.part.wrapping_add(1),
-            misses: self.misses.saturating_add(1),
         }
     }
 }
 
-/// For each condition what is watched of it: parts that spared an object last, which promise nothing, and two objects on which it
-/// was found to rest. That is so as long as neither changes.
+/// Which part of a condition is looked at next, how often nothing was found in a row, and an object for which nothing was found. It
+/// promises nothing.
+#[derive(Clone, Copy)]
+pub struct Look {
+    part: u16,
+    misses: u16,
+    failed: Option<ObjId>,
+}
+
+impl Look {
+    // Nothing was looked at yet.
+    fn new() -> Look {
+        Look {
+            part: 0,
+            misses: 0,
+            failed: None,
+        }
+    }
+
+    // Whether there is no use in looking.
+    fn is_hopeless(&self, o: ObjId) -> bool {
+        match self.failed {
+            Some(u) if u.0 == o.0 => true,
+            _ => self.misses >= MOST_MISSES,
+        }
+    }
+
+    // Something was found.
+    fn hit(&self) -> Look {
+        Look {
+            part: self.part,
+            misses: 0,
+            failed: self.failed,
+        }
+    }
+
+    // Nothing was found, so the next part is looked at next.
+    fn missed(&self) -> Look {
+        Look {
+            part: self.part.wrapping_add(1),
+            misses: self.misses.saturating_add(1),
+            failed: self.failed,
+        }
+    }
+
+    // Nothing was found for o in many parts. The first such object stays.
+    fn failed_for(&self, o: ObjId) -> Look {
+        Look {
+            part: self.part,
+            misses: self.misses,
+            failed: self.failed.or(Some(o)),
+        }
+    }
+}
+
+/// For each condition what is watched of it: parts that spared an object last, which promise nothing, and twice two objects on which
+/// it was found to rest. That is so as long as neither of the two changes.
 pub struct Watches {
     watched: Vec<Watched>,
+    looks: Vec<Look>,
     found: Vec<Watch>,
     changed: Vec<u64>,
     clock: u64,
@@ -85,6 +130,7 @@ impl Drop for Watches {
     fn drop(self) {
         let Watches {
             watched: _watched,
+            looks: _looks,
             found: _found,
             changed: _changed,
             clock: _clock,
@@ -98,10 +144,12 @@ impl Watches {
         ensures { IfOk result (HoldAnyhow conditions objects) }
     {
         let watched = Vec::from_elem(alloc, Watched::new(), conditions)?;
-        let found = Vec::from_elem(alloc, Watch::new(), conditions)?;
+        let looks = Vec::from_elem(alloc, Look::new(), PLACES)?;
+        let found = Vec::from_elem(alloc, Watch::new(), 2 * PLACES)?;
         let changed = Vec::from_elem(alloc, 1, objects)?;
         Ok(Watches {
             watched,
+            looks,
             found,
             changed,
             clock: 1,
@@ -144,28 +192,65 @@ impl Watches {
         }
     }
 
-    /// Whether the i-th condition is known to spare the object: it rests on two others, which did not change since that was found.
-    pub fn is_known_to_spare(&self, i: usize, o: ObjId) -> bool
-        requires { i < length self.now.found.items }
+    // Whether the k-th watch tells that the i-th condition spares the object.
+    #[inline(always)]
+    fn tells(&self, k: usize, i: usize, o: ObjId) -> bool
+        requires { k < length self.now.found.items }
         ensures { IsTrue result → TellSpared self.now i o.0 }
     {
-        let x = &self.found[i];
-        if x.first.0 == o.0 || x.second.0 == o.0 {
+        let x = &self.found[k];
+        if x.condition != i || x.first.0 == o.0 || x.second.0 == o.0 {
             return false;
         }
         self.is_fresh(x)
     }
 
-    // Puts a watch of the i-th condition in place of the one that it has.
-    fn put(&mut self, i: usize, x: Watch)
-        requires { i < length self.old.found.items }
-        ensures { IsPut i x self.old self.new }
+    /// Whether the i-th condition is known to spare the object: it rests on two others, which did not change since that was found.
+    pub fn is_known_to_spare(&self, i: usize, o: ObjId) -> bool
+        requires { length self.now.found.items ≡ PLACES + PLACES }
+        ensures { IsTrue result → TellSpared self.now i o.0 }
     {
-        self.found[i] = x;
+        let k = i % PLACES;
+        if self.tells(k, i, o) {
+            return true;
+        }
+        self.tells(k + PLACES, i, o)
     }
 
-    // Looks at a part of the i-th condition for objects other than o on which it rests. The answer is whether none is to be looked at
-    // any more.
+    // Puts another watch in place of the k-th one.
+    fn put(&mut self, k: usize, x: Watch)
+        requires { k < length self.old.found.items }
+        ensures { IsPut k x self.old self.new }
+    {
+        self.found[k] = x;
+    }
+
+    // Puts another look in place of the k-th one.
+    fn note(&mut self, k: usize, x: Look)
+        requires { k < length self.old.looks.items }
+        ensures { IsNoted self.old self.new }
+    {
+        self.looks[k] = x;
+    }
+
+    // Watches two objects on which the i-th condition was found to rest now. Another watch of it that is fresh is kept.
+    fn watch(&mut self, i: usize, pair: Pair)
+        requires { length self.old.found.items ≡ PLACES + PLACES }
+        ensures { IsWatched i pair.first.0 pair.second.0 self.old self.new }
+    {
+        if self.clock >= LAST {
+            return;
+        }
+        let k = i % PLACES;
+        let old = self.found[k];
+        let is_kept = old.condition == i && self.is_fresh(&old);
+        let at = if is_kept { k + PLACES } else { k };
+        let x = Watch::of(i, pair, self.clock);
+        self.put(at, x);
+    }
+
+    // Looks at a part of the i-th condition for objects other than o on which it rests, and watches them. The answer is whether there
+    // are such.
     fn look<const K: usize>(
         &mut self,
         list: &[AnyIndexical<K>],
@@ -177,38 +262,53 @@ impl Watches {
         requires fits { AllFit (map (λ x. x.cond) list.now) s.now }
         requires condition { i < length list.now }
         requires hold { Hold (map (λ x. x.cond) list.now) s.now self.old }
-        ensures { Hold (map (λ x. x.cond) list.now) s.now self.new }
+        ensures spares { IsTrue result → (c : Cond)
+            → SparesAnywhere (slice_index_or (map (λ x. x.cond) list.now) i c) s.now o.0 }
+        ensures hold { Hold (map (λ x. x.cond) list.now) s.now self.new }
     {
-        let x = self.found[i];
-        let since = self.clock;
-        if x.misses >= TRIES || since >= LAST {
-            return true;
-        }
-        match rests_by(list[i].cond(), usize::from(x.part), s, o) {
+        let k = i % PLACES;
+        let look = self.looks[k];
+        match rests_by(list[i].cond(), usize::from(look.part), s, o) {
             Some(pair) => {
-                self.put(i, Watch::of(pair, since, x.part));
+                self.note(k, look.hit());
+                self.watch(i, pair);
                 true
             }
             None => {
-                self.put(i, x.missed());
+                self.note(k, look.missed());
                 false
             }
         }
     }
 
-    // Looks for objects other than o on which the i-th condition rests, and watches them.
-    fn find<const K: usize>(&mut self, list: &[AnyIndexical<K>], i: usize, s: &State<K>, o: ObjId)
+    // Looks for objects other than o on which the i-th condition rests, and watches them. The answer is whether there are such.
+    fn find<const K: usize>(
+        &mut self,
+        list: &[AnyIndexical<K>],
+        i: usize,
+        s: &State<K>,
+        o: ObjId,
+    ) -> bool
         requires k { K ≤ MAX_DIMS }
         requires fits { AllFit (map (λ x. x.cond) list.now) s.now }
         requires condition { i < length list.now }
         requires hold { Hold (map (λ x. x.cond) list.now) s.now self.old }
-        ensures { Hold (map (λ x. x.cond) list.now) s.now self.new }
+        ensures spares { IsTrue result → (c : Cond)
+            → SparesAnywhere (slice_index_or (map (λ x. x.cond) list.now) i c) s.now o.0 }
+        ensures hold { Hold (map (λ x. x.cond) list.now) s.now self.new }
     {
-        for _ in 0..TRIES {
+        let k = i % PLACES;
+        if self.looks[k].is_hopeless(o) {
+            return false;
+        }
+        for _ in 0..MOST_LOOKS {
             if self.look(list, i, s, o) {
-                return;
+                return true;
             }
         }
+        let look = self.looks[k];
+        self.note(k, look.failed_for(o));
+        false
     }
 
     /// Whether the i-th condition surely spares the object, asked anew. Where it does, objects on which it rests are watched.
@@ -227,13 +327,9 @@ impl Watches {
             → SparesAnywhere (slice_index_or (map (λ x. x.cond) list.now) i c) s.now o.0 }
         ensures hold { Hold (map (λ x. x.cond) list.now) s.now self.new }
     {
-        if !list[i].surely_spares_watched(s, o, &mut self.watched[i]) {
-            return false;
+        if self.find(list, i, s, o) {
+            return true;
         }
-        let x = self.found[i];
-        if !self.is_fresh(&x) {
-            self.find(list, i, s, o);
-        }
-        true
+        list[i].surely_spares_watched(s, o, &mut self.watched[i])
     }
 }
