@@ -1,5 +1,5 @@
 -- How many of the first conditions of a list are possible.
-use Rattle.std.proofs.Common.{◌≡◌, ℕ, zero, suc, ◌+◌, ◌<◌, ◌≤◌, Bool, true, false, List, [], ◌∷◌, length, get_or, refl, sym, ap, ◌∙◌, subst, arith, ℤ, pos, ◌≤ℤ◌, ◌<ℤ◌, not}
+use Rattle.std.proofs.Common.{◌≡◌, ℕ, zero, suc, ◌+◌, ◌<◌, ◌≤◌, Bool, true, false, List, [], ◌∷◌, length, get_or, refl, sym, ap, ◌∙◌, subst, arith, ℤ, pos, ◌≤ℤ◌, ◌<ℤ◌}
 use Rattle.std.specs.List.{All}
 use Rattle.std.proofs.lemmas.Int.{ints}
 use Rattle.std.proofs.lemmas.Bool.{true≢false}
@@ -7,19 +7,17 @@ use Rattle.std.proofs.lemmas.List.Elements.{All-head, All-tail, All-nil, All-con
 use lib.Signed.{le_z}
 use mathlib.Core.Former.{Count}
 use Rattle.geo_base.specs.Boxes.{coordinate}
-use Rattle.geo_conditions.specs.declared.cond.Cond.{Cond, Lin, Shape, NotShape, AtLeast, AtLeast', Row_of-Cond, end_of-Cond, more_of-Cond, items-the_row-Cond, items_hidden-the_row-Cond-0}
+use Rattle.geo_conditions.specs.declared.cond.Cond.{Cond, AtLeast, AtLeast', Row_of-Cond, end_of-Cond, more_of-Cond, items-the_row-Cond, items_hidden-the_row-Cond-0}
 use Rattle.geo_conditions.specs.declared.cond.Conds.{Conds}
-use Rattle.geo_conditions.specs.Reach.{State, Region, dims, is_only, place_in, with_at, count}
+use Rattle.geo_conditions.specs.Reach.{State, Region, dims, with_at, count}
 use Rattle.geo_conditions.specs.Conditions.{possible, FitsIn, IsRefuted}
 use Rattle.geo_conditions.proofs.Children.{many_possible, at_least_is}
 use Rattle.geo_conditions.proofs.Monotone.{count_le}
 use Rattle.geo_conditions.proofs.SmallerBoxes.{possible_wider_box}
-use Rattle.indexical.proofs.SamePlaces.{same_places}
 use Rattle.indexical.specs.Disjunctions.{IsDisjunction, AreDisjunctions}
 use Rattle.std.specs.Prelude.{◌||◌}
 use Rattle.std.specs.List.{list_any}
 use Rattle.indexical.specs.Names.{names, any_names}
-use Rattle.indexical.specs.Forbidden.{IsOnShape}
 
 -- ---- the first conditions
 
@@ -102,15 +100,6 @@ disjunction_out n children o h =
     let row = row_of (AtLeast n children) in
     let same = items_hidden-the_row-Cond-0 children.items in
     (h.0, subst (All (IsDisjunction o)) same (disjunctions_are row.0 row.1 o h.1))
-
--- ---- shapes
-
--- a literal on a shape is as possible with the object in one box as in another
-pub shape_in_any_box : (x : Cond) (S : State) (o s : ℕ) (b b' : Region) → o < length S → IsOnShape x → possible x (with_at S o s b) ≡ possible x (with_at S o s b')
-shape_in_any_box (Lin f) S o s b b' there h = absurd h
-shape_in_any_box (Shape u p) S o s b b' there h = ap (λ (bs : List Bool). place_in bs p) (same_places S o s b b' u.0 there)
-shape_in_any_box (NotShape u p) S o s b b' there h = ap (λ (bs : List Bool). not (is_only bs p)) (same_places S o s b b' u.0 there)
-shape_in_any_box (AtLeast' n shape cs) S o s b b' there h = absurd h
 
 -- ---- names
 

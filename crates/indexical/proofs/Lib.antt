@@ -2,7 +2,6 @@ pub mod Numbers
 pub mod Values
 pub mod WholePart
 pub mod Widened
-pub mod SamePlaces
 pub mod Children
 pub mod Tried
 pub mod Overlapping
@@ -13,3 +12,5 @@ pub mod PutBoxes
 pub mod TwoLengths
 pub mod Unnamed
 pub mod Faces
+pub mod SoleCoordinate
+pub mod ShapeLiterals

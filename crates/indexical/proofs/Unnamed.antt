@@ -8,14 +8,13 @@ use Rattle.geo_base.specs.Boxes.{coordinate}
 use Rattle.geo_conditions.specs.declared.cond.Cond.{Cond, Lin, Shape, NotShape, AtLeast, AtLeast', Row_of-Cond, end_of-Cond, more_of-Cond}
 use Rattle.geo_conditions.specs.declared.cond.Conds.{Conds}
 use Rattle.geo_conditions.specs.declared.form.Term.{Term}
-use Rattle.geo_conditions.specs.Reach.{State, Reach, Region, reach, place_in, is_only, just, with_at, count}
+use Rattle.geo_conditions.specs.Reach.{State, Reach, reach, place_in, is_only, just, with_at, count}
 use Rattle.geo_conditions.specs.Conditions.{possible, how_many_possible, least_term, least_product, sum_of}
 use Rattle.geo_conditions.proofs.Points.{reach_other}
 use Rattle.geo_conditions.proofs.Children.{many_possible}
-use Rattle.indexical.specs.Forbidden.{IsOnShape}
 use Rattle.indexical.specs.Free.{Spares, SparesAnywhere}
 use Rattle.indexical.specs.Names.{names, any_names}
-use Rattle.indexical.proofs.Children.{first_possible, first_step, first_least, counted_true, possible_at_least, shape_in_any_box}
+use Rattle.indexical.proofs.Children.{first_possible, first_step, first_least, counted_true, possible_at_least}
 
 same_terms : (S T : State) (ts : List Term) → ((u : ℕ) → list_any (λ (t : Term). eqb t.object.0 u) ts ≡ true → reach S u ≡ reach T u) → sum_of (least_term S) ts ≡ sum_of (least_term T) ts
 same_terms S T [] b = refl
@@ -42,10 +41,6 @@ mutual
 pub spares_unnamed : (c : Cond) (S : State) (o s : ℕ) → names o c ≡ false → possible c S ≡ true → Spares c S o s
 spares_unnamed c S o s h y p =
     sym (same_answer c S (with_at S o s (just p)) (λ u n. sym (reach_other S o s u (just p) (λ e. absurd (false≢true (sym h ∙ subst (λ (v : ℕ). names v c ≡ true) e n)))))) ∙ y
-
--- a literal on a shape does not see where the object is put
-pub spares_shape : (c : Cond) (S : State) (o s : ℕ) (b : Region) → o < length S → IsOnShape c → possible c (with_at S o s b) ≡ true → Spares c S o s
-spares_shape c S o s b there h y p = shape_in_any_box c S o s (just p) b there h ∙ y
 
 -- ---- parts that spare an object
 

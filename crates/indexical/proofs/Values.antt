@@ -57,7 +57,7 @@ product_moved false (negsuc n) lo hi lo' hi' u f g = let e = ap (λ (z : ℤ). n
 abbrev pub IsOf : ℕ → ℕ → Term → Type 0
 IsOf o d t = (t.object.0 ≡ o) × (t.dimension ≡ d)
 
-same_sum : (f g : Term → ℤ) (ts : List Term) → All (λ t. f t ≡ g t) ts → sum_of f ts ≡ sum_of g ts
+pub same_sum : (f g : Term → ℤ) (ts : List Term) → All (λ t. f t ≡ g t) ts → sum_of f ts ≡ sum_of g ts
 same_sum f g [] a = refl
 same_sum f g (t ∷ ts) a =
     let h = All-head (λ u. f u ≡ g u) t ts a in

@@ -4,7 +4,7 @@ use Rattle.geo_base.specs.Boxes.{coordinate}
 use Rattle.geo_base.specs.Ways.{dimension}
 use Rattle.geo_conditions.specs.declared.form.Term.{Term}
 use Rattle.geo_conditions.specs.Form.{Sum}
-use Rattle.geo_conditions.specs.Reach.{State, Region, with_at}
+use Rattle.geo_conditions.specs.Reach.{State, Region, just, with_at}
 use Rattle.geo_conditions.specs.Conditions.{least_value}
 
 -- the factor of the coordinate d of o in the terms; 0 where it has none
@@ -45,3 +45,9 @@ pub record WidensFrom (K lead j : ℕ) (f : Sum) (o : ℕ) (high : Bool) (region
   pub spent : ℕ
   pub paid : purse' + spent ≡ purse
   pub value : (S : State) (s : ℕ) → o < length S → least_value f (with_at S o s b') +ℤ pos spent ≡ least_value f (with_at S o s b)
+
+-- The box b becomes b': one end in the dimension d moves to the coordinate of the point c.
+pub record BeginsAt (high : Bool) (d : ℕ) (c : List ℤ) (b b' : Region) : Type 0 where
+  pub at : outer high b' d ≡ outer high (just c) d
+  pub others : (e : ℕ) → e ≢ d → outer high b' e ≡ outer high b e
+  pub other_side : (e : ℕ) → outer (not high) b' e ≡ outer (not high) b e

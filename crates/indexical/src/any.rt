@@ -24,6 +24,7 @@ use crate::single_bound::bound_of;
 use crate::spared::is_named;
 use crate::tree::{forbid_tree, tree_part};
 use crate::two_boxes::two_boxes;
+use crate::unspared::unspared_object;
 use crate::watched::{Watched, tree_spares_watched};
 use geo_base::{KBox, MAX_DIMS, Point, Steps, Way};
 use geo_conditions::{Cond, MAX_OBJECTS, ObjId, State, refuted};
@@ -35,6 +36,8 @@ pub struct AnyIndexical<const K: usize> {
     cond: Cond,
     boxes: Option<ApartIndexical<K>>,
     bound: Option<BoundIndexical<K>>,
+    // an object that the condition spares on no state, as far as one was found
+    unspared: Option<ObjId>,
     ghost bounds: { ForSome bound (λ x. SaysBound x cond) },
     ghost says: { ForSome boxes (λ x. SaysApart x.first x.second x.short cond) },
 }
@@ -46,6 +49,7 @@ impl<const K: usize> Drop for AnyIndexical<K> {
             cond: _cond,
             boxes: _boxes,
             bound: _bound,
+            unspared: _unspared,
         } = self;
     }
 }
@@ -57,10 +61,12 @@ impl<const K: usize> AnyIndexical<K> {
     {
         let boxes = two_boxes(&c);
         let bound = bound_of(&c);
+        let unspared = unspared_object(&c);
         AnyIndexical {
             cond: c,
             boxes,
             bound,
+            unspared,
         }
     }
 
@@ -79,6 +85,7 @@ impl<const K: usize> AnyIndexical<K> {
             cond,
             boxes: _boxes,
             bound: _bound,
+            unspared: _unspared,
         } = self;
         cond
     }
@@ -172,6 +179,15 @@ fn bound_on<const K: usize>(x: &AnyIndexical<K>, o: ObjId) -> Option<&BoundIndex
     match &x.bound {
         Some(b) if b.is_of(o) => Some(b),
         _ => None,
+    }
+}
+
+/// Whether the object is one that the condition was found to spare on no state.
+#[inline(always)]
+fn is_unspared<const K: usize>(x: &AnyIndexical<K>, o: ObjId) -> bool {
+    match x.unspared {
+        Some(u) => u.0 == o.0,
+        None => false,
     }
 }
 
@@ -301,6 +317,7 @@ fn single_part<const K: usize>(
 {
     match bound_on(x, o) {
         Some(bound) => exactly(bound.broken_part(place, region)),
+        None if is_unspared(x, o) => ForbiddenPart::Unknown,
         None => tree_part(&x.cond, s, o, place, region),
     }
 }

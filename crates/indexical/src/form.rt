@@ -16,7 +16,7 @@ use geo_base::{KBox, Point, Way};
 use geo_conditions::{Form, ObjId, State, least_value_at};
 
 /// The factor of that coordinate in the form; 0 where it has none.
-fn factor_of(f: &Form, o: ObjId, d: usize) -> i64
+pub fn factor_of(f: &Form, o: ObjId, d: usize) -> i64
     ensures { result ≡ factor_at f.now.terms o.0 d }
 {
     for term in f.terms() {
@@ -80,7 +80,7 @@ fn down_by(end: i64, units: u64, limit: i64) -> i64
 
 /// Moves one end of the box in the dimension d outwards, towards that of the region, as far as the
 /// purse pays for it.
-fn widen<const K: usize>(
+pub fn widen<const K: usize>(
     f: &Form,
     o: ObjId,
     d: usize,

@@ -7,8 +7,9 @@ ghost use Rattle.indexical.specs.Forbidden.{IsOnShape};
 ghost use Rattle.indexical.specs.Free.{Spares, SparesAnywhere};
 ghost use Rattle.indexical.specs.Names.{names};
 
+use crate::shape_literals::shape_refuted;
 use geo_base::MAX_DIMS;
-use geo_conditions::{Cond, Form, ObjId, State, refuted, refuted_at};
+use geo_conditions::{Cond, Form, ObjId, State, refuted};
 
 fn is_in_form(f: &Form, o: ObjId) -> bool
     ensures { result ≡ list_any (λ t. t.object.0 == o.0) f.now.terms }
@@ -48,7 +49,7 @@ fn shape_spares<const K: usize>(c: &Cond, s: &State<K>, o: ObjId, place: u8) -> 
     requires literal { IsOnShape c.now }
     ensures { IsTrue result → Spares c.now s.now o.0 place }
 {
-    !refuted_at(c, s, o, place, &s.region(o))
+    !shape_refuted(c, s, o, place)
 }
 
 /// Whether a condition is possible and does not name the object.

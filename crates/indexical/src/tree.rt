@@ -1,20 +1,21 @@
 //! A condition met by its tree: the forbidden box of a sum is found by letting each coordinate run
 //! as far as the sum stays positive, that of a count by the parts that are refuted.
 
-ghost use Rattle.std.specs.Prelude.{◌≡◌, ℕ, ◌+◌, ◌<◌, ◌≤◌, true, List, length, ℤ, MatchOption};
+ghost use Rattle.std.specs.Prelude.{◌≡◌, ℕ, ◌+◌, ◌<◌, ◌≤◌, true, false, List, length, ℤ, MatchOption};
 ghost use Rattle.geo_base.specs.Boxes.{Has};
 ghost use Rattle.geo_conditions.specs.Reach.{with_at, just};
 ghost use Rattle.geo_conditions.specs.Conditions.{possible, FitsIn};
 ghost use Rattle.geo_conditions.specs.Regions.{region_of};
-ghost use Rattle.indexical.specs.Forbidden.{Forbids, IsForbiddenBox, IsOnShape};
+ghost use Rattle.indexical.specs.Forbidden.{Forbids, IsForbiddenBox};
 
+use crate::cut::cut_form;
 use crate::forbidden::ForbiddenPart;
-use crate::form::forbid_form;
 use crate::indexical::Indexical;
 use crate::point::tree_possible_at;
+use crate::shape_literals::shape_refuted;
 use crate::spared::tree_spares;
 use geo_base::{KBox, MAX_DIMS, Point, Steps, Way};
-use geo_conditions::{Cond, ObjId, State, refuted_at};
+use geo_conditions::{Cond, ObjId, State};
 use std::sync::ledger::Ledger;
 
 /// A condition as the tree that it is.
@@ -32,34 +33,63 @@ impl TreeIndexical {
     }
 }
 
-/// The forbidden box of a literal on a shape: the whole region, or none.
-fn forbid_shape<const K: usize>(
+/// Cuts a box that has the point c down to a forbidden box of the condition, and says whether the
+/// condition is refuted with the object at c. Where it is not, the box stays as it was. Of a
+/// condition that asks for some of its parts the box is cut down part by part, by the parts that
+/// are refuted, until too few are left that may be true.
+fn cut_tree<const K: usize>(
     cond: &Cond,
     s: &State<K>,
     o: ObjId,
     place: u8,
     c: &Point<K>,
-    region: &KBox<K>,
-    _way: &Way<K>,
-) -> Option<KBox<K>>
+    way: &Way<K>,
+    b: &mut KBox<K>,
+) -> bool
     requires fits { FitsIn cond.now s.now }
     requires object { o.0 < length s.now }
-    requires literal { IsOnShape cond.now }
-    requires inside { Has K region.now.lo.coordinates region.now.hi.coordinates c.now.coordinates }
-    ensures { MatchOption result
-        (possible cond.now (with_at s.now o.0 place (just c.now.coordinates)) ≡ true)
-        (λ b. IsForbiddenBox K cond.now s.now o.0 place c.now.coordinates
-        (region_of region.now) (region_of b)) }
+    requires inside { Has K b.old.lo.coordinates b.old.hi.coordinates c.now.coordinates }
+    ensures cut { result ≡ true → IsForbiddenBox K cond.now s.now o.0 place
+        c.now.coordinates (region_of b.old) (region_of b.new) }
+    ensures possible { result ≡ false → possible cond.now
+        (with_at s.now o.0 place (just c.now.coordinates)) ≡ true }
+    ensures same { result ≡ false → b.new ≡ b.old }
 {
-    if refuted_at(cond, s, o, place, region) {
-        Some(*region)
-    } else {
-        None
+    match cond {
+        Cond::Lin(f) => cut_form(f, s, o, place, c, way, b),
+        Cond::Shape(_, _) => shape_refuted(cond, s, o, place),
+        Cond::NotShape(_, _) => shape_refuted(cond, s, o, place),
+        Cond::AtLeast(n, children) => {
+            // The state has K dimensions.
+            let _objects = s.objects();
+            let whole = *b;
+            let least = i128::from(*n);
+            let mut open = children.len();
+            let mut sure: usize = 0;
+            for child in children.as_slice() {
+                if cut_tree(child, s, o, place, c, way, b) {
+                    open -= 1;
+                    if (open as i128) < least {
+                        return true;
+                    }
+                } else {
+                    sure += 1;
+                    if least <= sure as i128 {
+                        *b = whole;
+                        return false;
+                    }
+                }
+            }
+            if (open as i128) < least {
+                return true;
+            }
+            *b = whole;
+            false
+        }
     }
 }
 
-/// The forbidden box of a condition. Of a condition that asks for some of its parts the box is cut
-/// down part by part, by the parts that are refuted, until too few are left that may be true.
+/// The forbidden box of a condition.
 pub fn forbid_tree<const K: usize>(
     cond: &Cond,
     s: &State<K>,
@@ -77,40 +107,11 @@ pub fn forbid_tree<const K: usize>(
         (λ b. IsForbiddenBox K cond.now s.now o.0 place c.now.coordinates
         (region_of region.now) (region_of b)) }
 {
-    match cond {
-        Cond::Lin(f) => forbid_form(f, s, o, place, c, region, way),
-        Cond::Shape(_, _) => forbid_shape(cond, s, o, place, c, region, way),
-        Cond::NotShape(_, _) => forbid_shape(cond, s, o, place, c, region, way),
-        Cond::AtLeast(n, children) => {
-            // The state has K dimensions.
-            let _objects = s.objects();
-            let least = i128::from(*n);
-            let mut b = *region;
-            let mut open = children.len();
-            let mut sure: usize = 0;
-            for child in children.as_slice() {
-                match forbid_tree(child, s, o, place, c, &b, way) {
-                    Some(smaller) => {
-                        b = smaller;
-                        open -= 1;
-                        if (open as i128) < least {
-                            return Some(b);
-                        }
-                    }
-                    None => {
-                        sure += 1;
-                        if least <= sure as i128 {
-                            return None;
-                        }
-                    }
-                }
-            }
-            if (open as i128) < least {
-                Some(b)
-            } else {
-                None
-            }
-        }
+    let mut b = *region;
+    if cut_tree(cond, s, o, place, c, way, &mut b) {
+        Some(b)
+    } else {
+        None
     }
 }
 

@@ -53,8 +53,8 @@ fn part_spares<const K: usize>(n: i64, children: &Conds, i: usize, s: &State<K>,
     i < parts.len() && tree_spares_anywhere(&parts[i], s, o)
 }
 
-// Whether so many literals leave the object out that the condition may spare it on some state.
-fn may_spare(c: &Cond, o: ObjId) -> bool {
+/// Whether so many literals leave the object out that the condition may spare it on some state.
+pub fn may_spare(c: &Cond, o: ObjId) -> bool {
     match c {
         Cond::AtLeast(n, children) => {
             let least = i128::from(*n);

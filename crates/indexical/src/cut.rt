@@ -1,0 +1,143 @@
+//! A box that is cut down to a forbidden box of a linear form, in its place. Of a form with at most
+//! one coordinate of the object one end moves, and no other.
+
+ghost use Rattle.std.specs.Prelude.{◌≡◌, ℕ, ◌<◌, ◌≤◌, true, false, Some, length, IfSome, IsTrue};
+ghost use Rattle.std.specs.List.{All};
+ghost use Rattle.geo_base.specs.Boxes.{Has};
+ghost use Rattle.geo_conditions.specs.declared.cond.Cond.{Cond};
+ghost use Rattle.geo_conditions.specs.Reach.{Exists, with_at, just};
+ghost use Rattle.geo_conditions.specs.Conditions.{possible};
+ghost use Rattle.geo_conditions.specs.Regions.{region_of};
+ghost use Rattle.indexical.specs.Forbidden.{IsForbiddenBox};
+ghost use Rattle.indexical.specs.Widening.{BeginsAt};
+
+use crate::form::{factor_of, forbid_form, widen};
+use geo_base::{KBox, MAX_DIMS, Point, Way};
+use geo_conditions::{Form, ObjId, State, least_value_at};
+
+/// The dimension in which the form has a coordinate of the object, if it has one; None where it has
+/// several.
+fn own_dimension<const K: usize>(f: &Form, s: &State<K>, o: ObjId) -> Option<Option<usize>>
+    requires fits { All (λ a. Exists s.now a.object.0 a.dimension) f.now.terms }
+    ensures own { IfSome result (λ own.
+        All (λ a. a.object.0 ≡ o.0 → own ≡ Some a.dimension) f.now.terms) }
+    ensures dimension { IfSome result (λ own. IfSome own (λ d. d < K)) }
+{
+    let _objects = s.objects();
+    let mut own = None;
+    for term in f.terms() {
+        if term.object.0 == o.0 {
+            if own.is_some() {
+                return None;
+            }
+            own = Some(term.dimension);
+        }
+    }
+    Some(own)
+}
+
+/// Moves one end of the box in a dimension to the coordinate of the point.
+#[inline(always)]
+fn begin_at<const K: usize>(b: &mut KBox<K>, d: usize, high: bool, c: &Point<K>)
+    requires dimension { d < K }
+    ensures { BeginsAt high d c.now.coordinates (region_of b.old) (region_of b.new) }
+{
+    if high {
+        b.hi.set(d, c.get(d));
+    } else {
+        b.lo.set(d, c.get(d));
+    }
+}
+
+/// Cuts the box down by a form that has the coordinate `own` of the object, or none, and says
+/// whether the form is refuted with the object at c. Where it is not, the box stays as it was.
+fn cut_by_sole<const K: usize>(
+    f: &Form,
+    s: &State<K>,
+    o: ObjId,
+    place: u8,
+    c: &Point<K>,
+    own: Option<usize>,
+    b: &mut KBox<K>,
+) -> bool
+    requires k { K ≤ MAX_DIMS }
+    requires fits { All (λ a. Exists s.now a.object.0 a.dimension) f.now.terms }
+    requires object { o.0 < length s.now }
+    requires inside { Has K b.old.lo.coordinates b.old.hi.coordinates c.now.coordinates }
+    requires own { All (λ a. a.object.0 ≡ o.0 → own ≡ Some a.dimension) f.now.terms }
+    requires dimension { IfSome own (λ d. d < K) }
+    ensures cut { result ≡ true → IsForbiddenBox K (Cond.Lin f.now) s.now o.0 place
+        c.now.coordinates (region_of b.old) (region_of b.new) }
+    ensures possible { result ≡ false → possible (Cond.Lin f.now)
+        (with_at s.now o.0 place (just c.now.coordinates)) ≡ true }
+    ensures same { result ≡ false → b.new ≡ b.old }
+{
+    let _terms = f.terms();
+    let least = least_value_at(f, s, o, place, &KBox::new(*c, *c));
+    if least <= 0 {
+        return false;
+    }
+    let Some(d) = own else {
+        return true;
+    };
+    let region = *b;
+    let high = factor_of(f, o, d) < 0;
+    let mut purse = (least - 1) as u128;
+    begin_at(b, d, high, c);
+    widen(f, o, d, high, &region, b, &mut purse);
+    true
+}
+
+/// The same for a form that has several coordinates of the object.
+fn cut_by_several<const K: usize>(
+    f: &Form,
+    s: &State<K>,
+    o: ObjId,
+    place: u8,
+    c: &Point<K>,
+    way: &Way<K>,
+    b: &mut KBox<K>,
+) -> bool
+    requires fits { All (λ a. Exists s.now a.object.0 a.dimension) f.now.terms }
+    requires object { o.0 < length s.now }
+    requires inside { Has K b.old.lo.coordinates b.old.hi.coordinates c.now.coordinates }
+    ensures cut { result ≡ true → IsForbiddenBox K (Cond.Lin f.now) s.now o.0 place
+        c.now.coordinates (region_of b.old) (region_of b.new) }
+    ensures possible { result ≡ false → possible (Cond.Lin f.now)
+        (with_at s.now o.0 place (just c.now.coordinates)) ≡ true }
+    ensures same { result ≡ false → b.new ≡ b.old }
+{
+    match forbid_form(f, s, o, place, c, b, way) {
+        Some(smaller) => {
+            *b = smaller;
+            true
+        }
+        None => false,
+    }
+}
+
+/// Cuts a box that has the point c down to a forbidden box of the form, and says whether the form
+/// is refuted with the object at c. Where it is not, the box stays as it was.
+pub fn cut_form<const K: usize>(
+    f: &Form,
+    s: &State<K>,
+    o: ObjId,
+    place: u8,
+    c: &Point<K>,
+    way: &Way<K>,
+    b: &mut KBox<K>,
+) -> bool
+    requires fits { All (λ a. Exists s.now a.object.0 a.dimension) f.now.terms }
+    requires object { o.0 < length s.now }
+    requires inside { Has K b.old.lo.coordinates b.old.hi.coordinates c.now.coordinates }
+    ensures cut { result ≡ true → IsForbiddenBox K (Cond.Lin f.now) s.now o.0 place
+        c.now.coordinates (region_of b.old) (region_of b.new) }
+    ensures possible { result ≡ false → possible (Cond.Lin f.now)
+        (with_at s.now o.0 place (just c.now.coordinates)) ≡ true }
+    ensures same { result ≡ false → b.new ≡ b.old }
+{
+    match own_dimension(f, s, o) {
+        Some(own) => cut_by_sole(f, s, o, place, c, own, b),
+        None => cut_by_several(f, s, o, place, c, way, b),
+    }
+}
