@@ -1,19 +1,20 @@
 //! A box that is cut down to a forbidden box of a linear form, in its place. Of a form with at most
 //! one coordinate of the object one end moves, and no other.
 
-ghost use Rattle.std.specs.Prelude.{◌≡◌, ℕ, ◌<◌, ◌≤◌, true, false, Some, length, IfSome, IsTrue};
+ghost use Rattle.std.specs.Prelude.{◌≡◌, ℕ, suc, ◌<◌, true, false, Some, length, pos, IfSome};
 ghost use Rattle.std.specs.List.{All};
 ghost use Rattle.geo_base.specs.Boxes.{Has};
 ghost use Rattle.geo_conditions.specs.declared.cond.Cond.{Cond};
 ghost use Rattle.geo_conditions.specs.Reach.{Exists, with_at, just};
-ghost use Rattle.geo_conditions.specs.Conditions.{possible};
+ghost use Rattle.geo_conditions.specs.Conditions.{least_value, possible};
 ghost use Rattle.geo_conditions.specs.Regions.{region_of};
 ghost use Rattle.indexical.specs.Forbidden.{IsForbiddenBox};
 ghost use Rattle.indexical.specs.Widening.{BeginsAt};
 
 use crate::form::{factor_of, forbid_form, widen};
-use geo_base::{KBox, MAX_DIMS, Point, Way};
-use geo_conditions::{Form, ObjId, State, least_value_at};
+use crate::least::least_value_with;
+use geo_base::{KBox, Point, Way};
+use geo_conditions::{Form, ObjId, State};
 
 /// The dimension in which the form has a coordinate of the object, if it has one; None where it has
 /// several.
@@ -49,8 +50,8 @@ fn begin_at<const K: usize>(b: &mut KBox<K>, d: usize, high: bool, c: &Point<K>)
     }
 }
 
-/// Cuts the box down by a form that has the coordinate `own` of the object, or none, and says
-/// whether the form is refuted with the object at c. Where it is not, the box stays as it was.
+/// Cuts the box down by a form that is above 0 by one more than the purse with the object at c, and
+/// has the coordinate `own` of the object, or none.
 fn cut_by_sole<const K: usize>(
     f: &Form,
     s: &State<K>,
@@ -58,34 +59,26 @@ fn cut_by_sole<const K: usize>(
     place: u8,
     c: &Point<K>,
     own: Option<usize>,
+    mut purse: u128,
     b: &mut KBox<K>,
-) -> bool
-    requires k { K ≤ MAX_DIMS }
-    requires fits { All (λ a. Exists s.now a.object.0 a.dimension) f.now.terms }
+)
     requires object { o.0 < length s.now }
     requires inside { Has K b.old.lo.coordinates b.old.hi.coordinates c.now.coordinates }
     requires own { All (λ a. a.object.0 ≡ o.0 → own ≡ Some a.dimension) f.now.terms }
     requires dimension { IfSome own (λ d. d < K) }
-    ensures cut { result ≡ true → IsForbiddenBox K (Cond.Lin f.now) s.now o.0 place
+    requires above { least_value f.now (with_at s.now o.0 place (just c.now.coordinates))
+        ≡ pos (suc purse) }
+    ensures { IsForbiddenBox K (Cond.Lin f.now) s.now o.0 place
         c.now.coordinates (region_of b.old) (region_of b.new) }
-    ensures possible { result ≡ false → possible (Cond.Lin f.now)
-        (with_at s.now o.0 place (just c.now.coordinates)) ≡ true }
-    ensures same { result ≡ false → b.new ≡ b.old }
 {
     let _terms = f.terms();
-    let least = least_value_at(f, s, o, place, &KBox::new(*c, *c));
-    if least <= 0 {
-        return false;
-    }
     let Some(d) = own else {
-        return true;
+        return;
     };
     let region = *b;
     let high = factor_of(f, o, d) < 0;
-    let mut purse = (least - 1) as u128;
     begin_at(b, d, high, c);
     widen(f, o, d, high, &region, b, &mut purse);
-    true
 }
 
 /// The same for a form that has several coordinates of the object.
@@ -118,6 +111,7 @@ fn cut_by_several<const K: usize>(
 
 /// Cuts a box that has the point c down to a forbidden box of the form, and says whether the form
 /// is refuted with the object at c. Where it is not, the box stays as it was.
+#[inline(never)]
 pub fn cut_form<const K: usize>(
     f: &Form,
     s: &State<K>,
@@ -136,8 +130,15 @@ pub fn cut_form<const K: usize>(
         (with_at s.now o.0 place (just c.now.coordinates)) ≡ true }
     ensures same { result ≡ false → b.new ≡ b.old }
 {
+    let least = least_value_with(f, s, o, c);
+    if least <= 0 {
+        return false;
+    }
     match own_dimension(f, s, o) {
-        Some(own) => cut_by_sole(f, s, o, place, c, own, b),
+        Some(own) => {
+            cut_by_sole(f, s, o, place, c, own, (least - 1) as u128, b);
+            true
+        }
         None => cut_by_several(f, s, o, place, c, way, b),
     }
 }

@@ -11,6 +11,7 @@ mod facing;
 mod forbidden;
 mod form;
 mod indexical;
+mod least;
 mod overlap;
 mod placed;
 mod point;

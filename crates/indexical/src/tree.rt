@@ -15,7 +15,7 @@ use crate::point::tree_possible_at;
 use crate::shape_literals::shape_refuted;
 use crate::spared::tree_spares;
 use geo_base::{KBox, MAX_DIMS, Point, Steps, Way};
-use geo_conditions::{Cond, ObjId, State};
+use geo_conditions::{Cond, Conds, ObjId, State};
 use std::sync::ledger::Ledger;
 
 /// A condition as the tree that it is.
@@ -33,10 +33,60 @@ impl TreeIndexical {
     }
 }
 
+/// Cuts the box down part by part, by the parts that are refuted, until too few are left that may be
+/// true.
+#[cycle(cut)]
+fn cut_by_parts<const K: usize>(
+    n: i64,
+    children: &Conds,
+    s: &State<K>,
+    o: ObjId,
+    place: u8,
+    c: &Point<K>,
+    way: &Way<K>,
+    b: &mut KBox<K>,
+) -> bool
+    requires fits { FitsIn (Cond.AtLeast n children.now) s.now }
+    requires object { o.0 < length s.now }
+    requires inside { Has K b.old.lo.coordinates b.old.hi.coordinates c.now.coordinates }
+    ensures cut { result ≡ true → IsForbiddenBox K (Cond.AtLeast n children.now) s.now o.0 place
+        c.now.coordinates (region_of b.old) (region_of b.new) }
+    ensures possible { result ≡ false → possible (Cond.AtLeast n children.now)
+        (with_at s.now o.0 place (just c.now.coordinates)) ≡ true }
+    ensures same { result ≡ false → b.new ≡ b.old }
+{
+    // The state has K dimensions.
+    let _objects = s.objects();
+    let whole = *b;
+    let least = i128::from(n);
+    let mut open = children.len();
+    let mut sure: usize = 0;
+    for child in children.as_slice() {
+        if cut_tree(child, s, o, place, c, way, b) {
+            open -= 1;
+            if (open as i128) < least {
+                return true;
+            }
+        } else {
+            sure += 1;
+            if least <= sure as i128 {
+                *b = whole;
+                return false;
+            }
+        }
+    }
+    if (open as i128) < least {
+        return true;
+    }
+    *b = whole;
+    false
+}
+
 /// Cuts a box that has the point c down to a forbidden box of the condition, and says whether the
-/// condition is refuted with the object at c. Where it is not, the box stays as it was. Of a
-/// condition that asks for some of its parts the box is cut down part by part, by the parts that
-/// are refuted, until too few are left that may be true.
+/// condition is refuted with the object at c. Where it is not, the box stays as it was. It is
+/// inlined where parts are cut by, so that a literal on a shape takes no call.
+#[cycle(cut)]
+#[inline(always)]
 fn cut_tree<const K: usize>(
     cond: &Cond,
     s: &State<K>,
@@ -59,33 +109,7 @@ fn cut_tree<const K: usize>(
         Cond::Lin(f) => cut_form(f, s, o, place, c, way, b),
         Cond::Shape(_, _) => shape_refuted(cond, s, o, place),
         Cond::NotShape(_, _) => shape_refuted(cond, s, o, place),
-        Cond::AtLeast(n, children) => {
-            // The state has K dimensions.
-            let _objects = s.objects();
-            let whole = *b;
-            let least = i128::from(*n);
-            let mut open = children.len();
-            let mut sure: usize = 0;
-            for child in children.as_slice() {
-                if cut_tree(child, s, o, place, c, way, b) {
-                    open -= 1;
-                    if (open as i128) < least {
-                        return true;
-                    }
-                } else {
-                    sure += 1;
-                    if least <= sure as i128 {
-                        *b = whole;
-                        return false;
-                    }
-                }
-            }
-            if (open as i128) < least {
-                return true;
-            }
-            *b = whole;
-            false
-        }
+        Cond::AtLeast(n, children) => cut_by_parts(*n, children, s, o, place, c, way, b),
     }
 }
 

@@ -2,7 +2,7 @@ use Rattle.std.proofs.Common.{◌≡◌, suc, ◌+◌, ◌-◌, true, List, leng
 use Rattle.std.specs.List.{All}
 use Rattle.std.proofs.lemmas.Int.{ints}
 use Rattle.geo_base.specs.declared.kbox.KBox.{KBox}
-use Rattle.geo_conditions.specs.declared.cond.Cond.{Cond}
+use Rattle.geo_conditions.specs.declared.cond.Cond.{Cond, AtLeast}
 use Rattle.geo_conditions.specs.Conditions.{possible, FitsIn}
 use Rattle.geo_conditions.specs.Reach.{just, with_at}
 use Rattle.geo_conditions.specs.Regions.{region_of}
@@ -10,11 +10,11 @@ use Rattle.geo_conditions.proofs.Children.{fit_out}
 use Rattle.geo_conditions.proofs.Few.{dims_are}
 use Rattle.indexical.specs.Forbidden.{IsForbiddenBox}
 use Rattle.indexical.proofs.Tried.{Tried-start, Tried-some, Tried-none, Tried-box, Tried-possible, Tried-all, Tried-same}
-use Rattle.indexical.proofs.tree.+cut_tree.Goals as goal
-use Rattle.indexical.proofs.tree.+cut_tree.Goals.{then-cut_tree+else-open-least, else-cut_tree+else-least-sure}
+use Rattle.indexical.proofs.tree.+cut.Goals as goal
+use Rattle.indexical.proofs.tree.+cut.Goals.{cut_by_parts-then-cut_tree+else-open-least, cut_by_parts-else-cut_tree+else-least-sure}
 
-pub loop-child-init : goal.loop-child-init
-loop-child-init g t c =
+pub cut_by_parts-loop-child-init : goal.cut_by_parts-loop-child-init
+cut_by_parts-loop-child-init g t c =
     let K = g.row.K in
     let dim = dims_are K c.args.s.now c.args.o.0 c.objects-objects.ensures.shape c.requires.object in
     let xs = c.as_slice-child-items.result.now in
@@ -23,11 +23,11 @@ loop-child-init g t c =
     record {
       tried = Tried-same K xs c.args.s.now c.args.o.0 c.args.place c.args.c.now.coordinates region region region 0 0 (length xs) c.len-open.result 0 0 refl refl len refl
           (Tried-start K xs c.args.s.now c.args.o.0 c.args.place c.args.c.now.coordinates region c.requires.object dim c.requires.inside);
-      fits = subst (λ (ys : List Cond). All (λ e. FitsIn e c.args.s.now) ys) (sym c.as_slice-child-items.ensures) (fit_out c.in-AtLeast.n c.in-AtLeast.children c.args.s.now (subst (λ (e : Cond). FitsIn e c.args.s.now) c.in-AtLeast.is c.requires.fits));
+      fits = subst (λ (ys : List Cond). All (λ e. FitsIn e c.args.s.now) ys) (sym c.as_slice-child-items.ensures) (fit_out c.args.n c.args.children.now c.args.s.now c.requires.fits);
     }
 
-pub returns-then-open-least-clause-cut : goal.returns-then-open-least-clause-cut
-returns-then-open-least-clause-cut g t c = λ e.
+pub cut_by_parts-returns-then-open-least-clause-cut : goal.cut_by_parts-returns-then-open-least-clause-cut
+cut_by_parts-returns-then-open-least-clause-cut g t c = λ e.
     let K = g.row.K in
     let S = c.args.s.now in
     let o = c.args.o.0 in
@@ -39,11 +39,11 @@ returns-then-open-least-clause-cut g t c = λ e.
     let x = c.child-item.result in
     let box = subst (λ (y : Cond). IsForbiddenBox K y S o s p (region_of c.loop-child.b) (region_of c.cut_tree.new.b)) c.child-item.is (c.cut_tree.ensures.cut c.if-cut_tree.true) in
     let was = Tried-some K xs S o s p region c.requires.object dim c.loop-child.invariant.fits (region_of c.loop-child.b) c.loop-child.child-index c.loop-child.open c.loop-child.sure x c.loop-child-test.true c.loop-child.invariant.tried (region_of c.cut_tree.new.b) box in
-    Tried-box K xs S o s p region c.requires.object dim c.args.cond.now c.in-AtLeast.n c.in-AtLeast.children c.in-AtLeast.is c.as_slice-child-items.ensures (region_of c.cut_tree.new.b) (suc c.loop-child.child-index) (c.loop-child.open - 1) c.loop-child.sure (omega arith) was
+    Tried-box K xs S o s p region c.requires.object dim (AtLeast c.args.n c.args.children.now) c.args.n c.args.children.now refl c.as_slice-child-items.ensures (region_of c.cut_tree.new.b) (suc c.loop-child.child-index) (c.loop-child.open - 1) c.loop-child.sure (omega arith) was
     (omega (arith, ints, c.if-open-least.true, c.from-least.ensures, c.loop-child.invariant.tried.upper, c.loop-child-test.true))
 
-pub returns-then-least-sure-clause-possible : goal.returns-then-least-sure-clause-possible
-returns-then-least-sure-clause-possible g t c = λ e.
+pub cut_by_parts-returns-then-least-sure-clause-possible : goal.cut_by_parts-returns-then-least-sure-clause-possible
+cut_by_parts-returns-then-least-sure-clause-possible g t c = λ e.
     let K = g.row.K in
     let S = c.args.s.now in
     let o = c.args.o.0 in
@@ -55,11 +55,11 @@ returns-then-least-sure-clause-possible g t c = λ e.
     let x = c.child-item.result in
     let one = subst (λ (y : Cond). possible y (with_at S o s (just p)) ≡ true) c.child-item.is (c.cut_tree.ensures.possible c.if-cut_tree.false) in
     let was = Tried-none K xs S o s p region c.requires.object dim c.loop-child.invariant.fits (region_of c.loop-child.b) c.loop-child.child-index c.loop-child.open c.loop-child.sure x c.loop-child-test.true c.loop-child.invariant.tried one in
-    Tried-possible K xs S o s p region c.requires.object dim c.args.cond.now c.in-AtLeast.n c.in-AtLeast.children c.in-AtLeast.is c.as_slice-child-items.ensures (region_of c.loop-child.b) (suc c.loop-child.child-index) c.loop-child.open (suc c.loop-child.sure) (omega arith) was
+    Tried-possible K xs S o s p region c.requires.object dim (AtLeast c.args.n c.args.children.now) c.args.n c.args.children.now refl c.as_slice-child-items.ensures (region_of c.loop-child.b) (suc c.loop-child.child-index) c.loop-child.open (suc c.loop-child.sure) (omega arith) was
     (omega (arith, ints, c.if-least-sure.true, c.from-least.ensures))
 
-pub loop-child-preserved : goal.loop-child-preserved
-loop-child-preserved g t c =
+pub cut_by_parts-loop-child-preserved : goal.cut_by_parts-loop-child-preserved
+cut_by_parts-loop-child-preserved g t c =
     let K = g.row.K in
     let S = c.args.s.now in
     let o = c.args.o.0 in
@@ -71,12 +71,12 @@ loop-child-preserved g t c =
     let x = c.child-item.result in
     record {
       tried = elim c.if-cut_tree.branch [
-        | then-cut_tree+else-open-least w ↦
+        | cut_by_parts-then-cut_tree+else-open-least w ↦
             let box = subst (λ (y : Cond). IsForbiddenBox K y S o s p (region_of c.loop-child.b) (region_of c.cut_tree.new.b)) c.child-item.is (c.cut_tree.ensures.cut w.if-cut_tree.true) in
             let was = Tried-some K xs S o s p region c.requires.object dim c.loop-child.invariant.fits (region_of c.loop-child.b) c.loop-child.child-index c.loop-child.open c.loop-child.sure x c.loop-child-test.true c.loop-child.invariant.tried (region_of c.cut_tree.new.b) box in
             Tried-same K xs S o s p region (region_of c.cut_tree.new.b) (region_of c.cut_tree.new.b) (suc c.loop-child.child-index) (c.loop-child.child-index + 1) (c.loop-child.open - 1) c.if-cut_tree.open c.loop-child.sure c.if-cut_tree.sure
             refl (omega arith) (omega (arith, w.open-is)) w.sure-is was
-        | else-cut_tree+else-least-sure w ↦
+        | cut_by_parts-else-cut_tree+else-least-sure w ↦
             let one = subst (λ (y : Cond). possible y (with_at S o s (just p)) ≡ true) c.child-item.is (c.cut_tree.ensures.possible w.if-cut_tree.false) in
             let was = Tried-none K xs S o s p region c.requires.object dim c.loop-child.invariant.fits (region_of c.loop-child.b) c.loop-child.child-index c.loop-child.open c.loop-child.sure x c.loop-child-test.true c.loop-child.invariant.tried one in
             Tried-same K xs S o s p region (region_of c.loop-child.b) (region_of c.cut_tree.new.b) (suc c.loop-child.child-index) (c.loop-child.child-index + 1) c.loop-child.open c.if-cut_tree.open (suc c.loop-child.sure) c.if-cut_tree.sure
@@ -85,23 +85,23 @@ loop-child-preserved g t c =
       fits = c.loop-child.invariant.fits;
     }
 
-pub returns-then-open-least-2-clause-cut : goal.returns-then-open-least-2-clause-cut
-returns-then-open-least-2-clause-cut g t c = λ e.
+pub cut_by_parts-returns-then-open-least-2-clause-cut : goal.cut_by_parts-returns-then-open-least-2-clause-cut
+cut_by_parts-returns-then-open-least-2-clause-cut g t c = λ e.
     let K = g.row.K in
     let S = c.args.s.now in
     let o = c.args.o.0 in
     let dim = dims_are K S o c.objects-objects.ensures.shape c.requires.object in
     let xs = c.as_slice-child-items.result.now in
-    Tried-box K xs S o c.args.place c.args.c.now.coordinates (region_of c.args.b.now) c.requires.object dim c.args.cond.now c.in-AtLeast.n c.in-AtLeast.children c.in-AtLeast.is c.as_slice-child-items.ensures (region_of c.loop-child.b) c.loop-child.child-index c.loop-child.open c.loop-child.sure (omega arith) c.loop-child.invariant.tried
+    Tried-box K xs S o c.args.place c.args.c.now.coordinates (region_of c.args.b.now) c.requires.object dim (AtLeast c.args.n c.args.children.now) c.args.n c.args.children.now refl c.as_slice-child-items.ensures (region_of c.loop-child.b) c.loop-child.child-index c.loop-child.open c.loop-child.sure (omega arith) c.loop-child.invariant.tried
     (omega (arith, ints, c.if-open-least-2.true, c.from-least.ensures))
 
-pub returns-else-open-least-2-clause-possible : goal.returns-else-open-least-2-clause-possible
-returns-else-open-least-2-clause-possible g t c = λ e.
+pub cut_by_parts-returns-clause-possible : goal.cut_by_parts-returns-clause-possible
+cut_by_parts-returns-clause-possible g t c = λ e.
     let K = g.row.K in
     let S = c.args.s.now in
     let o = c.args.o.0 in
     let dim = dims_are K S o c.objects-objects.ensures.shape c.requires.object in
     let xs = c.as_slice-child-items.result.now in
-    let enough = Tried-all K xs S o c.args.place c.args.c.now.coordinates (region_of c.args.b.now) c.requires.object dim c.args.cond.now c.in-AtLeast.n c.in-AtLeast.children c.in-AtLeast.is c.as_slice-child-items.ensures (region_of c.loop-child.b) c.loop-child.child-index c.loop-child.open c.loop-child.sure (omega arith) c.loop-child.invariant.tried
+    let enough = Tried-all K xs S o c.args.place c.args.c.now.coordinates (region_of c.args.b.now) c.requires.object dim (AtLeast c.args.n c.args.children.now) c.args.n c.args.children.now refl c.as_slice-child-items.ensures (region_of c.loop-child.b) c.loop-child.child-index c.loop-child.open c.loop-child.sure (omega arith) c.loop-child.invariant.tried
     (omega (arith, c.loop-child-test.false)) (omega (arith, ints, c.if-open-least-2.false, c.from-least.ensures)) in
-    Tried-possible K xs S o c.args.place c.args.c.now.coordinates (region_of c.args.b.now) c.requires.object dim c.args.cond.now c.in-AtLeast.n c.in-AtLeast.children c.in-AtLeast.is c.as_slice-child-items.ensures (region_of c.loop-child.b) c.loop-child.child-index c.loop-child.open c.loop-child.sure (omega arith) c.loop-child.invariant.tried enough
+    Tried-possible K xs S o c.args.place c.args.c.now.coordinates (region_of c.args.b.now) c.requires.object dim (AtLeast c.args.n c.args.children.now) c.args.n c.args.children.now refl c.as_slice-child-items.ensures (region_of c.loop-child.b) c.loop-child.child-index c.loop-child.open c.loop-child.sure (omega arith) c.loop-child.invariant.tried enough
