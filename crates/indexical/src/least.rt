@@ -1,4 +1,4 @@
-//! The least value of a form with an object at a point.
+//! The least value of a term, and of a form with an object at a point.
 
 ghost use Rattle.std.specs.Prelude.{◌≡◌, ℕ, ◌<◌, ◌≤◌, length, ◌*ℤ◌};
 ghost use Rattle.std.specs.List.{All};
@@ -9,6 +9,28 @@ ghost use Rattle.geo_conditions.specs.Sums.{InSum};
 
 use geo_base::{MAX_DIMS, Point};
 use geo_conditions::{Form, ObjId, State, Term};
+
+/// The low end of a coordinate.
+#[inline(always)]
+fn low_of<const K: usize>(s: &State<K>, u: ObjId, d: usize) -> i64
+    requires k { K ≤ MAX_DIMS }
+    requires object { u.0 < length s.now }
+    requires dimension { d < K }
+    ensures { result ≡ low s.now u.0 d }
+{
+    s.interval(u, d).lo
+}
+
+/// The high end of a coordinate.
+#[inline(always)]
+fn high_of<const K: usize>(s: &State<K>, u: ObjId, d: usize) -> i64
+    requires k { K ≤ MAX_DIMS }
+    requires object { u.0 < length s.now }
+    requires dimension { d < K }
+    ensures { result ≡ high s.now u.0 d }
+{
+    s.interval(u, d).hi
+}
 
 /// The low end of a coordinate of u, with o at the point.
 #[inline(always)]
@@ -23,7 +45,7 @@ fn low_with<const K: usize>(s: &State<K>, o: ObjId, c: &Point<K>, u: ObjId, d: u
     if u.0 == o.0 {
         c.get(d)
     } else {
-        s.interval(u, d).lo
+        low_of(s, u, d)
     }
 }
 
@@ -40,7 +62,7 @@ fn high_with<const K: usize>(s: &State<K>, o: ObjId, c: &Point<K>, u: ObjId, d: 
     if u.0 == o.0 {
         c.get(d)
     } else {
-        s.interval(u, d).hi
+        high_of(s, u, d)
     }
 }
 
@@ -49,6 +71,23 @@ fn product(factor: i64, end: i64) -> i128
     ensures { result ≡ factor *ℤ end }
 {
     factor as i128 * end as i128
+}
+
+/// The least value of a term.
+#[inline(always)]
+pub fn least_term_of<const K: usize>(term: &Term, s: &State<K>) -> i128
+    requires k { K ≤ MAX_DIMS }
+    requires bounded { IsBounded term.now.factor }
+    requires exists { Exists s.now term.now.object.0 term.now.dimension }
+    ensures value { result ≡ least_term s.now term.now }
+    ensures bound { InSum 1 result }
+{
+    let _objects = s.objects();
+    if term.factor < 0 {
+        product(term.factor, high_of(s, term.object, term.dimension))
+    } else {
+        product(term.factor, low_of(s, term.object, term.dimension))
+    }
 }
 
 /// The least value of a term, with the object at the point.

@@ -7,6 +7,7 @@ ghost use Rattle.indexical.specs.Forbidden.{IsOnShape};
 ghost use Rattle.indexical.specs.Free.{Spares, SparesAnywhere};
 ghost use Rattle.indexical.specs.Names.{names};
 
+use crate::least::least_term_of;
 use crate::shape_literals::shape_refuted;
 use geo_base::MAX_DIMS;
 use geo_conditions::{Cond, Form, ObjId, State, refuted};
@@ -52,13 +53,34 @@ fn shape_spares<const K: usize>(c: &Cond, s: &State<K>, o: ObjId, place: u8) -> 
     !shape_refuted(c, s, o, place)
 }
 
+/// Whether a form is possible and does not name the object.
+fn form_spares<const K: usize>(f: &Form, s: &State<K>, o: ObjId) -> bool
+    requires k { K ≤ MAX_DIMS }
+    requires fits { FitsIn (Cond.Lin f.now) s.now }
+    ensures { IsTrue result → SparesAnywhere (Cond.Lin f.now) s.now o.0 }
+{
+    // The state has few coordinates, and a form names each of them at most once.
+    let _objects = s.objects();
+    let mut sum = f.constant() as i128;
+    for term in f.terms() {
+        if term.object.0 == o.0 {
+            return false;
+        }
+        sum += least_term_of(term, s);
+    }
+    sum <= 0
+}
+
 /// Whether a condition is possible and does not name the object.
 pub fn spares_unnamed<const K: usize>(c: &Cond, s: &State<K>, o: ObjId) -> bool
     requires k { K ≤ MAX_DIMS }
     requires fits { FitsIn c.now s.now }
     ensures { IsTrue result → SparesAnywhere c.now s.now o.0 }
 {
-    !is_named(c, o) && !refuted(c, s)
+    match c {
+        Cond::Lin(f) => form_spares(f, s, o),
+        _ => !is_named(c, o) && !refuted(c, s),
+    }
 }
 
 /// Whether enough parts of the condition spare the object at that place: a literal on a shape that is possible then, a form that
