@@ -1,7 +1,7 @@
 //! A condition met by its tree: the forbidden box of a sum is found by letting each coordinate run
 //! as far as the sum stays positive, that of a count by the parts that are refuted.
 
-ghost use Rattle.std.specs.Prelude.{◌≡◌, ℕ, ◌+◌, ◌<◌, ◌≤◌, true, false, List, length, ℤ, MatchOption};
+ghost use Rattle.std.specs.Prelude.{◌≡◌, ℕ, ◌+◌, ◌<◌, ◌≤◌, true, false, List, length, ℤ, pos, MatchOption};
 ghost use Rattle.geo_base.specs.Boxes.{Has};
 ghost use Rattle.geo_conditions.specs.Reach.{with_at, just};
 ghost use Rattle.geo_conditions.specs.Conditions.{possible, FitsIn};
@@ -33,10 +33,77 @@ impl TreeIndexical {
     }
 }
 
-/// Cuts the box down part by part, by the parts that are refuted, until too few are left that may be
-/// true.
+/// Cuts the box down by each of the parts, of which one is enough. It is as it was from the first
+/// one on that is possible.
 #[cycle(cut)]
-fn cut_by_parts<const K: usize>(
+fn cut_by_each<const K: usize>(
+    n: i64,
+    children: &Conds,
+    s: &State<K>,
+    o: ObjId,
+    place: u8,
+    c: &Point<K>,
+    way: &Way<K>,
+    b: &mut KBox<K>,
+) -> bool
+    requires fits { FitsIn (Cond.AtLeast n children.now) s.now }
+    requires one { n ≡ pos 1 }
+    requires object { o.0 < length s.now }
+    requires inside { Has K b.old.lo.coordinates b.old.hi.coordinates c.now.coordinates }
+    ensures cut { result ≡ true → IsForbiddenBox K (Cond.AtLeast n children.now) s.now o.0 place
+        c.now.coordinates (region_of b.old) (region_of b.new) }
+    ensures possible { result ≡ false → possible (Cond.AtLeast n children.now)
+        (with_at s.now o.0 place (just c.now.coordinates)) ≡ true }
+    ensures same { result ≡ false → b.new ≡ b.old }
+{
+    // The state has K dimensions.
+    let _objects = s.objects();
+    let whole = *b;
+    for child in children.as_slice() {
+        if !cut_tree(child, s, o, place, c, way, b) {
+            *b = whole;
+            return false;
+        }
+    }
+    true
+}
+
+/// Cuts the box down by the first of the parts that is refuted, where all are asked for.
+#[cycle(cut)]
+fn cut_by_first<const K: usize>(
+    n: i64,
+    children: &Conds,
+    s: &State<K>,
+    o: ObjId,
+    place: u8,
+    c: &Point<K>,
+    way: &Way<K>,
+    b: &mut KBox<K>,
+) -> bool
+    requires fits { FitsIn (Cond.AtLeast n children.now) s.now }
+    requires all { n ≡ pos (length children.now.items.items) }
+    requires object { o.0 < length s.now }
+    requires inside { Has K b.old.lo.coordinates b.old.hi.coordinates c.now.coordinates }
+    ensures cut { result ≡ true → IsForbiddenBox K (Cond.AtLeast n children.now) s.now o.0 place
+        c.now.coordinates (region_of b.old) (region_of b.new) }
+    ensures possible { result ≡ false → possible (Cond.AtLeast n children.now)
+        (with_at s.now o.0 place (just c.now.coordinates)) ≡ true }
+    ensures same { result ≡ false → b.new ≡ b.old }
+{
+    // The state has K dimensions.
+    let _objects = s.objects();
+    for child in children.as_slice() {
+        if cut_tree(child, s, o, place, c, way, b) {
+            return true;
+        }
+    }
+    false
+}
+
+/// Cuts the box down part by part, by the parts that are refuted, until too few are left that may
+/// be true.
+#[cycle(cut)]
+fn cut_by_some<const K: usize>(
     n: i64,
     children: &Conds,
     s: &State<K>,
@@ -80,6 +147,37 @@ fn cut_by_parts<const K: usize>(
     }
     *b = whole;
     false
+}
+
+/// Cuts the box down by parts of which so many are asked for.
+#[cycle(cut)]
+#[inline(always)]
+fn cut_by_parts<const K: usize>(
+    n: i64,
+    children: &Conds,
+    s: &State<K>,
+    o: ObjId,
+    place: u8,
+    c: &Point<K>,
+    way: &Way<K>,
+    b: &mut KBox<K>,
+) -> bool
+    requires fits { FitsIn (Cond.AtLeast n children.now) s.now }
+    requires object { o.0 < length s.now }
+    requires inside { Has K b.old.lo.coordinates b.old.hi.coordinates c.now.coordinates }
+    ensures cut { result ≡ true → IsForbiddenBox K (Cond.AtLeast n children.now) s.now o.0 place
+        c.now.coordinates (region_of b.old) (region_of b.new) }
+    ensures possible { result ≡ false → possible (Cond.AtLeast n children.now)
+        (with_at s.now o.0 place (just c.now.coordinates)) ≡ true }
+    ensures same { result ≡ false → b.new ≡ b.old }
+{
+    if n == 1 {
+        cut_by_each(n, children, s, o, place, c, way, b)
+    } else if i128::from(n) == children.len() as i128 {
+        cut_by_first(n, children, s, o, place, c, way, b)
+    } else {
+        cut_by_some(n, children, s, o, place, c, way, b)
+    }
 }
 
 /// Cuts a box that has the point c down to a forbidden box of the condition, and says whether the
