@@ -10,7 +10,7 @@ ghost use Rattle.indexical.specs.Names.{names};
 use crate::least::least_term_of;
 use crate::shape_literals::shape_refuted;
 use geo_base::MAX_DIMS;
-use geo_conditions::{Cond, Form, ObjId, State, refuted};
+use geo_conditions::{Cond, Conds, Form, ObjId, State, refuted};
 
 fn is_in_form(f: &Form, o: ObjId) -> bool
     ensures { result ≡ list_any (λ t. t.object.0 == o.0) f.now.terms }
@@ -83,8 +83,40 @@ pub fn spares_unnamed<const K: usize>(c: &Cond, s: &State<K>, o: ObjId) -> bool
     }
 }
 
-/// Whether enough parts of the condition spare the object at that place: a literal on a shape that is possible then, a form that
-/// does not name the object and is possible. No further part is asked where too few are left.
+/// Whether enough of the parts spare the object at that place. No further part is asked where too few
+/// are left.
+#[cycle(spares)]
+fn enough_spare<const K: usize>(n: i64, children: &Conds, s: &State<K>, o: ObjId, place: u8) -> bool
+    requires k { K ≤ MAX_DIMS }
+    requires fits { FitsIn (Cond.AtLeast n children.now) s.now }
+    requires object { o.0 < length s.now }
+    ensures { IsTrue result → Spares (Cond.AtLeast n children.now) s.now o.0 place }
+{
+    let least = i128::from(n);
+    let most = children.len() as i128 - least;
+    let mut sparing: usize = 0;
+    let mut others: usize = 0;
+    for child in children.as_slice() {
+        if tree_spares(child, s, o, place) {
+            sparing += 1;
+            if least <= sparing as i128 {
+                return true;
+            }
+        } else {
+            others += 1;
+            if most < others as i128 {
+                return false;
+            }
+        }
+    }
+    false
+}
+
+/// Whether enough parts of the condition spare the object at that place: a literal on a shape that is
+/// possible then, a form that does not name the object and is possible. It is inlined where parts
+/// are asked, so that a literal on a shape takes no call.
+#[cycle(spares)]
+#[inline(always)]
 pub fn tree_spares<const K: usize>(c: &Cond, s: &State<K>, o: ObjId, place: u8) -> bool
     requires k { K ≤ MAX_DIMS }
     requires fits { FitsIn c.now s.now }
@@ -92,29 +124,10 @@ pub fn tree_spares<const K: usize>(c: &Cond, s: &State<K>, o: ObjId, place: u8) 
     ensures { IsTrue result → Spares c.now s.now o.0 place }
 {
     match c {
-        Cond::Lin(_) => spares_unnamed(c, s, o),
+        Cond::Lin(f) => form_spares(f, s, o),
         Cond::Shape(_, _) => shape_spares(c, s, o, place),
         Cond::NotShape(_, _) => shape_spares(c, s, o, place),
-        Cond::AtLeast(n, children) => {
-            let least = i128::from(*n);
-            let most = children.len() as i128 - least;
-            let mut sparing: usize = 0;
-            let mut others: usize = 0;
-            for child in children.as_slice() {
-                if tree_spares(child, s, o, place) {
-                    sparing += 1;
-                    if least <= sparing as i128 {
-                        return true;
-                    }
-                } else {
-                    others += 1;
-                    if most < others as i128 {
-                        return false;
-                    }
-                }
-            }
-            false
-        }
+        Cond::AtLeast(n, children) => enough_spare(*n, children, s, o, place),
     }
 }
 
@@ -122,38 +135,49 @@ pub fn tree_spares<const K: usize>(c: &Cond, s: &State<K>, o: ObjId, place: u8) 
 /// one of them the parts are watched.
 pub const MANY_PARTS: usize = 8;
 
-/// Whether enough parts of the condition spare the object at any place: a literal or a form that does not name the object and is
-/// possible. No further part is asked where too few are left. A condition that asks for all of many parts is not gone into, since
-/// one of them names the object for the most part.
+/// Whether enough of the parts spare the object at any place. No further part is asked where too few
+/// are left. Where all of many parts are asked for they are not gone into, since one of them names
+/// the object for the most part.
+#[cycle(anywhere)]
+fn enough_spare_anywhere<const K: usize>(n: i64, children: &Conds, s: &State<K>, o: ObjId) -> bool
+    requires k { K ≤ MAX_DIMS }
+    requires fits { FitsIn (Cond.AtLeast n children.now) s.now }
+    ensures { IsTrue result → SparesAnywhere (Cond.AtLeast n children.now) s.now o.0 }
+{
+    let least = i128::from(n);
+    let most = children.len() as i128 - least;
+    if most == 0 && children.len() >= MANY_PARTS {
+        return false;
+    }
+    let mut sparing: usize = 0;
+    let mut others: usize = 0;
+    for child in children.as_slice() {
+        if tree_spares_anywhere(child, s, o) {
+            sparing += 1;
+            if least <= sparing as i128 {
+                return true;
+            }
+        } else {
+            others += 1;
+            if most < others as i128 {
+                return false;
+            }
+        }
+    }
+    false
+}
+
+/// Whether enough parts of the condition spare the object at any place: a literal or a form that does
+/// not name the object and is possible. It is inlined where parts are asked.
+#[cycle(anywhere)]
+#[inline(always)]
 pub fn tree_spares_anywhere<const K: usize>(c: &Cond, s: &State<K>, o: ObjId) -> bool
     requires k { K ≤ MAX_DIMS }
     requires fits { FitsIn c.now s.now }
     ensures { IsTrue result → SparesAnywhere c.now s.now o.0 }
 {
     match c {
-        Cond::AtLeast(n, children) => {
-            let least = i128::from(*n);
-            let most = children.len() as i128 - least;
-            if most == 0 && children.len() >= MANY_PARTS {
-                return false;
-            }
-            let mut sparing: usize = 0;
-            let mut others: usize = 0;
-            for child in children.as_slice() {
-                if tree_spares_anywhere(child, s, o) {
-                    sparing += 1;
-                    if least <= sparing as i128 {
-                        return true;
-                    }
-                } else {
-                    others += 1;
-                    if most < others as i128 {
-                        return false;
-                    }
-                }
-            }
-            false
-        }
+        Cond::AtLeast(n, children) => enough_spare_anywhere(*n, children, s, o),
         _ => spares_unnamed(c, s, o),
     }
 }

@@ -1,24 +1,24 @@
-use Rattle.std.proofs.Common.{◌+◌, ℕ, List, sym, subst, arith}
+use Rattle.std.proofs.Common.{◌+◌, ℕ, List, refl, sym, subst, arith}
 use Rattle.std.specs.List.{All}
 use Rattle.std.proofs.lemmas.Int.{ints}
-use Rattle.geo_conditions.specs.declared.cond.Cond.{Cond}
+use Rattle.geo_conditions.specs.declared.cond.Cond.{Cond, AtLeast}
 use Rattle.geo_conditions.specs.Conditions.{FitsIn}
 use Rattle.geo_conditions.proofs.Children.{fit_out}
 use Rattle.indexical.specs.Free.{Spares}
 use Rattle.indexical.proofs.Unnamed.{SpareAmong, spare_start, spare_skip, spare_more, spare_enough}
-use Rattle.indexical.proofs.spared.+tree_spares.Goals as goal
-use Rattle.indexical.proofs.spared.+tree_spares.Goals.{then-tree_spares+else-least-sparing, else-tree_spares+else-most-others}
+use Rattle.indexical.proofs.spared.+spares.Goals as goal
+use Rattle.indexical.proofs.spared.+spares.Goals.{enough_spare-then-tree_spares+else-least-sparing, enough_spare-else-tree_spares+else-most-others}
 
-pub loop-child-init : goal.loop-child-init
-loop-child-init g t c = record {
+pub enough_spare-loop-child-init : goal.enough_spare-loop-child-init
+enough_spare-loop-child-init g t c = record {
   among = spare_start c.as_slice-child-items.result.now c.args.s.now c.args.o.0 c.args.place;
   few = omega arith;
   rest = omega arith;
-  fits = subst (λ (ys : List Cond). All (λ e. FitsIn e c.args.s.now) ys) (sym c.as_slice-child-items.ensures) (fit_out c.in-AtLeast.n c.in-AtLeast.children c.args.s.now (subst (λ (e : Cond). FitsIn e c.args.s.now) c.in-AtLeast.is c.requires.fits));
+  fits = subst (λ (ys : List Cond). All (λ e. FitsIn e c.args.s.now) ys) (sym c.as_slice-child-items.ensures) (fit_out c.args.n c.args.children.now c.args.s.now c.requires.fits);
 }
 
-pub returns-then-least-sparing : goal.returns-then-least-sparing
-returns-then-least-sparing g t c = λ h.
+pub enough_spare-returns-then-least-sparing : goal.enough_spare-returns-then-least-sparing
+enough_spare-returns-then-least-sparing g t c = λ h.
     let xs = c.as_slice-child-items.result.now in
     let S = c.args.s.now in
     let o = c.args.o.0 in
@@ -27,10 +27,10 @@ returns-then-least-sparing g t c = λ h.
     let x = c.child-item.result in
     let one : Spares x S o s = c.tree_spares.ensures c.if-tree_spares.true in
     let more = spare_more xs S o s i c.loop-child.sparing x c.loop-child-test.true c.loop-child.invariant.among (subst (λ (y : Cond). Spares y S o s) c.child-item.is one) in
-    spare_enough c.args.c.now c.in-AtLeast.n c.in-AtLeast.children xs S o s (i + 1) (c.loop-child.sparing + 1) c.in-AtLeast.is c.as_slice-child-items.ensures (omega (arith, ints, c.if-least-sparing.true, c.from-least.ensures)) more
+    spare_enough (AtLeast c.args.n c.args.children.now) c.args.n c.args.children.now xs S o s (i + 1) (c.loop-child.sparing + 1) refl c.as_slice-child-items.ensures (omega (arith, ints, c.if-least-sparing.true, c.from-least.ensures)) more
 
-pub loop-child-preserved : goal.loop-child-preserved
-loop-child-preserved g t c =
+pub enough_spare-loop-child-preserved : goal.enough_spare-loop-child-preserved
+enough_spare-loop-child-preserved g t c =
     let xs = c.as_slice-child-items.result.now in
     let S = c.args.s.now in
     let o = c.args.o.0 in
@@ -39,19 +39,19 @@ loop-child-preserved g t c =
     let x = c.child-item.result in
     record {
       among = elim c.if-tree_spares.branch [
-        | then-tree_spares+else-least-sparing w ↦
+        | enough_spare-then-tree_spares+else-least-sparing w ↦
             let one : Spares x S o s = c.tree_spares.ensures w.if-tree_spares.true in
             subst (λ (n : ℕ). SpareAmong xs S o s (i + 1) n) (sym w.sparing-is) (spare_more xs S o s i c.loop-child.sparing x c.loop-child-test.true c.loop-child.invariant.among (subst (λ (y : Cond). Spares y S o s) c.child-item.is one))
-        | else-tree_spares+else-most-others w ↦
+        | enough_spare-else-tree_spares+else-most-others w ↦
             subst (λ (n : ℕ). SpareAmong xs S o s (i + 1) n) (sym w.sparing-is) (spare_skip xs S o s i c.loop-child.sparing x c.loop-child-test.true c.loop-child.invariant.among)
       ];
       few = elim c.if-tree_spares.branch [
-        | then-tree_spares+else-least-sparing w ↦ omega (arith, w.sparing-is, c.loop-child.invariant.few)
-        | else-tree_spares+else-most-others w ↦ omega (arith, w.sparing-is, c.loop-child.invariant.few)
+        | enough_spare-then-tree_spares+else-least-sparing w ↦ omega (arith, w.sparing-is, c.loop-child.invariant.few)
+        | enough_spare-else-tree_spares+else-most-others w ↦ omega (arith, w.sparing-is, c.loop-child.invariant.few)
       ];
       rest = elim c.if-tree_spares.branch [
-        | then-tree_spares+else-least-sparing w ↦ omega (arith, w.others-is, c.loop-child.invariant.rest)
-        | else-tree_spares+else-most-others w ↦ omega (arith, w.others-is, c.loop-child.invariant.rest)
+        | enough_spare-then-tree_spares+else-least-sparing w ↦ omega (arith, w.others-is, c.loop-child.invariant.rest)
+        | enough_spare-else-tree_spares+else-most-others w ↦ omega (arith, w.others-is, c.loop-child.invariant.rest)
       ];
       fits = c.loop-child.invariant.fits;
     }

@@ -2,10 +2,10 @@ use Rattle.std.proofs.Common.{ℕ, ◌≤◌}
 use Rattle.std.specs.List.{All}
 use Rattle.geo_conditions.specs.Conditions.{FitsIn}
 use Rattle.indexical.proofs.Unnamed.{SpareAmong}
-use Rattle.indexical.proofs.spared.+tree_spares_anywhere.Given as goal
+use Rattle.indexical.proofs.spared.+anywhere.Given as goal
 
-abbrev pub invariant-loop-child : goal.invariant-loop-child
-invariant-loop-child g l = record {
+abbrev pub invariant-enough_spare_anywhere-loop-child : goal.invariant-enough_spare_anywhere-loop-child
+invariant-enough_spare_anywhere-loop-child g l = record {
   among : (s : ℕ) → SpareAmong l.child-items l.s l.o.0 s l.child-index l.sparing;
   few : l.sparing ≤ l.child-index;
   rest : l.others ≤ l.child-index;
