@@ -112,11 +112,12 @@ fn write_layouts<const K: usize, W: Sink>(
     ensures quiet { W.quiet sink.old ≡ true → IsErrOf result PutFault.Memory → ⊥ }
 {
     problem.is_said();
+    let mut page = Page::new();
     'listing: for listed in 0..most {
         match search.next() {
             Step::Found => {
                 take_layout(problem, search, layout);
-                write_block(problem, layout, sink)?;
+                write_over(problem, layout, &mut page, sink)?;
             }
             Step::Ended => return Ok(Ending::End),
             Step::Budget => return Ok(Ending::OutOfBudget),
@@ -136,8 +137,22 @@ pub fn write_block<W: Sink>(
     ensures { Prints W.written W.faults W.quiet sink.old sink.new result
         (block_of problem.now layout.now) }
 {
-    let mut page = Page::new();
-    match print_layout(problem, layout, &mut page) {
+    write_over(problem, layout, &mut Page::new(), sink)
+}
+
+// The same by a page, whatever that held: it is as large as many blocks, and is made once for all.
+fn write_over<W: Sink>(
+    problem: &Problem,
+    layout: &Layout,
+    page: &mut Page,
+    sink: &mut W,
+) -> Result<(), PutFault>
+    requires { IsShaped problem.now layout.now }
+    ensures { Prints W.written W.faults W.quiet sink.old sink.new result
+        (block_of problem.now layout.now) }
+{
+    page.clear();
+    match print_layout(problem, layout, &mut *page) {
         Ok(()) => write_all_bytes(sink, page.bytes()),
         Err(_) => print_layout(problem, layout, sink),
     }

@@ -34,11 +34,11 @@ take_layout-requires g c =
     let same = c.in-Found.ensures.steps.0 in
     (omega arith, (omega arith, (c.requires.k, (c.requires.dims, (ap (λ (V : Tree). V.first) (same ∙ h.walk ∙ e), (found-tuple c.args.problem.now cs past c.is_said.ensures.formed are.fit a b (h.walk ∙ e) same step, c.listing.invariant.3))))))
 
-pub write_block-requires : goal.write_block-requires
-write_block-requires g c = shaped-tuple c.args.problem.now c.take_layout.new.layout c.take_layout.ensures.tuple
+pub write_over-requires : goal.write_over-requires
+write_over-requires g c = shaped-tuple c.args.problem.now c.take_layout.new.layout c.take_layout.ensures.tuple
 
-pub returns-in_err-write_block-in-Found-clause-page : goal.returns-in_err-write_block-in-Found-clause-page
-returns-in_err-write_block-in-Found-clause-page g c =
+pub returns-in_err-write_over-in-Found-clause-page : goal.returns-in_err-write_over-in-Found-clause-page
+returns-in_err-write_over-in-Found-clause-page g c =
     let p = c.args.problem.now in
     let a = c.args.search.now in
     let b = c.next.new.self in
@@ -51,7 +51,7 @@ returns-in_err-write_block-in-Found-clause-page g c =
     let r = listed-on p a.walk a.budget c.is_said.ensures.formed c.requires.walk c.args.most b (ts ++ t ∷ []) m (omega (arith, size, c.listing-test.true, length-append ts (t ∷ []))) in
     let page : IsPage p a.walk c.args.most a.budget (ts ++ t ∷ r.0) r.1 = subst (λ (us : List Tuple). IsPage p a.walk c.args.most a.budget us r.1) (append_assoc ts (t ∷ []) r.0) r.2 in
     let x = err_from_is_err_and c.from_residual.result c.from_residual.ensures.1 in
-    rw (x.1, x.2) (page-cut p a.walk c.args.most a.budget _ _ _ _ _ _ ts c.listing.invariant.4 _ _ _ _ t r.0 r.1 c.in_err-write_block-in-Found.ensures page)
+    rw (x.1, x.2) (page-cut p a.walk c.args.most a.budget _ _ _ _ _ _ ts c.listing.invariant.4 _ _ _ _ t r.0 r.1 c.in_err-write_over-in-Found.ensures page)
 
 pub returns-in-Ended-clause-page : goal.returns-in-Ended-clause-page
 returns-in-Ended-clause-page g c =
@@ -91,7 +91,7 @@ listing-preserved g c =
       omega (arith, size, length-append ts (t ∷ [])),
       one-more p a.walk a.budget c.is_said.ensures.formed c.requires.walk c.listing.search b ts t h steps.0 steps.1 (answered c.listing.search b _ h.over steps) c.take_layout.ensures.tuple c.take_layout.ensures.found,
       shaped-tuple p t c.take_layout.ensures.tuple,
-      wrote_ok _ _ _ _ _ _ _ _ _ _ _ _ _ c.listing.invariant.4 c.in_ok-write_block-in-Found.ensures (flat_map-append (block_of p) ts (t ∷ []) ∙ ap (λ (x : List _). blocks_of p ts ++ x) (append-nil (block_of p t))),
+      wrote_ok _ _ _ _ _ _ _ _ _ _ _ _ _ c.listing.invariant.4 c.in_ok-write_over-in-Found.ensures (flat_map-append (block_of p) ts (t ∷ []) ∙ ap (λ (x : List _). blocks_of p ts ++ x) (append-nil (block_of p t))),
     )
 
 pub returns-clause-page : goal.returns-clause-page
@@ -103,9 +103,9 @@ returns-clause-page g c =
     let page = more-page p a.walk a.budget c.is_said.ensures.formed c.requires.walk c.args.most c.listing.search ts c.listing.invariant.2 (omega (arith, size, c.listing-test.false)) in
     page-written p a.walk c.args.most a.budget _ _ _ _ _ _ ts c.listing.invariant.4 More page
 
-pub returns-in_err-write_block-in-Found-clause-quiet : goal.returns-in_err-write_block-in-Found-clause-quiet
-returns-in_err-write_block-in-Found-clause-quiet g c = λ quiet wants.
+pub returns-in_err-write_over-in-Found-clause-quiet : goal.returns-in_err-write_over-in-Found-clause-quiet
+returns-in_err-write_over-in-Found-clause-quiet g c = λ quiet wants.
     let x = err_from_is_err_and c.from_residual.result c.from_residual.ensures.1 in
     let own = subst (λ (r : Result Ending PutFault). IsErrOf r Memory) x.1 wants in
     let same = subst (λ (f : PutFault). IsErrOf {T = Ending} (Err f) Memory) x.2 own in
-    (c.in_err-write_block-in-Found.ensures.quiet (c.listing.invariant.4.quiet quiet)).1 (err_same _ Ending _ Memory same)
+    (c.in_err-write_over-in-Found.ensures.quiet (c.listing.invariant.4.quiet quiet)).1 (err_same _ Ending _ Memory same)
