@@ -14,3 +14,4 @@ pub mod Unnamed
 pub mod Faces
 pub mod SoleCoordinate
 pub mod ShapeLiterals
+pub mod NearBoxes

@@ -9,3 +9,4 @@ pub mod Listed
 pub mod Apart
 pub mod TwoBoxes
 pub mod Bound
+pub mod Nearness

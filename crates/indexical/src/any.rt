@@ -13,12 +13,14 @@ ghost use Rattle.indexical.specs.Faces.{Faces};
 ghost use Rattle.indexical.specs.Forbidden.{Forbids, IsForbiddenBox};
 ghost use Rattle.indexical.specs.Free.{LeavesFree, SparesAnywhere};
 ghost use Rattle.indexical.specs.Names.{IsFirstBefore, names};
+ghost use Rattle.indexical.specs.Nearness.{IsRefutedNear};
 
 use crate::apart::ApartIndexical;
 use crate::bound::BoundIndexical;
 use crate::facing::{Facing, facing_of_tree};
 use crate::forbidden::{ForbiddenPart, box_with, exactly};
 use crate::indexical::Indexical;
+use crate::nearness::Nearness;
 use crate::point::tree_possible_at;
 use crate::single_bound::bound_of;
 use crate::spared::is_named;
@@ -157,6 +159,18 @@ impl<const K: usize> AnyIndexical<K> {
         match &self.boxes {
             Some(boxes) => boxes.facing(o),
             None => facing_of_tree(&self.cond, o),
+        }
+    }
+
+    /// How near the object and another one are where the condition is refuted. It is told of
+    /// conditions that are met by two boxes, one of them the object's.
+    pub fn nearness(&self, o: ObjId) -> Option<Nearness<K>>
+        ensures { IfSome result (λ r.
+            IsRefutedNear K self.now.cond o.0 r.other.0 r.ahead.coordinates r.behind.coordinates) }
+    {
+        match &self.boxes {
+            Some(boxes) => boxes.nearness(o),
+            None => None,
         }
     }
 

@@ -6,6 +6,7 @@ ghost use Rattle.geo_base.specs.declared.TheConstants.{MAX_DIMS};
 ghost use Rattle.indexical.specs.Apart.{AreGaps, apart_parts};
 
 use crate::facing::{Facing, facing_beside};
+use crate::nearness::Nearness;
 use crate::overlap::{covers_some, gaps, must_overlap, must_overlap_beside, overlap_beside};
 use crate::placed::PlacedBox;
 use geo_base::{KBox, MAX_DIMS, Point};
@@ -30,7 +31,7 @@ pub struct ApartIndexical<const K: usize> {
 }
 
 impl<const K: usize> ApartIndexical<K> {
-    ghost use Rattle.std.specs.Prelude.{◌≡◌, ◌≢◌, ◌↔◌, ◌||◌, ◌==◌, IsTrue, true, nat_lt, if◌then◌else◌, List, ℤ, MatchOption};
+    ghost use Rattle.std.specs.Prelude.{◌≡◌, ◌≢◌, ◌↔◌, ◌||◌, ◌==◌, IfSome, IsTrue, true, nat_lt, if◌then◌else◌, List, ℤ, MatchOption};
     ghost use Rattle.geo_base.specs.Boxes.{Has};
     ghost use Rattle.geo_conditions.specs.Reach.{with_at, just};
     ghost use Rattle.geo_conditions.specs.declared.cond.Cond.{Cond};
@@ -40,6 +41,7 @@ impl<const K: usize> ApartIndexical<K> {
     ghost use Rattle.indexical.specs.Disjunctions.{IsDisjunction};
     ghost use Rattle.indexical.specs.Faces.{Faces};
     ghost use Rattle.indexical.specs.Names.{IsFirst};
+    ghost use Rattle.indexical.specs.Nearness.{IsRefutedNear};
 
     // The condition for two boxes, that of the object with the lesser number first.
     fn of_ordered(first: PlacedBox<K>, second: PlacedBox<K>) -> ApartIndexical<K>
@@ -126,6 +128,30 @@ impl<const K: usize> ApartIndexical<K> {
             facing_beside(&self.second, &self.first)
         } else {
             Facing::unknown()
+        }
+    }
+
+    /// How near o and the other object are where the condition is refuted. Nothing is told where
+    /// neither box is o's.
+    pub fn nearness(&self, o: ObjId) -> Option<Nearness<K>>
+        ensures { (c : Cond) → SaysApart self.now.first self.now.second self.now.short c
+            → IfSome result (λ r.
+            IsRefutedNear K c o.0 r.other.0 r.ahead.coordinates r.behind.coordinates) }
+    {
+        if self.first.object().0 == o.0 {
+            Some(Nearness {
+                other: self.second.object(),
+                ahead: self.ahead,
+                behind: self.behind,
+            })
+        } else if self.second.object().0 == o.0 {
+            Some(Nearness {
+                other: self.first.object(),
+                ahead: self.behind,
+                behind: self.ahead,
+            })
+        } else {
+            None
         }
     }
 
