@@ -12,3 +12,4 @@ pub mod Record
 pub mod Blaming
 pub mod TakenApart
 pub mod Watching
+pub mod Idle

@@ -111,9 +111,9 @@ stable_group cs o picks r g h = record {
 
 stable_rows : (cs : List Cond) (o : ℕ) (picks : List ℕ) (rows : Rows) → ∥ AreRows cs o picks rows ∥₁ → AreRows cs o picks rows
 stable_rows cs o picks rows h = record {
-  count = ∥∥₁_elim h (hlevel props) (λ a. a.count);
   groups = λ r k g e. stable_group cs o picks r g (∥∥₁_map h (λ a. a.groups r k g e));
   each = λ k b. stable _ (decide_rows (λ (g : Group). IsInGroup g (slice_index picks k)) (in_group (slice_index picks k)) rows.rows.items) (∥∥₁_map h (λ a. a.each k b));
+  near = λ r n e i u x p at S f d b. ∥∥₁_elim h (hlevel props) (λ a. a.near r n e i u x p at S f d b);
 }
 
 stable_pairs : (cs : List Cond) (o : ℕ) (picks : List ℕ) (n : ℕ) (p : Pairs) → ∥ ArePairs cs o picks n p ∥₁ → ArePairs cs o picks n p

@@ -5,8 +5,11 @@ use Rattle.geo_base.specs.Boxes.{coordinate}
 use Rattle.geo_conditions.specs.declared.cond.Cond.{Cond}
 use Rattle.geo_conditions.specs.Reach.{State, reach, has, low, high, dims, just, InBox, with_at, NotEmpty}
 use Rattle.geo_conditions.specs.Conditions.{possible}
+use Rattle.geo_conditions.specs.declared.object.ObjId.{ObjId}
 use Rattle.indexical.specs.Free.{SparesAnywhere}
 use Rattle.indexical.specs.Names.{names}
+use Rattle.object_pruning.specs.declared.rows.Group.{Group}
+use Rattle.object_pruning.specs.Runs.{IsInGroup}
 
 -- u is another object than o, and the condition names no third one
 pub record IsPair (c : Cond) (o u : ℕ) : Type 0 where
@@ -24,6 +27,10 @@ Unhindered cs S u o = All (λ c. names u c ≡ true → Unhinders c S o) cs
 -- each condition of those numbers is possible wherever o is put, if it names it
 abbrev pub UnhinderedBy : List Cond → State → (ℕ → Type 0) → ℕ → Type 0
 UnhinderedBy cs S Those o = (i : ℕ) (x : Cond) → Those i → slice_get cs (i - 1) ≡ Some x → Unhinders x S o
+
+-- where a group of u's tells the other object, its conditions are possible wherever another object than u is put
+abbrev pub LeavesPairsFree : List Cond → State → ℕ → List Group → Type 0
+LeavesPairsFree cs S u gs = (k : ℕ) (g : Group) (v : ObjId) → slice_get gs k ≡ Some g → g.other ≡ Some v → (o : ℕ) → o ≢ u → UnhinderedBy cs S (IsInGroup g) o
 
 -- the object o is the same in the two states, and each other one is the same too or leaves it unhindered in T
 pub record IsUntouched (cs : List Cond) (S T : State) (o : ℕ) : Type 0 where

@@ -3,13 +3,14 @@
 ghost use Rattle.std.specs.Prelude.{◌≡◌, ◌≢◌, ℕ, ◌-◌, ◌<◌, ◌≤◌, false, ◌+◌, true, length, map, slice_get, slice_index_or, slice_set, IfOk, IsTrue, Some};
 ghost use Rattle.std.specs.List.{All};
 ghost use Rattle.geo_conditions.specs.declared.cond.Cond.{Cond};
+ghost use Rattle.geo_conditions.specs.declared.object.ObjId.{ObjId};
 ghost use Rattle.geo_conditions.specs.Conditions.{AllFit, FitsIn};
 ghost use Rattle.geo_conditions.specs.Reach.{reach, is_only};
 ghost use Rattle.object_pruning.specs.declared.rows.Group.{Group};
 ghost use Rattle.object_pruning.specs.InRows.{HaveNumber, IsInGroup, IsSomeGroup};
-ghost use Rattle.fixpoint.specs.Links.{AreLinks, AreSomeRows, IsByPlace, NamedBy, is_among};
+ghost use Rattle.fixpoint.specs.Links.{AreLinks, AreSomeRows, IsByPlace, NamedBy, is_among, row};
 ghost use Rattle.fixpoint.specs.Marks.{IsSquare, MarksAt, is_marked};
-ghost use Rattle.fixpoint.specs.Near.{IsPair, Unhindered, UnhinderedBy, Unhinders};
+ghost use Rattle.fixpoint.specs.Near.{IsPair, LeavesPairsFree, Unhindered, UnhinderedBy, Unhinders};
 ghost use Rattle.fixpoint.specs.Queue.{Queues};
 
 use crate::links::Links;
@@ -151,10 +152,12 @@ fn is_woken(queued: &[bool], dirty: &[Vec<bool>], u: usize, v: usize) -> bool
     queued[v] && dirty[v][u]
 }
 
-// Queues v and marks u at it, where u may hinder it by a condition of the group, and its conditions name no third object.
+// Queues v and marks u at it, where u may hinder it by a condition of the group, and its conditions
+// name no third object. Where u is idle, it is known to leave v free.
 fn wake_one<const K: usize>(
     list: &[AnyIndexical<K>],
     group: &Group,
+    idle: bool,
     u: ObjId,
     v: usize,
     s: &State<K>,
@@ -165,6 +168,8 @@ fn wake_one<const K: usize>(
     requires numbers { (i : ℕ) → IsInGroup group.now i → (0 < i) × (i - 1 < length list.now) }
     requires pair { (i : ℕ) (x : Cond) → IsInGroup group.now i
         → slice_get (map (λ x. x.cond) list.now) (i - 1) ≡ Some x → IsPair x u.0 v }
+    requires idle { IsTrue idle → (o : ℕ) → o ≢ u.0
+        → UnhinderedBy (map (λ x. x.cond) list.now) s.now (IsInGroup group.now) o }
     requires objects { (u.0 < length queued.old) × (v < length queued.old) }
     requires square { IsSquare (length queued.old) dirty.old }
     ensures queued { Queues (UnhinderedBy (map (λ x. x.cond) list.now) s.now (IsInGroup group.now))
@@ -173,6 +178,9 @@ fn wake_one<const K: usize>(
         u.0 dirty.old dirty.new }
     ensures square { IsSquare (length queued.old) dirty.new }
 {
+    if idle {
+        return;
+    }
     let changed = u.0 as usize;
     if v == changed {
         return;
@@ -185,11 +193,13 @@ fn wake_one<const K: usize>(
     }
 }
 
-// The same for a group of any kind.
+// The same for a group of any kind. Where u is idle, it is known to leave the other object of a pair
+// free.
 fn wake_group<const K: usize>(
     list: &[AnyIndexical<K>],
     links: &Links,
     group: &Group,
+    idle: bool,
     u: ObjId,
     s: &State<K>,
     queued: &mut [bool],
@@ -198,6 +208,8 @@ fn wake_group<const K: usize>(
     requires fits { AllFit (map (λ x. x.cond) list.now) s.now }
     requires links { AreLinks (map (λ x. x.cond) list.now) (length queued.old) links.now }
     requires group { IsSomeGroup (map (λ x. x.cond) list.now) u.0 group.now }
+    requires idle { IsTrue idle → (v : ObjId) → group.now.other ≡ Some v → (o : ℕ) → o ≢ u.0
+        → UnhinderedBy (map (λ x. x.cond) list.now) s.now (IsInGroup group.now) o }
     requires object { (u.0 < length queued.old) × (length queued.old ≡ length s.now) }
     requires square { IsSquare (length queued.old) dirty.old }
     ensures queued { Queues (UnhinderedBy (map (λ x. x.cond) list.now) s.now (IsInGroup group.now))
@@ -207,7 +219,7 @@ fn wake_group<const K: usize>(
     ensures square { IsSquare (length queued.old) dirty.new }
 {
     match group.other {
-        Some(v) => wake_one(list, group, u, v.0 as usize, s, queued, dirty),
+        Some(v) => wake_one(list, group, idle, u, v.0 as usize, s, queued, dirty),
         None => wake_others(list, links, group, u, s, queued, dirty),
     }
 }
@@ -217,6 +229,7 @@ fn wake_row<const K: usize>(
     list: &[AnyIndexical<K>],
     links: &Links,
     groups: &[Group],
+    idle: bool,
     u: ObjId,
     s: &State<K>,
     queued: &mut [bool],
@@ -226,6 +239,8 @@ fn wake_row<const K: usize>(
     requires links { AreLinks (map (λ x. x.cond) list.now) (length queued.old) links.now }
     requires groups { (k : ℕ) (g : Group) → slice_get groups.now k ≡ Some g
         → IsSomeGroup (map (λ x. x.cond) list.now) u.0 g }
+    requires idle { IsTrue idle
+        → LeavesPairsFree (map (λ x. x.cond) list.now) s.now u.0 groups.now }
     requires object { (u.0 < length queued.old) × (length queued.old ≡ length s.now) }
     requires square { IsSquare (length queued.old) dirty.old }
     ensures queued { Queues (UnhinderedBy (map (λ x. x.cond) list.now) s.now
@@ -235,7 +250,29 @@ fn wake_row<const K: usize>(
     ensures square { IsSquare (length queued.old) dirty.new }
 {
     for k in 0..groups.len() {
-        wake_group(list, links, &groups[k], u, s, queued, dirty);
+        wake_group(list, links, &groups[k], idle, u, s, queued, dirty);
+    }
+}
+
+// Whether u is idle: as the state has it, it leaves the other object of each pair of a row free, as
+// far as it is known how near that one has to be.
+fn is_row_idle<const K: usize>(
+    _list: &[AnyIndexical<K>],
+    rows: &Rows,
+    r: usize,
+    u: ObjId,
+    s: &State<K>,
+) -> bool
+    requires k { K ≤ MAX_DIMS }
+    requires fits { AllFit (map (λ x. x.cond) _list.now) s.now }
+    requires rows { AreSomeRows (map (λ x. x.cond) _list.now) u.0 rows.now }
+    requires object { u.0 < length s.now }
+    ensures { IsTrue result → LeavesPairsFree (map (λ x. x.cond) _list.now) s.now u.0
+        (row rows.now.rows.items r) }
+{
+    match rows.near(r) {
+        Some(near) => near.is_idle(s, u),
+        None => false,
     }
 }
 
@@ -273,7 +310,8 @@ fn wake_by_place<const K: usize>(
 {
     if let Some(place) = only_place(s, u) {
         let groups = rows.row(usize::from(place));
-        wake_row(list, links, groups, u, s, queued, dirty);
+        let idle = is_row_idle(list, rows, usize::from(place), u, s);
+        wake_row(list, links, groups, idle, u, s, queued, dirty);
     }
 }
 
@@ -300,6 +338,7 @@ pub fn wake<const K: usize>(
     let _objects = s.objects();
     let changed = ObjId(u as u16);
     let rows = &links.rows[u];
-    wake_row(list, links, rows.row(0), changed, s, queued, dirty);
+    let idle = is_row_idle(list, rows, 0, changed, s);
+    wake_row(list, links, rows.row(0), idle, changed, s, queued, dirty);
     wake_by_place(list, links, rows, changed, s, queued, dirty);
 }

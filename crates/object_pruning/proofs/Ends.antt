@@ -5,7 +5,6 @@ use Rattle.std.proofs.lemmas.Bool.{cases_eq, false≢true, lt-ltb}
 use Rattle.geo_base.specs.Boxes.{coordinate}
 use Rattle.geo_base.specs.Ways.{toward, dimension}
 use Rattle.geo_conditions.specs.declared.cond.Cond.{Cond}
-use Rattle.geo_conditions.specs.Conditions.{AllFit}
 use Rattle.geo_conditions.specs.Reach.{State, Reach, Region, IsState, reach, has, low, high, dims, place_in, with_low, with_high, without, Inside}
 use Rattle.geo_conditions.specs.Supported.{CanBeAt, HasNoPoint, IsFirstPoint}
 use Rattle.geo_conditions.specs.Keeps.{size}

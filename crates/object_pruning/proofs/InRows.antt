@@ -1,6 +1,6 @@
 -- Rows of groups, as they are made.
 use Rattle.std.proofs.Common.{◌≡◌, ◌≢◌, ℕ, zero, suc, ◌+◌, ◌-◌, ◌<◌, ◌≤◌, ◌⊎◌, List, [], ◌∷◌, ◌++◌, length, set, refl, sym, ap, ◌∙◌, subst, inl, inr, arith, Option, Some, slice_index, get_or, Result, Ok, Err}
-use Rattle.std.specs.Prelude.{slice_get, Contains, OnOk}
+use Rattle.std.specs.Prelude.{slice_get, Contains, OnOk, IfOk}
 use Rattle.std.proofs.Math.ListN.{length-set}
 use Rattle.std.proofs.lemmas.Bool.{cases_eq}
 use Rattle.std.proofs.lemmas.List.{get_or_default}
@@ -13,7 +13,10 @@ use Rattle.geo_conditions.specs.declared.cond.Cond.{Cond}
 use Rattle.indexical.specs.declared.facing.Facing.{Facing}
 use Rattle.indexical.specs.Faces.{Faces, LeavesFreeUnless, SparesElsewhere}
 use Rattle.object_pruning.specs.declared.rows.Group.{Group}
-use Rattle.object_pruning.specs.InRows.{row, IsInGroup, HaveNumber, IsGroup, AreGroups, AreRowsBelow, group_of, longer, PutsNumber}
+use Rattle.object_pruning.specs.declared.near.Near.{Near}
+use Rattle.object_pruning.specs.declared.rows.Rows.{Rows}
+use Rattle.object_pruning.specs.Near.{IsNearRow}
+use Rattle.object_pruning.specs.InRows.{row, IsInGroup, HaveNumber, IsGroup, AreGroups, AreRows, AreRowsBelow, group_of, longer, PutsNumber}
 
 -- what a call that went well says
 pub on_ok : {A E : Type 0} (r : Result A E) (P Q : Type 0) → (P → Q) → OnOk r P → OnOk r Q
@@ -180,3 +183,15 @@ module _ (cs : List Cond) (o : ℕ) (picks : List ℕ) where
               ]
         ];
       }
+
+-- rows that are made, with how near others have to be
+pub rows_made : {E : Type 0} (cs : List Cond) (o : ℕ) (picks : List ℕ) (k : ℕ) (rows seen : List (Vec Group Global)) (near : List (Option Near)) → k ≡ length picks → AreRowsBelow cs o picks k rows → seen ≡ rows → ((r : ℕ) (n : Near) → slice_get near r ≡ Some (Some n) → IsNearRow cs o (row seen r) n)
+    → (made : Result Rows E) → IfOk made (λ m. m.rows.items ≡ rows) → IfOk made (λ m. m.near.items ≡ near) → IfOk made (AreRows cs o picks)
+rows_made cs o picks k rows seen near all below same f (Err e) g h = tt
+rows_made cs o picks k rows seen near all below same f (Ok m) g h = record {
+  groups = λ r. subst (λ (vs : List (Vec Group Global)). AreGroups cs o picks r (row vs r)) (sym g) (below.groups r);
+  each = λ j b.
+      let w = below.each j (omega (arith, b, all)) in
+      (w.0, subst (λ (vs : List (Vec Group Global)). HaveNumber (row vs w.0) (slice_index picks j)) (sym g) w.1);
+  near = λ r n e. subst (λ (vs : List (Vec Group Global)). IsNearRow cs o (row vs r) n) (same ∙ sym g) (f r n (sym (ap (λ (vs : List (Option Near)). slice_get vs r) h) ∙ e));
+}

@@ -8,3 +8,4 @@ pub mod InRows
 pub mod Possible
 pub mod Runs
 pub mod RunPicks
+pub mod NearRows

@@ -7,8 +7,10 @@ use Rattle.geo_conditions.specs.declared.cond.Cond.{Cond}
 use Rattle.indexical.specs.declared.facing.Facing.{Facing}
 use Rattle.indexical.specs.Faces.{Faces}
 use Rattle.sweep.specs.Picks.{ArePicks}
+use Rattle.object_pruning.specs.declared.near.Near.{Near}
 use Rattle.object_pruning.specs.declared.rows.Group.{Group}
 use Rattle.object_pruning.specs.declared.rows.Rows.{Rows}
+use Rattle.object_pruning.specs.Near.{IsNearRow}
 pub use Rattle.object_pruning.specs.Runs.{row, IsInGroup}
 
 -- some group has the number
@@ -43,9 +45,11 @@ pub record AreRowsBelow (cs : List Cond) (o : ℕ) (picks : List ℕ) (n : ℕ) 
   pub groups : (r : ℕ) → AreGroups cs o picks r (row rows r)
   pub each : (k : ℕ) → k < n → (r : ℕ) × HaveNumber (row rows r) (slice_index picks k)
 
--- each pick is in some row, and each row has picks whose conditions ask for its place
-abbrev pub AreRows : List Cond → ℕ → List ℕ → Rows → Type 0
-AreRows cs o picks rows = AreRowsBelow cs o picks (length picks) rows.rows.items
+-- each pick is in some row, each row has picks whose conditions ask for its place, and it is told how near others have to be
+pub record AreRows (cs : List Cond) (o : ℕ) (picks : List ℕ) (rows : Rows) : Type 0 where
+  pub groups : (r : ℕ) → AreGroups cs o picks r (row rows.rows.items r)
+  pub each : (k : ℕ) → k < length picks → (r : ℕ) × HaveNumber (row rows.rows.items r) (slice_index picks k)
+  pub near : (r : ℕ) (n : Near) → slice_get rows.near.items r ≡ Some (Some n) → IsNearRow cs o (row rows.rows.items r) n
 
 -- a group of the number alone, whose condition asks for these places
 abbrev pub group_of : Facing → ℕ → Group

@@ -6,3 +6,5 @@ pub mod Record
 pub mod Gathered
 pub mod InRows
 pub mod Runs
+pub mod Limits
+pub mod Near

@@ -5,10 +5,14 @@ ghost use Rattle.geo_base.specs.declared.kbox.KBox.{KBox};
 ghost use Rattle.geo_conditions.specs.Conditions.{AllFit};
 ghost use Rattle.sweep.specs.Picks.{ArePicks};
 ghost use Rattle.geo_conditions.specs.Regions.{region_of};
+ghost use Rattle.geo_state.specs.Trail.{HasSmallIntervals};
 ghost use Rattle.object_pruning.specs.Gathered.{AreGathered, GoesOn, HoldParts, IsSolePlace};
 ghost use Rattle.object_pruning.specs.InRows.{AreRows, AreSomeGroups, HaveNumber, IsSomeGroup};
+ghost use Rattle.object_pruning.specs.Near.{IsNearRow};
 ghost use Rattle.object_pruning.specs.Runs.{AreRuns, HaveBetween, IsInGroup, IsRun, row};
 
+use crate::far::is_run_far;
+use crate::near::Near;
 use crate::rows::{Group, Rows, Run};
 use geo_base::{KBox, MAX_DIMS};
 use geo_conditions::{ObjId, State};
@@ -221,6 +225,25 @@ pub fn row_at<'a, const K: usize, I: Indexical<K>>(
     (rows.row(r), rows.runs(r))
 }
 
+/// How near the other object of a pair of a row has to be, where it is known for all dimensions.
+pub fn near_at<'a, const K: usize, I: Indexical<K>>(
+    o: ObjId,
+    list: &[I],
+    picks: &[u32],
+    rows: &'a Rows,
+    r: usize,
+) -> Option<&'a Near>
+    requires rows { AreRows (map I.cond list.now) o.0 picks.now rows.now }
+    ensures dims { IfSome result (λ n. n.now.dims ≡ K) }
+    ensures near { IfSome result (λ n.
+        IsNearRow (map I.cond list.now) o.0 (row rows.now.rows.items r) n.now) }
+{
+    match rows.near(r) {
+        Some(near) if near.dims == K => Some(near),
+        _ => None,
+    }
+}
+
 // The same for a group, of which nothing is gathered where its conditions cannot be in the way.
 fn gather_group<const K: usize, I: Indexical<K>>(
     s: &State<K>,
@@ -303,7 +326,8 @@ pub fn is_passed_over(sole: Option<u8>) -> bool
     }
 }
 
-// The same. All groups are passed over at once where none can be in the way.
+// The same. All groups are passed over at once where none can be in the way: none asks for the place
+// that the other object has alone, or that one is nowhere near the region.
 fn gather_run<const K: usize, I: Indexical<K>>(
     s: &State<K>,
     o: ObjId,
@@ -312,6 +336,7 @@ fn gather_run<const K: usize, I: Indexical<K>>(
     list: &[I],
     groups: &[Group],
     run: &Run,
+    near: Option<&Near>,
     live: &mut [u32],
     parts: &mut [Option<KBox<K>>],
     count: usize,
@@ -322,6 +347,10 @@ fn gather_run<const K: usize, I: Indexical<K>>(
     requires groups { AreSomeGroups (map I.cond list.now) o.0 groups.now }
     requires run { IsRun groups.now run.now.first run.now }
     requires other { IfSome run.now.other (λ u. u.0 < length s.now) }
+    requires small { HasSmallIntervals s.now }
+    requires dims { IfSome near (λ n. n.now.dims ≡ K) }
+    requires near { IfSome near (λ n.
+        IsNearRow (map I.cond list.now) o.0 groups.now n.now) }
     requires room { count ≤ length live.old }
     requires parts { HoldParts K (map I.cond list.now) s.now o.0 place (region_of region.now)
         live.old parts.old }
@@ -333,6 +362,9 @@ fn gather_run<const K: usize, I: Indexical<K>>(
 {
     let sole = sole_place_of(s, run);
     if is_passed_over(sole) {
+        return Some(count);
+    }
+    if is_run_far(s, run, near, region) {
         return Some(count);
     }
     gather_groups(
@@ -349,6 +381,7 @@ fn gather_row<const K: usize, I: Indexical<K>>(
     list: &[I],
     groups: &[Group],
     runs: &[Run],
+    near: Option<&Near>,
     live: &mut [u32],
     parts: &mut [Option<KBox<K>>],
     count: usize,
@@ -358,6 +391,10 @@ fn gather_row<const K: usize, I: Indexical<K>>(
     requires object { o.0 < length s.now }
     requires groups { AreSomeGroups (map I.cond list.now) o.0 groups.now }
     requires runs { AreRuns groups.now runs.now }
+    requires small { HasSmallIntervals s.now }
+    requires dims { IfSome near (λ n. n.now.dims ≡ K) }
+    requires near { IfSome near (λ n.
+        IsNearRow (map I.cond list.now) o.0 groups.now n.now) }
     requires room { count ≤ length live.old }
     requires parts { HoldParts K (map I.cond list.now) s.now o.0 place (region_of region.now)
         live.old parts.old }
@@ -370,7 +407,7 @@ fn gather_row<const K: usize, I: Indexical<K>>(
     for j in 0..runs.len() {
         let run = run_at(s, o, list, groups, runs, j);
         gathered = gather_run(
-            s, o, place, region, list, groups, run, live, parts, gathered,
+            s, o, place, region, list, groups, run, near, live, parts, gathered,
         )?;
     }
     Some(gathered)
@@ -393,6 +430,7 @@ fn gather_by_rows<const K: usize, I: Indexical<K>>(
     requires object { o.0 < length s.now }
     requires picks { ArePicks (length list.now) picks.now }
     requires rows { AreRows (map I.cond list.now) o.0 picks.now rows.now }
+    requires small { HasSmallIntervals s.now }
     requires parts { HoldParts K (map I.cond list.now) s.now o.0 place (region_of region.now)
         live.old parts.old }
     ensures room { IfSome result (λ n. n ≤ length live.new) }
@@ -403,10 +441,16 @@ fn gather_by_rows<const K: usize, I: Indexical<K>>(
         live.new parts.new }
 {
     let any = row_at(s, o, list, picks, rows, 0);
-    let count = gather_row(s, o, place, region, list, any.0, any.1, live, parts, 0)?;
+    let near_any = near_at(o, list, picks, rows, 0);
+    let count = gather_row(
+        s, o, place, region, list, any.0, any.1, near_any, live, parts, 0,
+    )?;
     let r = usize::from(place);
     let own = row_at(s, o, list, picks, rows, r);
-    gather_row(s, o, place, region, list, own.0, own.1, live, parts, count)
+    let near_own = near_at(o, list, picks, rows, r);
+    gather_row(
+        s, o, place, region, list, own.0, own.1, near_own, live, parts, count,
+    )
 }
 
 // Gathers by going over all picks.
@@ -459,6 +503,7 @@ pub fn gather<const K: usize, I: Indexical<K>>(
     requires object { o.0 < length s.now }
     requires picks { ArePicks (length list.now) picks.now }
     requires rows { IfSome rows (λ r. AreRows (map I.cond list.now) o.0 picks.now r.now) }
+    requires small { HasSmallIntervals s.now }
     requires parts { HoldParts K (map I.cond list.now) s.now o.0 place (region_of region.now)
         live.old parts.old }
     ensures room { IfSome result (λ n. n ≤ length live.new) }

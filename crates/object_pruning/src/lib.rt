@@ -2,12 +2,15 @@
 #![tactic(auto)]
 
 mod counted;
+mod far;
 mod first_point;
 mod gathering;
 mod hints;
 mod kept;
 mod lasting;
 mod move_ends;
+mod near;
+mod near_making;
 mod outer_points;
 mod places;
 mod prune;
@@ -18,6 +21,7 @@ mod run_making;
 mod unrefuted;
 
 pub use kept::{Placed, is_same_point, retry, slots};
+pub use near::Near;
 pub use prune::{Pruned, prune_kept, prune_object};
 pub use row_making::rows_of;
 pub use rows::{Group, Rows, Run};

@@ -4,6 +4,7 @@ ghost use Rattle.std.specs.Prelude.{◌≡◌, ◌+◌, ◌-◌, ◌^◌, ◌<�
 ghost use Rattle.geo_conditions.specs.Conditions.{AllFit};
 ghost use Rattle.geo_conditions.specs.Regions.{region_of};
 ghost use Rattle.geo_conditions.specs.Supported.{HasNoPoint, IsFirstPoint};
+ghost use Rattle.geo_state.specs.Trail.{HasSmallIntervals};
 ghost use Rattle.derivation.specs.Events.{Grows};
 ghost use Rattle.sweep.specs.Parts.{AreParts};
 ghost use Rattle.sweep.specs.Picks.{ArePicks, picked};
@@ -195,6 +196,7 @@ pub fn first_point_in<const K: usize, I: Indexical<K>, R: Recorder>(
     requires picks { ArePicks (length list.now) picks.now }
     requires rows { IfSome rows (λ r. AreRows (map I.cond list.now) o.0 picks.now r.now) }
     requires small { IsSmallBox region.now }
+    requires ends { HasSmallIntervals s.now }
     ensures point { let cs = picked (map I.cond list.now) picks.now in
         let b = region_of region.now in
         IfOk result (λ r. MatchOption r (HasNoPoint cs s.now o.0 place b)

@@ -5,6 +5,7 @@ ghost use Rattle.sweep.specs.Picks.{ArePicks};
 ghost use Rattle.object_pruning.specs.InRows.{AreRows, AreRowsBelow, PutsNumber};
 ghost use Rattle.object_pruning.specs.Runs.{row};
 
+use crate::near_making::near_rows;
 use crate::rows::{Group, Rows};
 use crate::run_making::{is_same_object, with_runs};
 use geo_conditions::{MAX_SHAPES, ObjId};
@@ -115,5 +116,6 @@ pub fn rows_of<const K: usize>(
     for k in 0..picks.len() {
         put_pick(list, picks, o, k, &mut rows)?;
     }
-    with_runs(alloc, rows)
+    let near = near_rows(alloc, list, o, &rows)?;
+    with_runs(alloc, rows, near)
 }

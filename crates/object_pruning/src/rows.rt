@@ -1,8 +1,9 @@
 //! The conditions that name an object, by the places that they ask for.
 
-ghost use Rattle.std.specs.Prelude.{◌≡◌, ℕ};
+ghost use Rattle.std.specs.Prelude.{◌≡◌, ℕ, Some, slice_get, IfSome};
 ghost use Rattle.object_pruning.specs.Runs.{AreRuns, row};
 
+use crate::near::Near;
 use geo_conditions::ObjId;
 
 /// Neighbours in a list of conditions that ask for the same places.
@@ -36,6 +37,8 @@ pub struct Rows {
     pub rows: Vec<Vec<Group>>,
     /// The runs of the groups of each row.
     pub runs: Vec<Vec<Run>>,
+    /// How near the other object of a pair has to be, for each row, where it is known.
+    pub near: Vec<Option<Near>>,
     ghost in_runs: { (r : ℕ) → AreRuns (row rows.items r) (row runs.items r) },
 }
 
@@ -44,6 +47,7 @@ impl Drop for Rows {
         let Rows {
             rows: _rows,
             runs: _runs,
+            near: _near,
         } = self;
     }
 }
@@ -70,6 +74,16 @@ impl Rows {
             runs[r].as_slice()
         } else {
             &[]
+        }
+    }
+
+    /// How near the other object of a pair of the row has to be, where it is known.
+    pub fn near(&self, r: usize) -> Option<&Near>
+        ensures { IfSome result (λ n. slice_get self.now.near.items r ≡ Some (Some n.now)) }
+    {
+        match self.near.get(r) {
+            Some(near) => near.as_ref(),
+            None => None,
         }
     }
 }

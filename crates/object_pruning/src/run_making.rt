@@ -3,6 +3,7 @@
 ghost use Rattle.std.specs.Prelude.{◌≡◌, ◌≢◌, ℕ, ◌+◌, ◌<◌, true, length, IfOk, IsTrue, OnOk};
 ghost use Rattle.object_pruning.specs.Runs.{AreRuns, AreRunsTo, row};
 
+use crate::near::Near;
 use crate::rows::{Group, Rows, Run};
 use geo_conditions::ObjId;
 use std::alloc::{AllocError, Global};
@@ -73,9 +74,14 @@ fn all_runs(alloc: Global, rows: &[Vec<Group>]) -> Result<Vec<Vec<Run>>, AllocEr
 }
 
 /// The rows beside their runs. The answer is an error where memory runs out.
-pub fn with_runs(alloc: Global, rows: Vec<Vec<Group>>) -> Result<Rows, AllocError>
-    ensures { IfOk result (λ r. r.rows.items ≡ rows.items) }
+pub fn with_runs(
+    alloc: Global,
+    rows: Vec<Vec<Group>>,
+    near: Vec<Option<Near>>,
+) -> Result<Rows, AllocError>
+    ensures rows { IfOk result (λ r. r.rows.items ≡ rows.items) }
+    ensures near { IfOk result (λ r. r.near.items ≡ near.items) }
 {
     let runs = all_runs(alloc, &rows)?;
-    Ok(Rows { rows, runs })
+    Ok(Rows { rows, runs, near })
 }

@@ -1,4 +1,4 @@
-use Rattle.std.proofs.Common.{◌≡◌, ◌<◌, ◌∙◌, ℕ, List, length, map, sym, subst, arith, rules, Some}
+use Rattle.std.proofs.Common.{◌≡◌, ◌<◌, ◌∙◌, ℕ, List, length, map, sym, subst, arith, rules, true, Some}
 use Rattle.std.specs.Prelude.{slice_get}
 use Rattle.indexical.specs.declared.any.AnyIndexical.{AnyIndexical}
 use Rattle.object_pruning.specs.declared.rows.Group.{Group}
@@ -7,7 +7,7 @@ use Rattle.object_pruning.specs.InRows.{AreRows, HaveNumber, IsSomeGroup}
 use Rattle.object_pruning.proofs.LivePicks.{rows_some}
 use Rattle.fixpoint.specs.Links.{AreLinks, AreSomeRows, IsByPlace, row}
 use Rattle.fixpoint.specs.Marks.{IsSquare, MarksAt}
-use Rattle.fixpoint.specs.Near.{UnhinderedBy}
+use Rattle.fixpoint.specs.Near.{LeavesPairsFree, UnhinderedBy}
 use Rattle.fixpoint.specs.Queue.{Queues}
 use Rattle.fixpoint.proofs.Woken.{queues_both, marks_both, free_end}
 use Rattle.fixpoint.proofs.waking.wake.Goals as goal
@@ -21,6 +21,18 @@ wake_row-requires g c =
     let are : AreRows cs u (row l.picks.items u) own = subst (AreRows cs u (row l.picks.items u)) (sym c.index-rows.ensures) (c.requires.links.rows.each u own c.requires.object.0) in
     let there : u < length c.args.s.now = omega (arith, c.requires.object.0, c.requires.object.1) in
     let some : (k : ℕ) (h : Group) → slice_get c.row.result.now k ≡ Some h → IsSomeGroup cs u h = rows_some cs c.args.s.now u c.requires.fits there (row l.picks.items u) own are (c.requires.links.picks u c.requires.object.0).within 0 c.row.result.now c.row.ensures in
+    let idle : c.is_row_idle-idle.result ≡ true → LeavesPairsFree cs c.args.s.now u c.row.result.now = λ t. subst (LeavesPairsFree cs c.args.s.now u) (sym c.row.ensures) (c.is_row_idle-idle.ensures t) in
+    search rules
+
+pub is_row_idle-idle-requires : goal.is_row_idle-idle-requires
+is_row_idle-idle-requires g c =
+    let cs = map (λ (x : AnyIndexical g.row.K). x.cond) c.args.list.now in
+    let u = c.args.u in
+    let l = c.args.links.now in
+    let own = c.index-rows.result.now in
+    let are : AreRows cs u (row l.picks.items u) own = subst (AreRows cs u (row l.picks.items u)) (sym c.index-rows.ensures) (c.requires.links.rows.each u own c.requires.object.0) in
+    let some : AreSomeRows cs u own = (row l.picks.items u, (c.requires.links.picks u c.requires.object.0).within, are) in
+    let there : u < length c.args.s.now = omega (arith, c.requires.object.0, c.requires.object.1) in
     search rules
 
 pub wake_by_place-requires : goal.wake_by_place-requires

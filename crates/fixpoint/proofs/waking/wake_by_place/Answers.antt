@@ -10,7 +10,7 @@ use Rattle.object_pruning.specs.declared.rows.Rows.{Rows}
 use Rattle.object_pruning.specs.InRows.{HaveNumber, IsSomeGroup}
 use Rattle.object_pruning.proofs.LivePicks.{rows_some}
 use Rattle.fixpoint.specs.Links.{row}
-use Rattle.fixpoint.specs.Near.{UnhinderedBy}
+use Rattle.fixpoint.specs.Near.{LeavesPairsFree, UnhinderedBy}
 use Rattle.fixpoint.proofs.Woken.{queues_none, queues_weaker, marks_none, marks_weaker, free_by_place}
 use Rattle.fixpoint.proofs.waking.wake_by_place.Goals as goal
 
@@ -22,7 +22,9 @@ wake_row-requires g c =
     let there : u < length S = omega (arith, c.requires.object.0, c.requires.object.1) in
     let a = c.requires.rows in
     let some : (k : ℕ) (h : Group) → slice_get c.row-groups.result.now k ≡ Some h → IsSomeGroup cs u h = rows_some cs S u c.requires.fits there a.0 c.args.rows.now a.2 a.1 c.from.result c.row-groups.result.now c.row-groups.ensures in
-    (omega arith, (omega arith, (c.requires.fits, (c.requires.links, (some, (c.requires.object, c.requires.square))))))
+    let same : row c.args.rows.now.rows.items c.from-in-Some.result ≡ c.row-groups.result.now = ap (row c.args.rows.now.rows.items) (c.from-in-Some.ensures ∙ sym c.from.ensures) ∙ sym c.row-groups.ensures in
+    let idle : c.is_row_idle-idle.result ≡ true → LeavesPairsFree cs S u c.row-groups.result.now = λ t. subst (LeavesPairsFree cs S u) same (c.is_row_idle-idle.ensures t) in
+    (omega arith, (omega arith, (c.requires.fits, (c.requires.links, (some, (idle, (c.requires.object, c.requires.square)))))))
 
 none : (r : ℕ) → let n : Option ℕ = None in n ≡ Some r → ⊥
 none r e = cc

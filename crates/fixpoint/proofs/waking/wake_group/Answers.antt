@@ -24,7 +24,7 @@ wake_one-requires g c =
     let there : v.0 < length c.args.queued.now = omega (arith, other, c.requires.object.1) in
     let numbers : (i : ℕ) → IsInGroup group i → (0 < i) × (i - 1 < length c.args.list.now) = λ i b. subst (λ (n : ℕ). (0 < i) × (i - 1 < n)) (length-map c.args.list.now f) (group_number cs S u c.requires.fits here group q i b) in
     let pair : (i : ℕ) (x : Cond) → IsInGroup group i → slice_get cs (i - 1) ≡ Some x → IsPair x u v.0 = λ i x b e. told x u (facing_of q.1 group) v c.in-Some.is (q.3.faces i x b e) in
-    (omega arith, (omega arith, (c.requires.fits, (numbers, (pair, ((c.requires.object.0, there), c.requires.square))))))
+    (omega arith, (omega arith, (c.requires.fits, (numbers, (pair, ((λ t. c.requires.idle t v c.in-Some.is), ((c.requires.object.0, there), c.requires.square)))))))
 
 pub wake_others-requires : goal.wake_others-requires
 wake_others-requires g c =

@@ -56,6 +56,15 @@ returns-then-may_hinder-clause-square g c = c.wake_at.ensures.square
 pub returns-else-may_hinder-clause-square : goal.returns-else-may_hinder-clause-square
 returns-else-may_hinder-clause-square g c = c.requires.square
 
+pub returns-then-idle-clause-queued : goal.returns-then-idle-clause-queued
+returns-then-idle-clause-queued g c = queues_stay _ c.args.u.0 c.args.queued.now (λ o ne f. c.requires.idle c.if-idle.true o ne)
+
+pub returns-then-idle-clause-marked : goal.returns-then-idle-clause-marked
+returns-then-idle-clause-marked g c = marks_stay _ c.args.u.0 c.args.dirty.now (λ o ne f. c.requires.idle c.if-idle.true o ne)
+
+pub returns-then-idle-clause-square : goal.returns-then-idle-clause-square
+returns-then-idle-clause-square g c = c.requires.square
+
 pub is_woken-requires : goal.is_woken-requires
 is_woken-requires g c = record { objects = c.requires.objects; square = c.requires.square }
 

@@ -25,7 +25,7 @@ wake_group-requires g c =
     let links : AreLinks cs (length q) c.args.links.now = subst (λ (m : ℕ). AreLinks cs m c.args.links.now) (sym c.loop-k.auto.queued) c.requires.links in
     let there : (c.args.u.0 < length q) × (length q ≡ length c.args.s.now) = (omega (arith, c.requires.object.0, c.loop-k.auto.queued), c.loop-k.auto.queued ∙ c.requires.object.1) in
     let square : IsSquare (length q) c.loop-k.dirty = subst (λ (z : ℕ). IsSquare z c.loop-k.dirty) (sym c.loop-k.auto.queued) c.loop-k.invariant.square in
-    (omega arith, (omega arith, (c.requires.fits, (links, (some _, (there, square))))))
+    (omega arith, (omega arith, (c.requires.fits, (links, (some _, ((λ t v e. c.requires.idle t k (get_or gs k _) v (slice_get-get_or gs k _ c.loop-k-test.true) e), (there, square)))))))
 
 pub loop-k-preserved : goal.loop-k-preserved
 loop-k-preserved g c =
