@@ -83,8 +83,8 @@ pub fn spares_unnamed<const K: usize>(c: &Cond, s: &State<K>, o: ObjId) -> bool
     }
 }
 
-/// Whether enough of the parts spare the object at that place. No further part is asked where too few
-/// are left.
+/// Whether enough of the parts spare the object at that place. No further part is asked where too
+/// few are left.
 #[cycle(spares)]
 fn enough_spare<const K: usize>(n: i64, children: &Conds, s: &State<K>, o: ObjId, place: u8) -> bool
     requires k { K ≤ MAX_DIMS }
@@ -112,8 +112,8 @@ fn enough_spare<const K: usize>(n: i64, children: &Conds, s: &State<K>, o: ObjId
     false
 }
 
-/// Whether enough parts of the condition spare the object at that place: a literal on a shape that is
-/// possible then, a form that does not name the object and is possible. It is inlined where parts
+/// Whether enough parts of the condition spare the object at that place: a literal on a shape that
+/// is possible then, a form that does not name the object and is possible. It is inlined where parts
 /// are asked, so that a literal on a shape takes no call.
 #[cycle(spares)]
 #[inline(always)]
@@ -135,9 +135,9 @@ pub fn tree_spares<const K: usize>(c: &Cond, s: &State<K>, o: ObjId, place: u8) 
 /// one of them the parts are watched.
 pub const MANY_PARTS: usize = 8;
 
-/// Whether enough of the parts spare the object at any place. No further part is asked where too few
-/// are left. Where all of many parts are asked for they are not gone into, since one of them names
-/// the object for the most part.
+/// Whether enough of the parts spare the object at any place. No further part is asked where too
+/// few are left. Where all of many parts are asked for they are not gone into, since one of them
+/// names the object for the most part.
 #[cycle(anywhere)]
 fn enough_spare_anywhere<const K: usize>(n: i64, children: &Conds, s: &State<K>, o: ObjId) -> bool
     requires k { K ≤ MAX_DIMS }
@@ -167,8 +167,8 @@ fn enough_spare_anywhere<const K: usize>(n: i64, children: &Conds, s: &State<K>,
     false
 }
 
-/// Whether enough parts of the condition spare the object at any place: a literal or a form that does
-/// not name the object and is possible. It is inlined where parts are asked.
+/// Whether enough parts of the condition spare the object at any place: a literal or a form that
+/// does not name the object and is possible. It is inlined where parts are asked.
 #[cycle(anywhere)]
 #[inline(always)]
 pub fn tree_spares_anywhere<const K: usize>(c: &Cond, s: &State<K>, o: ObjId) -> bool
