@@ -59,13 +59,13 @@ fn form_spares<const K: usize>(f: &Form, s: &State<K>, o: ObjId) -> bool
     requires fits { FitsIn (Cond.Lin f.now) s.now }
     ensures { IsTrue result → SparesAnywhere (Cond.Lin f.now) s.now o.0 }
 {
+    if is_in_form(f, o) {
+        return false;
+    }
     // The state has few coordinates, and a form names each of them at most once.
     let _objects = s.objects();
     let mut sum = f.constant() as i128;
     for term in f.terms() {
-        if term.object.0 == o.0 {
-            return false;
-        }
         sum += least_term_of(term, s);
     }
     sum <= 0

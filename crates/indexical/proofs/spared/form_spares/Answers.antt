@@ -1,13 +1,8 @@
-use Rattle.std.proofs.Common.{◌≡◌, ℕ, ◌+◌, ◌*◌, ◌<◌, suc, drop, Bool, get_or, length, sym, ap, ◌∙◌, arith, ℤ, pos}
-use Rattle.std.specs.Prelude.{◌==◌, ◌||◌}
-use Rattle.std.specs.List.{list_any}
+use Rattle.std.proofs.Common.{◌≡◌, ◌*◌, ◌<◌, length, sym, ap, ◌∙◌, arith, ℤ, pos}
 use Rattle.std.specs.Int.{w128}
 use mir.Val.{to_z}
 use lib.Signed.{le_z}
 use Rattle.std.proofs.lemmas.Int.{ints}
-use Rattle.std.proofs.lemmas.Bool.{ne_eqb}
-use Rattle.geo_conditions.specs.declared.form.Term.{Term}
-use Rattle.std.proofs.Math.Seq.{drop-cons}
 use Rattle.std.proofs.lemmas.List.{drop_all}
 use Rattle.geo_base.specs.declared.TheConstants.{MAX_DIMS}
 use Rattle.geo_conditions.specs.declared.cond.Cond.{Lin}
@@ -29,16 +24,9 @@ loop-term-preserved g c =
     let most = few_terms g.row.K c.args.s.now c.args.f.now.terms c.args.f.now.constant c.requires.k c.objects-objects.ensures.shape c.terms-term-items.ensures.form c.requires.fits in
     let few : c.loop-term.term-index < MAX_OBJECTS * MAX_DIMS = omega (arith, most, c.loop-term-test.true, ap length c.terms-term-items.ensures.value) in
     let xs = c.terms-term-items.result.now in
-    let i = c.loop-term.term-index in
-    let none : Term = record { object = record { 0 = 0 }; dimension = 0; factor = pos 0 } in
-    let x = get_or xs i none in
-    let next : suc i ≡ i + 1 = omega arith in
-    let is_own = λ (t : Term). t.object.0 == c.args.o.0 in
     record {
       value = step_value c.args.s.now c.terms-term-items.result.now c.loop-term.term-index _ (to_z w128 c.loop-term.sum-bits) c.least_term_of-sum.result _ c.loop-term-test.true few c.loop-term.invariant.bound c.least_term_of-sum.ensures.bound c.least_term_of-sum.ensures.value c.loop-term.invariant.value;
       bound = step_bound c.loop-term.term-index (to_z w128 c.loop-term.sum-bits) c.least_term_of-sum.result few c.loop-term.invariant.bound c.least_term_of-sum.ensures.bound;
-      unnamed = c.loop-term.invariant.unnamed ∙ ap (list_any is_own) (drop-cons xs i none c.loop-term-test.true) ∙ ap (λ (b : Bool). b || list_any is_own (drop (suc i) xs)) (ne_eqb x.object.0 c.args.o.0 c.if-term-o.false)
-          ∙ ap (λ (j : ℕ). list_any is_own (drop j xs)) next;
     }
 
 pub returns : goal.returns
@@ -48,4 +36,4 @@ returns g c = λ h s.
     let sum : to_z w128 c.loop-term.sum-bits ≡ least_value c.args.f.now c.args.s.now =
     (let z = ap (sum_of (least_term c.args.s.now)) gone in omega (arith, ints, z, c.loop-term.invariant.value)) in
     spares_unnamed (Lin c.args.f.now) c.args.s.now c.args.o.0 s
-    (c.loop-term.invariant.unnamed ∙ ap (list_any (λ t. t.object.0 == c.args.o.0)) gone) (sym (ap (λ (z : ℤ). le_z z (pos 0)) sum) ∙ h)
+    (sym c.is_in_form.ensures ∙ c.if-is_in_form.false) (sym (ap (λ (z : ℤ). le_z z (pos 0)) sum) ∙ h)

@@ -1,6 +1,4 @@
 use Rattle.std.proofs.Common.{◌≡◌, ◌+◌, drop, ◌+ℤ◌}
-use Rattle.std.specs.Prelude.{◌==◌}
-use Rattle.std.specs.List.{list_any}
 use Rattle.geo_conditions.specs.Sums.{InSum}
 use Rattle.geo_conditions.specs.Conditions.{least_value, sum_of, least_term}
 use Rattle.indexical.proofs.spared.form_spares.Given as goal
@@ -9,5 +7,4 @@ abbrev pub invariant-loop-term : goal.invariant-loop-term
 invariant-loop-term g l = record {
   value : l.sum +ℤ sum_of (least_term l.s) (drop l.term-index l.term-items) ≡ least_value l.f l.s;
   bound : InSum (l.term-index + 1) l.sum;
-  unnamed : list_any (λ t. t.object.0 == l.o.0) l.f.terms ≡ list_any (λ t. t.object.0 == l.o.0) (drop l.term-index l.term-items);
 }
