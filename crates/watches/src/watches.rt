@@ -7,7 +7,7 @@ ghost use Rattle.indexical.specs.Free.{SparesAnywhere};
 ghost use Rattle.watches.specs.declared.watches.TheConstants.{LAST, PLACES};
 ghost use Rattle.watches.specs.Watches.{Hold, HoldAnyhow, IsFresh, IsNoted, IsPut, IsWatched, Later, TellSpared};
 
-use crate::parts::{Pair, rests_by};
+use crate::parts::{Pair, rests_by, width};
 use geo_base::MAX_DIMS;
 use geo_conditions::{ObjId, State};
 use indexical::{AnyIndexical, Watched};
@@ -23,7 +23,7 @@ const PLACES: usize = 4096;
 const MOST_MISSES: u16 = 1000;
 
 // So many parts are looked at together.
-const MOST_LOOKS: u16 = 64;
+const MOST_LOOKS: usize = 500;
 
 /// Two objects on which a condition was found to rest, and the time at which that was found.
 #[derive(Clone, Copy)]
@@ -61,13 +61,14 @@ impl Watch {
     }
 }
 
-/// Which part of a condition is looked at next, how often nothing was found in a row, and an object for which nothing was found. It
-/// promises nothing.
+/// Which part of a condition is looked at next, how often nothing was found in a row, an object for which nothing was found, and
+/// whether something was found ever. It promises nothing.
 #[derive(Clone, Copy)]
 pub struct Look {
     part: u16,
     misses: u16,
     failed: Option<ObjId>,
+    has_found: bool,
 }
 
 impl Look {
@@ -77,6 +78,7 @@ impl Look {
             part: 0,
             misses: 0,
             failed: None,
+            has_found: false,
         }
     }
 
@@ -94,6 +96,7 @@ impl Look {
             part: self.part,
             misses: 0,
             failed: self.failed,
+            has_found: true,
         }
     }
 
@@ -103,6 +106,7 @@ impl Look {
             part: self.part.wrapping_add(1),
             misses: self.misses.saturating_add(1),
             failed: self.failed,
+            has_found: self.has_found,
         }
     }
 
@@ -112,6 +116,7 @@ impl Look {
             part: self.part,
             misses: self.misses,
             failed: self.failed.or(Some(o)),
+            has_found: self.has_found,
         }
     }
 }
@@ -301,7 +306,8 @@ impl Watches {
         if self.looks[k].is_hopeless(o) {
             return false;
         }
-        for _ in 0..MOST_LOOKS {
+        let parts = width(list[i].cond());
+        for _ in 0..parts.min(MOST_LOOKS) {
             if self.look(list, i, s, o) {
                 return true;
             }
@@ -311,7 +317,8 @@ impl Watches {
         false
     }
 
-    /// Whether the i-th condition surely spares the object, asked anew. Where it does, objects on which it rests are watched.
+    /// Whether the i-th condition surely spares the object, asked anew. Where it does, objects on which it rests are watched. Other
+    /// parts are asked only where none has ever named so few objects.
     pub fn surely_spares<const K: usize>(
         &mut self,
         list: &[AnyIndexical<K>],
@@ -329,6 +336,9 @@ impl Watches {
     {
         if self.find(list, i, s, o) {
             return true;
+        }
+        if self.looks[i % PLACES].has_found {
+            return false;
         }
         list[i].surely_spares_watched(s, o, &mut self.watched[i])
     }
