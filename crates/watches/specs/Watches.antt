@@ -21,11 +21,14 @@ IsFresh w x = Rested w x.since x.first.0 × Rested w x.since x.second.0
 abbrev pub IsPast : Watches → Watch → Type 0
 IsPast w x = (x.since ≤ w.clock) × (x.since < LAST)
 
+-- there is room for some looks, and for two watches for each of them
+abbrev pub HavePlaces : Watches → Type 0
+HavePlaces w = (0 < length w.looks.items) × (length w.looks.items ≤ PLACES) × (length w.found.items ≡ length w.looks.items + length w.looks.items)
+
 -- of the conditions on the state: where neither object of a watch changed since, its condition rests on both
 pub record Hold (cs : List Cond) (S : State) (w : Watches) : Type 0 where
   pub watched : length w.watched.items ≡ length cs
-  pub looks : length w.looks.items ≡ PLACES
-  pub found : length w.found.items ≡ PLACES + PLACES
+  pub places : HavePlaces w
   pub objects : length w.changed.items ≡ length S
   pub past : All (IsPast w) w.found.items
   pub rests : All (λ x. (c : Cond) → x.condition < length cs → IsFresh w x → RestsOn (slice_index_or cs x.condition c) S x.first.0 x.second.0) w.found.items

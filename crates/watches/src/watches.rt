@@ -4,8 +4,8 @@ ghost use Rattle.std.specs.Prelude.{◌≡◌, ◌≢◌, ◌+◌, ◌<◌, ◌�
 ghost use Rattle.geo_conditions.specs.declared.cond.Cond.{Cond};
 ghost use Rattle.geo_conditions.specs.Conditions.{AllFit};
 ghost use Rattle.indexical.specs.Free.{SparesAnywhere};
-ghost use Rattle.watches.specs.declared.watches.TheConstants.{LAST, PLACES};
-ghost use Rattle.watches.specs.Watches.{Hold, HoldAnyhow, IsFresh, IsNoted, IsPut, IsWatched, Later, TellSpared};
+ghost use Rattle.watches.specs.declared.watches.TheConstants.{LAST};
+ghost use Rattle.watches.specs.Watches.{HavePlaces, Hold, HoldAnyhow, IsFresh, IsNoted, IsPut, IsWatched, Later, TellSpared};
 
 use crate::parts::{Pair, rests_by, width};
 use geo_base::MAX_DIMS;
@@ -16,7 +16,8 @@ use std::alloc::{AllocError, Global};
 // The clock stops at this time. What is found then is not kept, since it could not be told from what changed later.
 const LAST: u64 = 1_000_000_000_000_000_000;
 
-// Watches and looks have places by the numbers of their conditions, round and round.
+// Watches and looks have places by the numbers of their conditions, round and round. There are no
+// more places than conditions, and so many at most.
 const PLACES: usize = 4096;
 
 // So often in a row no objects are found before a condition is given up.
@@ -148,9 +149,10 @@ impl Watches {
     pub fn start(alloc: Global, conditions: usize, objects: usize) -> Result<Watches, AllocError>
         ensures { IfOk result (HoldAnyhow conditions objects) }
     {
+        let places = conditions.min(PLACES).max(1);
         let watched = Vec::from_elem(alloc, Watched::new(), conditions)?;
-        let looks = Vec::from_elem(alloc, Look::new(), PLACES)?;
-        let found = Vec::from_elem(alloc, Watch::new(), 2 * PLACES)?;
+        let looks = Vec::from_elem(alloc, Look::new(), places)?;
+        let found = Vec::from_elem(alloc, Watch::new(), 2 * places)?;
         let changed = Vec::from_elem(alloc, 1, objects)?;
         Ok(Watches {
             watched,
@@ -212,14 +214,15 @@ impl Watches {
 
     /// Whether the i-th condition is known to spare the object: it rests on two others, which did not change since that was found.
     pub fn is_known_to_spare(&self, i: usize, o: ObjId) -> bool
-        requires { length self.now.found.items ≡ PLACES + PLACES }
+        requires { HavePlaces self.now }
         ensures { IsTrue result → TellSpared self.now i o.0 }
     {
-        let k = i % PLACES;
+        let places = self.looks.len();
+        let k = i % places;
         if self.tells(k, i, o) {
             return true;
         }
-        self.tells(k + PLACES, i, o)
+        self.tells(k + places, i, o)
     }
 
     // Puts another watch in place of the k-th one.
@@ -240,16 +243,17 @@ impl Watches {
 
     // Watches two objects on which the i-th condition was found to rest now. Another watch of it that is fresh is kept.
     fn watch(&mut self, i: usize, pair: Pair)
-        requires { length self.old.found.items ≡ PLACES + PLACES }
+        requires { HavePlaces self.old }
         ensures { IsWatched i pair.first.0 pair.second.0 self.old self.new }
     {
         if self.clock >= LAST {
             return;
         }
-        let k = i % PLACES;
+        let places = self.looks.len();
+        let k = i % places;
         let old = self.found[k];
         let is_kept = old.condition == i && self.is_fresh(&old);
-        let at = if is_kept { k + PLACES } else { k };
+        let at = if is_kept { k + places } else { k };
         let x = Watch::of(i, pair, self.clock);
         self.put(at, x);
     }
@@ -271,7 +275,7 @@ impl Watches {
             → SparesAnywhere (slice_index_or (map (λ x. x.cond) list.now) i c) s.now o.0 }
         ensures hold { Hold (map (λ x. x.cond) list.now) s.now self.new }
     {
-        let k = i % PLACES;
+        let k = i % self.looks.len();
         let look = self.looks[k];
         match rests_by(list[i].cond(), usize::from(look.part), s, o) {
             Some(pair) => {
@@ -302,8 +306,7 @@ impl Watches {
             → SparesAnywhere (slice_index_or (map (λ x. x.cond) list.now) i c) s.now o.0 }
         ensures hold { Hold (map (λ x. x.cond) list.now) s.now self.new }
     {
-        let k = i % PLACES;
-        if self.looks[k].is_hopeless(o) {
+        if self.looks[i % self.looks.len()].is_hopeless(o) {
             return false;
         }
         let parts = width(list[i].cond());
@@ -312,6 +315,7 @@ impl Watches {
                 return true;
             }
         }
+        let k = i % self.looks.len();
         let look = self.looks[k];
         self.note(k, look.failed_for(o));
         false
@@ -337,7 +341,7 @@ impl Watches {
         if self.find(list, i, s, o) {
             return true;
         }
-        if self.looks[i % PLACES].has_found {
+        if self.looks[i % self.looks.len()].has_found {
             return false;
         }
         list[i].surely_spares_watched(s, o, &mut self.watched[i])
