@@ -3,6 +3,7 @@ that is made from the problem's own lines. And Ctrl-C leaves what was said so fa
 
 from __future__ import annotations
 
+import contextlib
 import os
 import re
 import signal
@@ -121,8 +122,26 @@ def check_parts() -> None:
 # Ctrl-C
 
 
+def has_started_one(process: subprocess.Popen[bytes]) -> bool:
+    """Whether a script has started another program, which is the one that it asks."""
+    with contextlib.suppress(OSError):
+        lists = Path(f"/proc/{process.pid}/task").glob("*/children")
+        return any(file.read_text() for file in lists)
+    return False
+
+
+def await_one(process: subprocess.Popen[bytes]) -> None:
+    """Waits until a script has started another program."""
+    end = time.monotonic() + LONGEST_WAIT
+    while not has_started_one(process):
+        if time.monotonic() > end or process.poll() is not None:
+            raise Failed("the script starts no program")
+        time.sleep(0.05)
+
+
 def stopped(setting: Setting, words: list[str], line: str) -> tuple[str, int]:
-    """What a script prints that is sent Ctrl-C once a line stands in its output."""
+    """What a script prints that is sent Ctrl-C once a line stands in its output, or, where no line
+    is waited for, once it has started the program."""
     command = [sys.executable, "-u", str(TOOLS / words[0]), "--program", setting.program.path]
     process = subprocess.Popen(
         [*command, *words[1:]],
@@ -138,7 +157,9 @@ def stopped(setting: Setting, words: list[str], line: str) -> tuple[str, int]:
         if not more:
             raise Failed(f"{line!r} does not come: {before}")
         before += more
-    time.sleep(0.1 if line else 1)  # it starts, where no line is waited for
+    if not line:
+        await_one(process)
+    time.sleep(0.1)
     os.kill(process.pid, signal.SIGINT)
     after, _ = process.communicate(timeout=LONGEST_WAIT)
     return before + after.decode(), process.returncode
