@@ -18,7 +18,8 @@ pub struct Pair {
 // So many parts are many: of a condition that has fewer, the parts of its parts are looked at.
 const MANY_PARTS: usize = 8;
 
-/// How many parts the condition has of which one is enough, those of few parts counted one by one; 1 where it has none.
+/// How many parts the condition has of which one is enough, those of few parts counted one by one;
+/// 1 where it has none.
 pub fn width(c: &Cond) -> usize
     ensures { 0 < result }
 {

@@ -1,4 +1,5 @@
-//! For each condition two objects on which it was found to rest, and for each object when it changed last.
+//! For each condition two objects on which it was found to rest, and for each object when it
+//! changed last.
 
 ghost use Rattle.std.specs.Prelude.{◌≡◌, ◌≢◌, ◌+◌, ◌<◌, ◌≤◌, length, map, slice_index_or, IfOk, IsTrue};
 ghost use Rattle.geo_conditions.specs.declared.cond.Cond.{Cond};
@@ -13,7 +14,8 @@ use geo_conditions::{ObjId, State};
 use indexical::{AnyIndexical, Watched};
 use std::alloc::{AllocError, Global};
 
-// The clock stops at this time. What is found then is not kept, since it could not be told from what changed later.
+// The clock stops at this time. What is found then is not kept, since it could not be told from
+// what changed later.
 const LAST: u64 = 1_000_000_000_000_000_000;
 
 // Watches and looks have places by the numbers of their conditions, round and round. There are no
@@ -62,8 +64,8 @@ impl Watch {
     }
 }
 
-/// Which part of a condition is looked at next, how often nothing was found in a row, an object for which nothing was found, and
-/// whether something was found ever. It promises nothing.
+/// Which part of a condition is looked at next, how often nothing was found in a row, an object for
+/// which nothing was found, and whether something was found ever. It promises nothing.
 #[derive(Clone, Copy)]
 pub struct Look {
     part: u16,
@@ -122,8 +124,9 @@ impl Look {
     }
 }
 
-/// For each condition what is watched of it: parts that spared an object last, which promise nothing, and twice two objects on which
-/// it was found to rest. That is so as long as neither of the two changes.
+/// For each condition what is watched of it: parts that spared an object last, which promise
+/// nothing, and twice two objects on which it was found to rest. That is so as long as neither of
+/// the two changes.
 pub struct Watches {
     watched: Vec<Watched>,
     looks: Vec<Look>,
@@ -212,7 +215,8 @@ impl Watches {
         self.is_fresh(x)
     }
 
-    /// Whether the i-th condition is known to spare the object: it rests on two others, which did not change since that was found.
+    /// Whether the i-th condition is known to spare the object: it rests on two others, which did
+    /// not change since that was found.
     pub fn is_known_to_spare(&self, i: usize, o: ObjId) -> bool
         requires { HavePlaces self.now }
         ensures { IsTrue result → TellSpared self.now i o.0 }
@@ -241,7 +245,8 @@ impl Watches {
         self.looks[k] = x;
     }
 
-    // Watches two objects on which the i-th condition was found to rest now. Another watch of it that is fresh is kept.
+    // Watches two objects on which the i-th condition was found to rest now. Another watch of it
+    // that is fresh is kept.
     fn watch(&mut self, i: usize, pair: Pair)
         requires { HavePlaces self.old }
         ensures { IsWatched i pair.first.0 pair.second.0 self.old self.new }
@@ -258,8 +263,8 @@ impl Watches {
         self.put(at, x);
     }
 
-    // Looks at a part of the i-th condition for objects other than o on which it rests, and watches them. The answer is whether there
-    // are such.
+    // Looks at a part of the i-th condition for objects other than o on which it rests, and watches
+    // them. The answer is whether there are such.
     fn look<const K: usize>(
         &mut self,
         list: &[AnyIndexical<K>],
@@ -290,7 +295,8 @@ impl Watches {
         }
     }
 
-    // Looks for objects other than o on which the i-th condition rests, and watches them. The answer is whether there are such.
+    // Looks for objects other than o on which the i-th condition rests, and watches them. The
+    // answer is whether there are such.
     fn find<const K: usize>(
         &mut self,
         list: &[AnyIndexical<K>],
@@ -321,8 +327,9 @@ impl Watches {
         false
     }
 
-    /// Whether the i-th condition surely spares the object, asked anew. Where it does, objects on which it rests are watched. Other
-    /// parts are asked only where none has ever named so few objects.
+    /// Whether the i-th condition surely spares the object, asked anew. Where it does, objects on
+    /// which it rests are watched. Other parts are asked only where none has ever named so few
+    /// objects.
     pub fn surely_spares<const K: usize>(
         &mut self,
         list: &[AnyIndexical<K>],
