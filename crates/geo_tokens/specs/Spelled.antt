@@ -1,5 +1,5 @@
 -- Which of some things is spelled so.
-use Rattle.std.specs.Prelude.{ℕ, List, [], ◌∷◌, length, filter, Option, Some, None, ◌==◌, if◌then◌else◌}
+use Rattle.std.specs.Prelude.{ℕ, List, [], ◌∷◌, length, filter, Option, Some, None, Bool, false, ◌==◌, ◌||◌, if◌then◌else◌}
 use Rattle.std.specs.Str.{bytes_eq}
 use Rattle.geo_tokens.specs.declared.token.Keyword.{Keyword}
 use Rattle.geo_tokens.specs.declared.token.Keyword.TheVariants as keywords
@@ -19,6 +19,17 @@ all_words = keywords.Geost ∷ keywords.Dims ∷ keywords.Shape ∷ keywords.Box
 -- the reserved words of n bytes
 abbrev pub words_of : ℕ → List Keyword
 words_of n = filter (λ w. length (word_bytes w) == n) all_words
+
+-- whether a reserved word of n bytes begins with this byte
+abbrev pub begins_word : ℕ → ℕ → Bool
+begins_word n b =
+    if n == 2 then b == 97 || b == 105 || b == 111
+    else if n == 3 then b == 97 || b == 98 || b == 100 || b == 101 || b == 105 || b == 108 || b == 109 || b == 110 || b == 113
+    else if n == 4 then b == 100 || b == 104 || b == 114 || b == 115 || b == 116 || b == 119
+    else if n == 5 then b == 97 || b == 98 || b == 102 || b == 103 || b == 109 || b == 111 || b == 115 || b == 116
+    else if n == 6 then b == 97 || b == 101 || b == 102 || b == 108 || b == 111 || b == 119
+    else if n == 7 then b == 97 || b == 105 || b == 111
+    else false
 
 -- the symbols of two bytes, and those of one
 abbrev pub long_symbols : List Sym

@@ -1,8 +1,8 @@
 //! Which reserved word or symbol some bytes spell.
 
-ghost use Rattle.std.specs.Prelude.{◌≡◌, ◌∷◌, [], length, MatchOption};
+ghost use Rattle.std.specs.Prelude.{◌≡◌, ◌∷◌, [], false, length, MatchOption};
 ghost use Rattle.geo_tokens.specs.Class.{word_bytes, symbol_bytes};
-ghost use Rattle.geo_tokens.specs.Spelled.{spelled_as, long_symbols, short_symbols};
+ghost use Rattle.geo_tokens.specs.Spelled.{spelled_as, begins_word, long_symbols, short_symbols};
 ghost use Rattle.geo_tokens.specs.declared.token.Keyword.{Keyword};
 
 use crate::token::{Keyword, Sym, word_text};
@@ -82,8 +82,66 @@ const OF_SIX: [Keyword; 7] = [
 
 const OF_SEVEN: [Keyword; 3] = [Keyword::Implies, Keyword::AtLeast, Keyword::Objects];
 
-/// The reserved word that is spelled so.
-pub fn reserved_word(bytes: &[u8]) -> Option<Keyword>
+/// Whether a reserved word of so many bytes begins with this one.
+fn begins_word(len: usize, first: u8) -> bool
+    ensures { result ≡ begins_word len first }
+{
+    match len {
+        2 => first == b'a' || first == b'i' || first == b'o',
+        3 => {
+            first == b'a'
+                || first == b'b'
+                || first == b'd'
+                || first == b'e'
+                || first == b'i'
+                || first == b'l'
+                || first == b'm'
+                || first == b'n'
+                || first == b'q'
+        }
+        4 => {
+            first == b'd'
+                || first == b'h'
+                || first == b'r'
+                || first == b's'
+                || first == b't'
+                || first == b'w'
+        }
+        5 => {
+            first == b'a'
+                || first == b'b'
+                || first == b'f'
+                || first == b'g'
+                || first == b'm'
+                || first == b'o'
+                || first == b's'
+                || first == b't'
+        }
+        6 => {
+            first == b'a'
+                || first == b'e'
+                || first == b'f'
+                || first == b'l'
+                || first == b'o'
+                || first == b'w'
+        }
+        7 => first == b'a' || first == b'i' || first == b'o',
+        _ => false,
+    }
+}
+
+/// Whether a word may be a reserved one, by its length and its first byte.
+fn may_be_reserved(bytes: &[u8]) -> bool
+    ensures { result ≡ false → (w : Keyword) → bytes.now ≡ word_bytes w → ⊥ }
+{
+    match bytes {
+        [first, ..] => begins_word(bytes.len(), *first),
+        [] => false,
+    }
+}
+
+/// The one of the reserved words of so many bytes that is spelled so.
+fn word_of_length(bytes: &[u8]) -> Option<Keyword>
     ensures { MatchOption result ((w : Keyword) → bytes.now ≡ word_bytes w → ⊥)
         (λ w. bytes.now ≡ word_bytes w) }
 {
@@ -95,6 +153,18 @@ pub fn reserved_word(bytes: &[u8]) -> Option<Keyword>
         6 => word_among(&OF_SIX, bytes),
         7 => word_among(&OF_SEVEN, bytes),
         _ => None,
+    }
+}
+
+/// The reserved word that is spelled so.
+pub fn reserved_word(bytes: &[u8]) -> Option<Keyword>
+    ensures { MatchOption result ((w : Keyword) → bytes.now ≡ word_bytes w → ⊥)
+        (λ w. bytes.now ≡ word_bytes w) }
+{
+    if may_be_reserved(bytes) {
+        word_of_length(bytes)
+    } else {
+        None
     }
 }
 

@@ -1,5 +1,5 @@
 use Rattle.geo_tokens.proofs.Spellings.{reserved}
-use Rattle.geo_tokens.proofs.lookup.reserved_word.Goals as goal
+use Rattle.geo_tokens.proofs.lookup.word_of_length.Goals as goal
 
 pub returns-in-2 : goal.returns-in-2
 returns-in-2 c = reserved 2 c.word_among.result c.args.bytes.now c.in-2.is c.word_among.ensures
