@@ -5,3 +5,5 @@ pub mod Runs
 pub mod Steps
 pub mod Turns
 pub mod Whole
+pub mod Fronts
+pub mod Wholes

@@ -23,7 +23,7 @@ use Rattle.token_stream.proofs.Runs.{over_at_end}
 abbrev pub run_token : TokenStream → Kind → Token
 run_token s kind = record { kind = kind; start = s.start; end = s.count }
 
-name_short : (kind : Kind) (n : ℕ) (bytes : List ℕ) → kind ≡ kinds.Name → IsToken kind n bytes → n ≤ 40
+pub name_short : (kind : Kind) (n : ℕ) (bytes : List ℕ) → kind ≡ kinds.Name → IsToken kind n bytes → n ≤ 40
 name_short kind n bytes e h = let name : IsToken kinds.Name n bytes = subst (λ (k : Kind). IsToken k n bytes) e h in name.form.short
 
 module _ (s : TokenStream) (text : List ℕ) (ts : List Token) (has : Has s text ts) where

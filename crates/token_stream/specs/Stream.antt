@@ -1,16 +1,18 @@
 -- A text that comes byte by byte, and the tokens of it that are whole. A token is whole once a byte stands behind it that does
 -- not go on with it, or the text has ended.
-use Rattle.std.specs.Prelude.{◌≡◌, ℕ, ◌+◌, ◌⊎◌, List, [], ◌∷◌, ◌++◌, length, true}
+use Rattle.std.specs.Prelude.{◌≡◌, ℕ, ◌+◌, ◌⊎◌, List, [], ◌∷◌, ◌++◌, ◌<◌, length, slice_index, true}
 use Rattle.std.specs.List.{prefix_len}
 use Rattle.geo_tokens.specs.declared.token.Token.{Token}
+use Rattle.geo_tokens.specs.declared.token.Kind.{Kind}
 use Rattle.geo_tokens.specs.declared.token.Kind.TheVariants as kinds
 use Rattle.geo_tokens.specs.declared.fault.FaultWord.{FaultWord}
 use Rattle.geo_tokens.specs.declared.fault.FaultWord.TheVariants as words
-use Rattle.geo_tokens.specs.Bytes.{is_digit, is_word_byte, bytes_of}
-use Rattle.geo_tokens.specs.Cut.{Cut, IsBad, IsTokens}
+use Rattle.geo_tokens.specs.Bytes.{is_white, is_digit, is_word_byte, bytes_of}
+use Rattle.geo_tokens.specs.Cut.{Cut, IsToken, IsBad, IsTokens}
 use Rattle.token_stream.specs.declared.stream.TokenStream.{TokenStream}
 use Rattle.token_stream.specs.declared.stream.Taken.{Taken}
 use Rattle.token_stream.specs.declared.stream.Taken.TheVariants as takes
+use Rattle.token_stream.specs.declared.run.Run.TheVariants as runs
 use Rattle.token_stream.specs.Run.{IsRun, is_word}
 use Rattle.token_stream.specs.Word.{kept_bytes, IsWordOf}
 
@@ -43,6 +45,16 @@ pub record Has (stream : TokenStream) (text : List ℕ) (ts : List Token) : Type
   pub run : HasRun stream rest
   pub stands : Stands text ts stream.start rest
   pub count : stream.count ≡ length text
+
+-- At the front of a piece stands a token of n bytes, with white space on both sides of it.
+pub record IsWhole (stream : TokenStream) (kind : Kind) (n : ℕ) (piece : List ℕ) : Type 0 where
+  pub space : stream.run ≡ runs.Space
+  pub token : IsToken kind n piece
+  pub inside : n < length piece
+  pub white : is_white (slice_index piece n) ≡ true
+
+abbrev pub token_at : Kind → ℕ → ℕ → Token
+token_at kind start end = record { kind = kind; start = start; end = end }
 
 -- the bytes of the name that was whole last
 abbrev pub name_of : TokenStream → List ℕ

@@ -1,16 +1,17 @@
 //! The tokens of a text that comes byte by byte.
 
-ghost use Rattle.std.specs.Prelude.{◌≡◌, ℕ, ◌+◌, ◌<◌, ◌++◌, ◌∷◌, List, [], length, MatchBool, IsTrue, true, false};
+ghost use Rattle.std.specs.Prelude.{◌≡◌, ℕ, ◌+◌, ◌<◌, ◌≤◌, ◌++◌, ◌∷◌, List, [], length, take, IfSome, MatchBool, IsTrue, true, false};
 ghost use Rattle.geo_tokens.specs.declared.token.Token.{Token};
 ghost use Rattle.geo_tokens.specs.Bytes.{is_letter};
 ghost use Rattle.token_stream.specs.Ended.{StreamEnds};
 ghost use Rattle.token_stream.specs.Run.{EndsAt, BeginsNone, is_word};
-ghost use Rattle.token_stream.specs.Stream.{Has, HasRun, Takes, Finishes, name_of};
+ghost use Rattle.token_stream.specs.Stream.{Has, HasRun, IsWhole, Takes, Finishes, name_of, token_at};
 ghost use Rattle.token_stream.specs.Word.{IsWordOf};
 
 use crate::run::{Ended, Run, mark_ended, number_ended};
 use crate::word::Word;
 use geo_tokens::fault::FaultWord;
+use geo_tokens::front::{Front, is_white, next_front};
 use geo_tokens::token::{Kind, Token};
 
 /// What a byte, or the end of the text, completed.
@@ -75,6 +76,58 @@ impl TokenStream {
         } else {
             self.turn(byte)
         }
+    }
+
+    /// Takes the first bytes of a piece, up to one that completes a token at most, and counts them.
+    pub fn take_some(&mut self, piece: &[u8]) -> (usize, Taken)
+        requires some { 0 < length piece.now }
+        requires room { self.old.count + length piece.now ≤ u64.MAX }
+        ensures taken { (text : List ℕ) (ts : List Token) → Has self.old text ts
+            → Takes self.new result.1 (text ++ take result.0 piece.now) ts }
+        ensures counted { self.new.count ≡ self.old.count + result.0 }
+        ensures some { 0 < result.0 }
+        ensures inside { result.0 ≤ length piece.now }
+    {
+        match self.whole_token(piece) {
+            Some((kind, n)) => (n + 1, Taken::Token(self.pass_over(kind, &piece[..n]))),
+            None => (1, self.take(piece[0])),
+        }
+    }
+
+    /// The kind of the token at the front of a piece, and the number of its bytes, where white
+    /// space stands on both sides of it.
+    fn whole_token(&self, piece: &[u8]) -> Option<(Kind, usize)>
+        requires some { 0 < length piece.now }
+        ensures { IfSome result (λ t. IsWhole self.now t.0 t.1 piece.now) }
+    {
+        if let Run::Space = self.run {
+            if let Front::Token(kind, n) = next_front(piece) {
+                if n < piece.len() && is_white(piece[n]) {
+                    return Some((kind, n));
+                }
+            }
+        }
+        None
+    }
+
+    /// Passes over the bytes of a token of this kind, and over the byte of white space behind them.
+    fn pass_over(&mut self, kind: Kind, bytes: &[u8]) -> Token
+        requires room { self.old.count + length bytes.now < u64.MAX }
+        ensures token { result ≡ token_at kind self.old.count (self.old.count + length bytes.now) }
+        ensures run { self.new.run ≡ Run.Space }
+        ensures start { self.new.start ≡ self.old.count + length bytes.now }
+        ensures count { self.new.count ≡ self.old.count + length bytes.now + 1 }
+        ensures name { kind ≡ Kind.Name → length bytes.now ≤ 40 → name_of self.new ≡ bytes.now }
+    {
+        if let Kind::Name = kind {
+            self.word = Word::of(bytes);
+        }
+        let start = self.count;
+        let end = start + bytes.len() as u64;
+        self.run = Run::Space;
+        self.start = end;
+        self.count = end + 1;
+        Token { kind, start, end }
     }
 
     /// The text has ended.

@@ -1,7 +1,7 @@
 //! A word that comes byte by byte.
 
 ghost use Rattle.std.specs.List.{prefix_len};
-ghost use Rattle.std.specs.Prelude.{◌≡◌, ℕ, ◌<◌, ◌++◌, ◌∷◌, List, [], length};
+ghost use Rattle.std.specs.Prelude.{◌≡◌, ℕ, ◌<◌, ◌≤◌, ◌++◌, ◌∷◌, List, [], length};
 ghost use Rattle.geo_tokens.specs.Bytes.{is_word_byte};
 ghost use Rattle.token_stream.specs.Ended.{WordEnds};
 ghost use Rattle.token_stream.specs.Run.{IsWord};
@@ -42,6 +42,17 @@ impl Word {
             self.bytes[self.len] = byte;
         }
         self.len = self.len.saturating_add(1);
+    }
+
+    /// These bytes, where they are a name.
+    pub fn of(bytes: &[u8]) -> Word
+        ensures { length bytes.now ≤ 40 → kept_bytes result ≡ bytes.now }
+    {
+        let mut word = Word::new();
+        for byte in bytes {
+            word.push(*byte);
+        }
+        word
     }
 
     /// The bytes that are kept.
