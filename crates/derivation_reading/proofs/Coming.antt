@@ -1,5 +1,5 @@
 -- A reading that a byte or the end of the text takes on.
-use Rattle.std.proofs.Common.{◌≡◌, ◌+◌, ◌≤◌, ◌<◌, ◌^◌, ℕ, List, [], ◌∷◌, ◌++◌, length, reverse, Bool, true, false, inl, inr, refl, sym, ap, ◌∙◌, append_assoc, subst, arith}
+use Rattle.std.proofs.Common.{◌≡◌, ◌+◌, ◌≤◌, ◌^◌, ℕ, List, [], ◌∷◌, ◌++◌, length, reverse, Bool, true, false, inl, inr, refl, sym, ap, ◌∙◌, append_assoc, subst, arith}
 use Rattle.std.proofs.lemmas.List.{append-nil, length-append}
 use Rattle.std.proofs.lemmas.List.Elements.{All-weaker}
 use Rattle.std.proofs.lemmas.Bool.{leb-false}
@@ -145,7 +145,7 @@ by_its_own n from f text es h = subst (λ (m : NameTable). HasCome m f.place f t
 pub come_by : (n : NameTable) (from : ℕ) (g h : Feeder) (text : List ℕ) (gs : List Event) → g.names.now ≡ n → g.place ≡ from → HasCome g.names.now g.place h text gs → HasCome n from h text gs
 come_by n from g h text gs names place x = subst (λ (m : NameTable). HasCome m from h text gs) names (subst (λ (q : ℕ). HasCome g.names.now q h text gs) place x)
 
--- ---- a byte that a text may have
+-- ---- bytes that a text may have
 
 -- behind no fault, the tokens are those of the stream
 still_has : (stream : TokenStream) (taken : Taken) (text : List ℕ) (ts : List Token) (s : Symbol) → Stops taken (Open s) → Takes stream taken text ts → Has stream text (with_taken ts taken)
@@ -167,25 +167,25 @@ module _ (g : Feeder) (text : List ℕ) (us : List Token) (gs : List Event) (cut
 pub with_byte : (text : List ℕ) (byte : ℕ) (x : List ℕ) → text ++ byte ∷ x ≡ text ++ byte ∷ [] ++ x
 with_byte text byte x = sym (append_assoc text (byte ∷ []) x)
 
-module _ (f g : Feeder) (stream : TokenStream) (s : Symbol) (taken : Taken) (byte : ℕ) (before later : List Event) (open_before : f.progress ≡ Open s)
-    (room : f.stream.count < 2 ^ 40) (takes_it : (text : List ℕ) (ts : List Token) → Has f.stream text ts → Takes stream taken (text ++ byte ∷ []) ts)
+module _ (f g : Feeder) (stream : TokenStream) (s : Symbol) (taken : Taken) (piece : List ℕ) (before later : List Event) (open_before : f.progress ≡ Open s)
+    (room : f.stream.count + length piece ≤ 2 ^ 40) (takes_it : (text : List ℕ) (ts : List Token) → Has f.stream text ts → Takes stream taken (text ++ piece) ts)
     (keeps : Keeps (record f { stream = stream }) g) (grown : Continues before later) (reaches : Reaches (record f { stream = stream }) g s taken before later)
     (stops : Stops taken g.progress) where
-  pub comes_next : Comes f g (byte ∷ []) before later
+  pub comes_next : Comes f g piece before later
   comes_next n from text es come =
       let own = by_its_own n from f text es come in
       let names = f.names.now in
       let is_open : IsOpen names f text es s = subst (λ (p : Progress). IsAt names f.place f p text es) open_before own.far in
       let m : Feeder = record f { stream = stream } in
-      let text_now = text ++ byte ∷ [] in
+      let text_now = text ++ piece in
       let ts = is_open.tokens in
       let ss = s ∷ reverse f.behind.items in
       let us = with_taken ts taken in
       let gs = es ++ grown.0 in
       let there = takes_it text ts is_open.has in
       let count = is_open.has.count in
-      let short : length text_now ≤ most_bytes = omega (arith, count, length-append text (byte ∷ [])) in
-      let read = λ (x : List ℕ). subst (λ (u : List ℕ). IsReadTo names u ts ss es) (with_byte text byte x) (read_to names f text (byte ∷ x) es s is_open) in
+      let short : length text_now ≤ most_bytes = omega (arith, count, length-append text piece) in
+      let read = λ (x : List ℕ). subst (λ (u : List ℕ). IsReadTo names u ts ss es) (sym (append_assoc text piece x)) (read_to names f text (piece ++ x) es s is_open) in
       let shows = λ (x : List ℕ). shows_next m text_now x ts taken short there in
       let cuts = λ (x : List ℕ). cut_to m names (text_now ++ x) ts ss es taken (read x) (shows x) in
       let reached = λ (x : List ℕ). reaches (text_now ++ x) ts es grown.0 grown.1 own.low (read x).opens (shows x) in

@@ -1,5 +1,5 @@
 -- A text has no more events than bytes, and they name what exists.
-use Rattle.std.proofs.Common.{◌≡◌, ◌+◌, ◌-◌, ◌<◌, ◌≤◌, ◌^◌, ℕ, Bool, true, false, List, [], ◌∷◌, ◌++◌, length, map, Option, Some, None, if◌then◌else◌, refl, sym, ap, subst, arith, append-nil, length-append}
+use Rattle.std.proofs.Common.{◌≡◌, ◌+◌, ◌≤◌, ◌^◌, ℕ, Bool, true, false, List, [], ◌∷◌, length, Option, Some, None, if◌then◌else◌, ap, subst, arith, length-append}
 use Rattle.std.specs.Prelude.{codes}
 use Rattle.std.specs.Str.{bytes_eq}
 use Rattle.std.specs.List.{All}
@@ -8,7 +8,6 @@ use Rattle.geo_tokens.specs.declared.token.Token.{Token}
 use Rattle.geo_tokens.specs.Names.{NameTable, IsNameTable}
 use Rattle.geo_tokens.specs.Cut.{Cut, here, behind_gap, behind_token}
 use Rattle.geo_tokens.proofs.Fronts.{gap_inside, token_inside}
-use Rattle.geo_conditions.specs.declared.object.ObjId.{ObjId}
 use Rattle.derivation.specs.declared.event.Event.{Event}
 use Rattle.derivation.specs.Fits.{EventFits}
 use Rattle.derivation_reading.specs.declared.symbol.Sign.TheVariants.{Plus, Minus}
@@ -17,10 +16,10 @@ use Rattle.derivation_reading.specs.declared.symbol.Symbol.TheVariants.{Text, No
 use Rattle.derivation_reading.specs.declared.symbol.Terminal.{Terminal}
 use Rattle.derivation_reading.specs.declared.symbol.Terminal.TheVariants as terminals
 use Rattle.derivation_reading.specs.Terminals.{Lexeme, lexeme, lexemes}
-use Rattle.derivation_reading.specs.Grammar.{Lookup, lookup, Next, Wrong, Unknown, Goes, known, node_by, cover_by, part_by, next, at}
+use Rattle.derivation_reading.specs.Grammar.{Lookup, Next, Wrong, Unknown, Goes, known, node_by, next}
 use Rattle.derivation_reading.specs.Machine.{Leaves, here as at_end, on}
 use Rattle.derivation_reading.specs.declared.feeder.Feeder.{Feeder}
-use Rattle.derivation_reading.specs.FirstFault.{IsText, most_bytes}
+use Rattle.derivation_reading.specs.FirstFault.{IsText}
 use Rattle.derivation_reading.specs.Feeding.{IsOpen}
 use Rattle.derivation_reading.proofs.Fitting.{opens_fit, cut_small}
 

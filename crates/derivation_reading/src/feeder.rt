@@ -1,6 +1,6 @@
 //! Reading a derivation in pieces.
 
-ghost use Rattle.std.specs.Prelude.{◌≡◌, ◌<◌, ◌≤◌, ◌^◌, [], ◌∷◌, ◌++◌, length, reverse, All, IfOk};
+ghost use Rattle.std.specs.Prelude.{◌≡◌, ◌+◌, ◌<◌, ◌≤◌, ◌^◌, IsTrue, take, [], ◌∷◌, ◌++◌, length, reverse, All, IfOk};
 ghost use Rattle.token_stream.specs.declared.stream.Taken.TheVariants as takes;
 ghost use Rattle.token_stream.specs.Stream.{name_of};
 ghost use Rattle.derivation.specs.Events.{Continues};
@@ -84,8 +84,9 @@ impl<'a> Feeder<'a> {
         ensures stays { Stays self.old.progress self.new result out.old.events out.new.events }
     {
         let _dims = self.names.dims();
-        for byte in piece {
-            self.take(*byte, out);
+        let mut at = 0;
+        while at < piece.len() {
+            at += self.take_some(&piece[at..], out);
         }
         self.answer()
     }
@@ -122,6 +123,51 @@ impl<'a> Feeder<'a> {
     {
         let place = self.place.saturating_add(place);
         self.progress = Progress::Failed(TextFault::At(place, word));
+    }
+
+    // Takes the first bytes of a piece, and counts them.
+    fn take_some(&mut self, piece: &[u8], out: &mut Log) -> usize
+        requires some { 0 < length piece.now }
+        ensures come { Comes self.old self.new (take result piece.now)
+            out.old.events out.new.events }
+        ensures stays { StaysClosed self.old.progress self.new.progress
+            out.old.events out.new.events }
+        ensures inside { result ≤ length piece.now }
+        ensures some { 0 < result }
+    {
+        match self.progress {
+            Progress::Open(symbol) if self.has_room(piece.len()) => {
+                self.take_token(symbol, piece, out)
+            }
+            Progress::Open(_) => {
+                self.take(piece[0], out);
+                1
+            }
+            _ => piece.len(),
+        }
+    }
+
+    // Whether a text may have so many bytes more.
+    fn has_room(&self, more: usize) -> bool
+        ensures { IsTrue result → self.now.stream.count + more ≤ 2 ^ 40 }
+    {
+        let count = self.stream.count();
+        count < MOST_BYTES && more as u64 <= MOST_BYTES - count
+    }
+
+    // Takes the first bytes of a piece that a text may have, up to the one that ends a token.
+    fn take_token(&mut self, symbol: Symbol, piece: &[u8], out: &mut Log) -> usize
+        requires open { self.old.progress ≡ Open symbol }
+        requires room { self.old.stream.count + length piece.now ≤ 2 ^ 40 }
+        requires some { 0 < length piece.now }
+        ensures come { Comes self.old self.new (take result piece.now)
+            out.old.events out.new.events }
+        ensures inside { result ≤ length piece.now }
+        ensures some { 0 < result }
+    {
+        let (count, taken) = self.stream.take_some(piece);
+        self.accept_all(symbol, taken, out);
+        count
     }
 
     // Takes a byte, unless the reading has ended.

@@ -1,10 +1,22 @@
 //! What the names and dimensions of a text stand for.
 ghost use Rattle.std.specs.Prelude.{◌≡◌, ◌<◌, ◌≤◌, suc, All, MatchOption, ⊤, length, option_map};
 ghost use Rattle.std.specs.List.{position};
+ghost use Rattle.std.specs.Str.{bytes_eq};
 ghost use Rattle.derivation_reading.specs.Grammar.{has_name, lookup};
 
 use geo_conditions::ObjId;
 use geo_tokens::names::Names;
+
+// Whether the two are the same bytes. A comparison one by one costs least, since names are short.
+fn are_same(name: &[u8], other: &[u8]) -> bool
+    ensures { result ≡ bytes_eq name.now other.now }
+{
+    match (name, other) {
+        ([first, rest @ ..], [byte, more @ ..]) => *first == *byte && are_same(rest, more),
+        ([], []) => true,
+        _ => false,
+    }
+}
 
 // The number of the first object with this name.
 fn number_of(names: &Names, name: &[u8]) -> Option<usize>
@@ -14,7 +26,7 @@ fn number_of(names: &Names, name: &[u8]) -> Option<usize>
     names
         .objects()
         .iter()
-        .position(|o| name == o.name().as_bytes())
+        .position(|o| are_same(name, o.name().as_bytes()))
 }
 
 /// The object with this name.
@@ -31,7 +43,7 @@ fn has_name(names: &Names, name: &[u8], shape: u16) -> bool
     requires { shape < length names.now.shapes }
     ensures { result ≡ has_name names.now name.now shape }
 {
-    name == names.shapes()[shape as usize].as_bytes()
+    are_same(name, names.shapes()[shape as usize].as_bytes())
 }
 
 // The position of the first of these shapes with this name.
