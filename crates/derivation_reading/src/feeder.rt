@@ -155,7 +155,7 @@ impl<'a> Feeder<'a> {
         count < MOST_BYTES && more as u64 <= MOST_BYTES - count
     }
 
-    // Takes the first bytes of a piece that a text may have, up to the one that ends a token.
+    // Takes the first bytes of a piece that a text may have: a whole token, or one byte.
     fn take_token(&mut self, symbol: Symbol, piece: &[u8], out: &mut Log) -> usize
         requires open { self.old.progress ≡ Open symbol }
         requires room { self.old.stream.count + length piece.now ≤ 2 ^ 40 }
@@ -165,9 +165,16 @@ impl<'a> Feeder<'a> {
         ensures inside { result ≤ length piece.now }
         ensures some { 0 < result }
     {
-        let (count, taken) = self.stream.take_some(piece);
-        self.accept_all(symbol, taken, out);
-        count
+        match self.stream.take_whole(piece) {
+            Some((count, token)) => {
+                self.accept(symbol, token, out);
+                count
+            }
+            None => {
+                self.take_next(symbol, piece[0], out);
+                1
+            }
+        }
     }
 
     // Takes a byte, unless the reading has ended.

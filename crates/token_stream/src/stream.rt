@@ -1,8 +1,9 @@
 //! The tokens of a text that comes byte by byte.
 
-ghost use Rattle.std.specs.Prelude.{◌≡◌, ℕ, ◌+◌, ◌<◌, ◌≤◌, ◌++◌, ◌∷◌, List, [], length, take, IfSome, MatchBool, IsTrue, true, false};
+ghost use Rattle.std.specs.Prelude.{◌≡◌, ℕ, ◌+◌, ◌<◌, ◌≤◌, ◌++◌, ◌∷◌, List, [], length, take, IfSome, MatchOption, MatchBool, IsTrue, true, false};
 ghost use Rattle.geo_tokens.specs.declared.token.Token.{Token};
 ghost use Rattle.geo_tokens.specs.Bytes.{is_letter};
+ghost use Rattle.token_stream.specs.declared.stream.Taken.TheVariants as takes;
 ghost use Rattle.token_stream.specs.Ended.{StreamEnds};
 ghost use Rattle.token_stream.specs.Run.{EndsAt, BeginsNone, is_word};
 ghost use Rattle.token_stream.specs.Stream.{Has, HasRun, IsWhole, Takes, Finishes, name_of, token_at};
@@ -78,20 +79,19 @@ impl TokenStream {
         }
     }
 
-    /// Takes the first bytes of a piece, up to one that completes a token at most, and counts them.
-    pub fn take_some(&mut self, piece: &[u8]) -> (usize, Taken)
+    /// Takes the token at the front of a piece and the byte behind it, and counts their bytes,
+    /// where white space stands on both sides of it; else nothing.
+    pub fn take_whole(&mut self, piece: &[u8]) -> Option<(usize, Token)>
         requires some { 0 < length piece.now }
         requires room { self.old.count + length piece.now ≤ u64.MAX }
-        ensures taken { (text : List ℕ) (ts : List Token) → Has self.old text ts
-            → Takes self.new result.1 (text ++ take result.0 piece.now) ts }
-        ensures counted { self.new.count ≡ self.old.count + result.0 }
-        ensures some { 0 < result.0 }
-        ensures inside { result.0 ≤ length piece.now }
+        ensures taken { MatchOption result (self.new ≡ self.old) (λ t. (text : List ℕ)
+            → (ts : List Token) → Has self.old text ts
+            → Takes self.new (takes.Token t.1) (text ++ take t.0 piece.now) ts) }
+        ensures bytes { IfSome result (λ t. (0 < t.0) × (t.0 ≤ length piece.now)) }
+        ensures counted { IfSome result (λ t. self.new.count ≡ self.old.count + t.0) }
     {
-        match self.whole_token(piece) {
-            Some((kind, n)) => (n + 1, Taken::Token(self.pass_over(kind, &piece[..n]))),
-            None => (1, self.take(piece[0])),
-        }
+        let (kind, n) = self.whole_token(piece)?;
+        Some((n + 1, self.pass_over(kind, &piece[..n])))
     }
 
     /// The kind of the token at the front of a piece, and the number of its bytes, where white

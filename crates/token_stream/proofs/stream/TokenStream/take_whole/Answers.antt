@@ -6,15 +6,15 @@ use Rattle.geo_tokens.proofs.Cuts.{token_of}
 use Rattle.token_stream.specs.Stream.{Has, token_at}
 use Rattle.token_stream.proofs.Turns.{name_short}
 use Rattle.token_stream.proofs.Wholes.{has_whole, count_there, text_there}
-use Rattle.token_stream.proofs.stream.TokenStream.take_some.Goals as goal
+use Rattle.token_stream.proofs.stream.TokenStream.take_whole.Goals as goal
 
-pub returns-in-Some-clause-taken : goal.returns-in-Some-clause-taken
-returns-in-Some-clause-taken c = λ text ts has.
+pub returns-clause-taken : goal.returns-clause-taken
+returns-clause-taken c = λ text ts has.
     let s = c.args.self.now in
     let piece = c.args.piece.now in
-    let kind = c.in-Some.kind in
-    let n = c.in-Some.n in
-    let whole = c.in-Some.ensures {u = tt} in
+    let kind = c.in_ok-kind.kind in
+    let n = c.in_ok-kind.n in
+    let whole = c.in_ok-kind.ensures {u = tt} in
     let next = c.pass_over.new.self in
     let passed = c.pass_over.ensures in
     let size : length (take n piece) ≡ n = omega (arith, length-take n piece, whole.inside) in
