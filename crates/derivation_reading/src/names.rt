@@ -7,8 +7,8 @@ ghost use Rattle.derivation_reading.specs.Grammar.{has_name, lookup};
 use geo_conditions::ObjId;
 use geo_tokens::names::Names;
 
-// Whether the two are the same bytes. A comparison one by one costs least, since names are short.
-fn are_same(name: &[u8], other: &[u8]) -> bool
+/// Whether the two are the same bytes. A comparison one by one costs least, since names are short.
+pub fn are_same(name: &[u8], other: &[u8]) -> bool
     ensures { result ≡ bytes_eq name.now other.now }
 {
     match (name, other) {

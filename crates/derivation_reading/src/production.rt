@@ -7,7 +7,7 @@ ghost use Rattle.derivation_reading.specs.declared.symbol.Terminal.TheVariants a
 ghost use Rattle.derivation_reading.specs.Grammar.{Lookup, next, place_by, lookup, goes, gives, text_by, node_by, cover_by, part_by, split_at, bound_at, cut_at, signed};
 ghost use Rattle.derivation_reading.specs.Outcomes.{said, begins, IsMark};
 
-use crate::names::{dimension_of, object_of, place_of};
+use crate::names::{are_same, dimension_of, object_of, place_of};
 use crate::symbol::{Part, Sign, Symbol, Terminal};
 use derivation::Event;
 use geo_conditions::ObjId;
@@ -133,7 +133,7 @@ fn cover_of(o: ObjId, place: u8) -> Outcome
 fn text_by(name: &[u8]) -> Outcome
     ensures { said result ≡ text_by name.now }
 {
-    if name == b"none".as_slice() {
+    if are_same(name, b"none".as_slice()) {
         return Outcome::Goes(Behind::Two(Symbol::Node, Symbol::Qed));
     }
     match node_symbol(name) {
@@ -155,17 +155,17 @@ fn node_by(name: &[u8]) -> Outcome
 fn node_symbol(word: &[u8]) -> Option<Symbol>
     ensures { (more : List SymbolOf) → begins result more ≡ node_by word.now more }
 {
-    if word == b"split".as_slice() {
+    if are_same(word, b"split".as_slice()) {
         Some(Symbol::SplitObject)
-    } else if word == b"drop".as_slice() {
+    } else if are_same(word, b"drop".as_slice()) {
         Some(Symbol::DropObject)
-    } else if word == b"raise".as_slice() {
+    } else if are_same(word, b"raise".as_slice()) {
         Some(Symbol::BoundObject(Part::From))
-    } else if word == b"lower".as_slice() {
+    } else if are_same(word, b"lower".as_slice()) {
         Some(Symbol::BoundObject(Part::Upto))
-    } else if word == b"gone".as_slice() {
+    } else if are_same(word, b"gone".as_slice()) {
         Some(Symbol::GoneObject)
-    } else if word == b"dead".as_slice() {
+    } else if are_same(word, b"dead".as_slice()) {
         Some(Symbol::DeadNumber)
     } else {
         None
@@ -175,11 +175,11 @@ fn node_symbol(word: &[u8]) -> Option<Symbol>
 fn cover_by(word: &[u8]) -> Outcome
     ensures { said result ≡ cover_by word.now }
 {
-    if word == b"by".as_slice() {
+    if are_same(word, b"by".as_slice()) {
         one(Symbol::ByNumber)
-    } else if word == b"cut".as_slice() {
+    } else if are_same(word, b"cut".as_slice()) {
         one(Symbol::CutDimension(Part::Upto))
-    } else if word == b"from".as_slice() {
+    } else if are_same(word, b"from".as_slice()) {
         one(Symbol::CutDimension(Part::From))
     } else {
         Outcome::Wrong
@@ -189,9 +189,9 @@ fn cover_by(word: &[u8]) -> Outcome
 fn part_by(o: ObjId, d: u32, word: &[u8]) -> Outcome
     ensures { said result ≡ part_by o d word.now }
 {
-    if word == b"upto".as_slice() {
+    if are_same(word, b"upto".as_slice()) {
         one(Symbol::SplitNumber(Part::Upto, o, d, Sign::Plus))
-    } else if word == b"from".as_slice() {
+    } else if are_same(word, b"from".as_slice()) {
         one(Symbol::SplitNumber(Part::From, o, d, Sign::Plus))
     } else {
         Outcome::Wrong

@@ -120,7 +120,7 @@ impl TokenStream {
         ensures name { kind ≡ Kind.Name → length bytes.now ≤ 40 → name_of self.new ≡ bytes.now }
     {
         if let Kind::Name = kind {
-            self.word = Word::of(bytes);
+            self.word.set(bytes);
         }
         let start = self.count;
         let end = start + bytes.len() as u64;

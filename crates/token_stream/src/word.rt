@@ -44,15 +44,14 @@ impl Word {
         self.len = self.len.saturating_add(1);
     }
 
-    /// These bytes, where they are a name.
-    pub fn of(bytes: &[u8]) -> Word
-        ensures { length bytes.now ≤ 40 → kept_bytes result ≡ bytes.now }
+    /// Is these bytes from now on, where they are a name.
+    pub fn set(&mut self, bytes: &[u8])
+        ensures { length bytes.now ≤ 40 → kept_bytes self.new ≡ bytes.now }
     {
-        let mut word = Word::new();
+        self.len = 0;
         for byte in bytes {
-            word.push(*byte);
+            self.push(*byte);
         }
-        word
     }
 
     /// The bytes that are kept.

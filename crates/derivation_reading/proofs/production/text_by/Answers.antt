@@ -11,4 +11,4 @@ begun w s other h = rw (sym other) (h (Qed ∷ []))
 
 pub returns-in-Some : goal.returns-in-Some
 returns-in-Some c =
-    begun c.args.name.now c.in-Some.first (c.if-eq.ensures {u = tt} ∙ ap (λ (v : List ℕ). bytes_eq c.args.name.now v) c.as_slice.ensures) (c.in-Some.ensures {u = tt})
+    begun c.args.name.now c.in-Some.first (c.if-are_same.ensures {u = tt} ∙ ap (λ (v : List ℕ). bytes_eq c.args.name.now v) c.as_slice.ensures) (c.in-Some.ensures {u = tt})

@@ -1,7 +1,7 @@
 use Rattle.std.proofs.Common.{ℕ, List, take, sym, ◌∙◌, subst, arith}
 use Rattle.std.proofs.lemmas.List.{take_all, take_more, length-take}
 use Rattle.token_stream.specs.Word.{IsWordOf}
-use Rattle.token_stream.proofs.word.Word.of.Goals as goal
+use Rattle.token_stream.proofs.word.Word.set.Goals as goal
 
 pub loop-byte-preserved : goal.loop-byte-preserved
 loop-byte-preserved c =
@@ -15,4 +15,4 @@ loop-byte-preserved c =
 pub returns : goal.returns
 returns c = λ short.
     let all = take_all c.loop-byte.byte-index c.args.bytes.now c.loop-byte-test.false in
-    (subst (λ (x : List ℕ). IsWordOf c.loop-byte.word x) all c.loop-byte.invariant.of).kept ∙ take_all 40 c.args.bytes.now short
+    (subst (λ (x : List ℕ). IsWordOf c.loop-byte.self x) all c.loop-byte.invariant.of).kept ∙ take_all 40 c.args.bytes.now short
