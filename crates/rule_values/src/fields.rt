@@ -1,6 +1,7 @@
 //! Fields of objects and boxes.
 
-ghost use Rattle.std.specs.Prelude.{◌≡◌, List, map, pos, slice_index_or};
+ghost use Rattle.std.specs.Prelude.{◌≡◌, List, codes, map, pos, slice_index_or};
+ghost use Rattle.std.specs.Str.{bytes_eq};
 ghost use Rattle.problem_data.specs.ProblemView.{attribute_data};
 ghost use Rattle.problem_data.specs.Tuple.{Tuple};
 ghost use Rattle.problem_data.specs.Value.{attribute_in, box_field, dimension_of, object_field};
@@ -58,16 +59,36 @@ fn attribute_of(problem: &Problem, o: usize, name: &Name) -> i64
     }
 }
 
+/// Whether the name is that of an object's own number.
+fn is_id(name: &Name) -> bool
+    ensures { result ≡ bytes_eq name.now (codes "id") }
+{
+    match name.as_bytes() {
+        [first, second] => *first == b'i' && *second == b'd',
+        _ => false,
+    }
+}
+
+/// Whether the name is that of the number of an object's shape.
+fn is_sid(name: &Name) -> bool
+    ensures { result ≡ bytes_eq name.now (codes "sid") }
+{
+    match name.as_bytes() {
+        [first, second, third] => *first == b's' && *second == b'i' && *third == b'd',
+        _ => false,
+    }
+}
+
 /// The field of an object, by its name.
 pub fn object_field(problem: &Problem, o: usize, name: &Name) -> ObjectField
     ensures kind { result ≡ field_at problem.now o name.now }
     ensures value { (t : Tuple) → field_on problem.now t o result
         ≡ object_field problem.now t o name.now }
 {
-    if name.as_bytes() == b"id".as_slice() {
+    if is_id(name) {
         return ObjectField::Constant(o as i128 + 1);
     }
-    if name.as_bytes() == b"sid".as_slice() {
+    if is_sid(name) {
         return ObjectField::Shape;
     }
     match dimension_of(b'x', name) {
