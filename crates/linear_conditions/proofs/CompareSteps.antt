@@ -1,6 +1,6 @@
 -- Steps of the program that grounds comparisons.
 use Rattle.std.proofs.Common.{◌≡◌, ◌^◌, ◌&&◌, ◌||◌, Bool, true, false, cond, not, List, [], ◌∷◌, map, negsuc, sym, ap, ◌∙◌, refl, arith, subst}
-use Rattle.std.specs.Prelude.{Result, Ok, Err, IfOk}
+use Rattle.std.specs.Prelude.{Option, None, Some, Result, Ok, Err, IfOk, IfSome}
 use Rattle.std.specs.List.{list_all}
 use Rattle.rule_syntax.specs.declared.tree.Rel.{Rel}
 use Rattle.rule_syntax.specs.declared.tree.Rel.TheVariants.{Lt, Le, Eq, Ne, Ge, Gt}
@@ -22,6 +22,7 @@ use Rattle.linear_conditions.specs.Forms.{fits_expr, sum_of_expr}
 use Rattle.linear_conditions.specs.Leaves.{negated, difference, plus_one, Leaves, leaves_of, leaf_fits, IsLeaf, AreLeaves}
 use Rattle.linear_conditions.specs.Folding.{fold_linear, joined}
 use Rattle.linear_conditions.specs.Counts.{Counts, Fault, Done, and_then, allowed, within_limits, one_visit, count_sums}
+use Rattle.linear_conditions.specs.Certain.{IsCertain}
 use Rattle.linear_conditions.specs.Compare.{AreSides, allowed_leaves, ground_compare, ground_difference, ground_leaves}
 use Rattle.linear_conditions.specs.Faults.{IsFault, IsMisfit, Gives}
 use Rattle.linear_conditions.specs.Views.{short_view, wide_view}
@@ -131,3 +132,9 @@ sides-compared p a b env fix left right rel k s =
     sides-fit true true c g h = refl
     sides-fit true false c g h = cc
     sides-fit false b c g h = cc
+
+-- what is certain of two short forms is certain of the sides of the comparison
+pub sides-certain : (p : ProblemData) (a b : PlainExprTree) (env : PlainEnv) (fix : List Fixing) (left right : Short) (rel : Rel) (r : Option Bool) → AreSides p a b env fix left right →
+    IfSome r (λ h. IsCertain (ground_difference (difference (short_view left) (short_view right)) rel) 1 h) → IfSome r (λ h. IsCertain (ground_compare p a rel b env fix) 1 h)
+sides-certain p a b env fix left right rel (Some h) s c = record { gives = λ k. sym (sides-compared p a b env fix left right rel k s) ∙ c.gives k }
+sides-certain p a b env fix left right rel None s c = tt

@@ -14,6 +14,7 @@ use Rattle.linear_conditions.specs.Sums.{constant_sum, is_bounded}
 use Rattle.linear_conditions.specs.Leaves.{difference, leaves_of, leaf_fits}
 use Rattle.linear_conditions.specs.Folding.{certain, fold_linear, joined}
 use Rattle.linear_conditions.specs.Counts.{Counts, Fault, Done, and_then, allowed, within_limits, one_visit, count_sums, visit}
+use Rattle.linear_conditions.specs.Certain.{IsCertain}
 use Rattle.linear_conditions.specs.Compare.{ground_difference, ground_leaves}
 use Rattle.linear_conditions.specs.Faults.{IsFault, IsPast}
 use Rattle.linear_conditions.proofs.SumLaws.{neg-value}
@@ -120,3 +121,7 @@ module _ (x y : ℤ) (rel : Rel) (k : Counts) where
       let l = leaves_of rel (constant_sum (less x y)) in
       subst (IsFault CondTree (ground_difference (difference (constant_sum x) (constant_sum y)) rel k)) (sym v.0)
       (counted h ∙ ap (λ o. and_then Counts CondTree o (λ k' same. Done (joined l.all (map fold_linear l.forms)) k')) v.1)
+
+-- two numbers give a condition that is certain
+pub numbers-certain : (x y : ℤ) (rel : Rel) (b : Bool) → is_bounded (less x y) ≡ true → b ≡ compare rel x y → IsCertain (ground_difference (difference (constant_sum x) (constant_sum y)) rel) 1 b
+numbers-certain x y rel b h e = record { gives = λ k. counted x y rel k h ∙ ap (λ t. and_then Counts CondTree (visit k) (λ j same. Done t j)) (folded rel x y ∙ ap certain (sym e)) }

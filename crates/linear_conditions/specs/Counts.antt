@@ -45,6 +45,9 @@ one_leaf k = record k { leaves = k.leaves + 1 }
 abbrev pub visit : Counts → Outcome Counts
 visit k = within_limits (one_visit k)
 
+abbrev pub visits : ℕ → Counts → Outcome Counts
+visits n k = within_limits (record k { visits = k.visits + n })
+
 -- a form that must be at most 0; without terms it is no leaf
 abbrev pub count_sum : Sum → Counts → Counts
 count_sum f k = if has_terms f then record { visits = k.visits; leaves = k.leaves + 1; terms = k.terms + length f.terms } else k

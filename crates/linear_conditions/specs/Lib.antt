@@ -8,6 +8,7 @@ pub mod Leaves
 pub mod Folding
 pub mod Open
 pub mod Counts
+pub mod Certain
 pub mod Compare
 pub mod Room
 pub mod Views

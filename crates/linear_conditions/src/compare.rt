@@ -4,6 +4,7 @@ ghost use Rattle.std.specs.Prelude.{◌≡◌, ◌&&◌, IfOk, IfSome, MatchResu
 ghost use Rattle.std.specs.List.{list_all};
 ghost use Rattle.linear_conditions.specs.Compare.{AreSides, allowed_leaves, ground_compare, ground_difference};
 ghost use Rattle.linear_conditions.specs.CondTree.{CondTree, cond_view};
+ghost use Rattle.linear_conditions.specs.Certain.{IsCertain};
 ghost use Rattle.linear_conditions.specs.Counts.{Done};
 ghost use Rattle.linear_conditions.specs.Faults.{Gives, IsFault};
 ghost use Rattle.linear_conditions.specs.Forms.{fits_expr, sum_of_expr};
@@ -133,6 +134,18 @@ fn compare_numbers(
     Ok(certain(alloc, holds(x, rel, y)))
 }
 
+/// Whether two numbers stand in a relation, where their difference is within the bounds.
+fn numbers_hold(x: i64, rel: Rel, y: i64) -> Option<bool>
+    ensures { IfSome result (λ b. IsCertain
+        (ground_difference (difference (constant_sum x) (constant_sum y)) rel) 1 b) }
+{
+    if is_within(i128::from(x) - i128::from(y)) {
+        Some(holds(x, rel, y))
+    } else {
+        None
+    }
+}
+
 /// A short form less another one.
 fn short_difference(alloc: Global, left: Short, right: Short) -> Result<WideSum, GroundFault>
     requires left { fits_sum (short_view left) ≡ true }
@@ -237,5 +250,34 @@ pub fn compare(
     match short_sides(problem, a, b, &*env, &*fixings) {
         Some((left, right)) => compare_sides(alloc, left, rel, right, counter),
         None => compare_wide(alloc, problem, a, rel, b, &*env, &*fixings, counter),
+    }
+}
+
+/// Whether the sides of a comparison stand in their relation, where both are numbers.
+fn sides_hold(left: Short, rel: Rel, right: Short) -> Option<bool>
+    ensures { IfSome result (λ b. IsCertain
+        (ground_difference (difference (short_view left) (short_view right)) rel) 1 b) }
+{
+    match (left, right) {
+        (Short::Number(x), Short::Number(y)) => numbers_hold(x, rel, y),
+        _ => None,
+    }
+}
+
+/// Whether a comparison holds, where both of its sides are numbers.
+pub fn certain_compare(
+    problem: &Problem,
+    a: &PlainExpr,
+    rel: Rel,
+    b: &PlainExpr,
+    env: &Env,
+    fixings: &Fixings,
+) -> Option<bool>
+    ensures { IfSome result (λ h. IsCertain (ground_compare problem.now (plain_expr_view a.now) rel
+        (plain_expr_view b.now) (env_view env.now) (fixings_view fixings.now)) 1 h) }
+{
+    match short_sides(problem, a, b, &*env, &*fixings) {
+        Some((left, right)) => sides_hold(left, rel, right),
+        None => None,
     }
 }

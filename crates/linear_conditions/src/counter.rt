@@ -1,7 +1,7 @@
 //! What grounding counts.
 
 ghost use Rattle.std.specs.Prelude.{◌≡◌, ◌+◌, ◌∷◌, [], if◌then◌else◌, MatchResult};
-ghost use Rattle.linear_conditions.specs.Counts.{Done, are_within, count_sums, one_leaf, one_visit, visit, within_limits};
+ghost use Rattle.linear_conditions.specs.Counts.{Done, are_within, count_sums, one_leaf, one_visit, visit, visits, within_limits};
 ghost use Rattle.linear_conditions.specs.Faults.{IsPast};
 ghost use Rattle.linear_conditions.specs.Sums.{has_terms};
 ghost use Rattle.linear_conditions.specs.Views.{leaves_view, wide_view};
@@ -84,6 +84,18 @@ impl Counter {
             (λ e. IsPast (visit self.old) e) }
     {
         self.take(self.visits + 1, self.leaves, u128::from(self.terms))
+    }
+
+    /// Counts several visits.
+    pub fn visit_often(&mut self, n: u32) -> Result<(), GroundFault>
+        ensures { let o = visits n self.old in
+            MatchResult result (λ _. o ≡ Done self.new self.new) (λ e. IsPast o e) }
+    {
+        self.take(
+            self.visits + u64::from(n),
+            self.leaves,
+            u128::from(self.terms),
+        )
     }
 
     /// Counts one visit, and one leaf.
