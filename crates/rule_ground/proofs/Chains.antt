@@ -1,10 +1,10 @@
--- One link more in the chains of variables and of fixed shapes, and an implication.
+-- One link more in the chains of variables and of fixed shapes, and views of formulas.
 use Rattle.std.proofs.Common.{◌≡◌, ℕ, List, [], ◌∷◌, sym, ap, ◌∙◌}
-use Rattle.rule_expand.specs.Plain.{PlainFormulaTree, implication}
+use Rattle.rule_expand.specs.Plain.{PlainFormulaTree, any_of, falsehood, implication}
 use Rattle.rule_expand.specs.PlainTruth.{PlainEnv, set_variable}
-use Rattle.rule_expand.specs.PlainView.{plain_formula_view, plain_formula_step}
+use Rattle.rule_expand.specs.PlainView.{plain_formula_view, plain_formula_step, plain_formulas_view}
 use Rattle.rule_expand.specs.declared.plain.PlainFormula.TheOpen.{PlainFormula-F}
-use Rattle.rule_expand.specs.declared.plain.PlainFormula.TheVariants.{Implies, rolls-Implies}
+use Rattle.rule_expand.specs.declared.plain.PlainFormula.TheVariants.{False, Implies, Or, rolls-False, rolls-Implies, rolls-Or}
 use Rattle.rule_expand.specs.declared.plain.PlainFormula.TheFolds.{fold-roll-PlainFormula}
 use Rattle.linear_conditions.specs.Fixings.{Fixing}
 use Rattle.linear_conditions.specs.Views.{fixings_view, fixings_step}
@@ -25,6 +25,12 @@ fixings-more outer o s = ap fixings_view (sym (chain.rolls-More outer o s)) ∙ 
 
 pub view-implies : (f g : _) → plain_formula_view (Implies f g) ≡ implication (plain_formula_view f.value) (plain_formula_view g.value)
 view-implies f g = ap plain_formula_view (sym (rolls-Implies f g)) ∙ fold-roll-PlainFormula PlainFormulaTree plain_formula_step (PlainFormula-F.Implies f g)
+
+pub view-false : plain_formula_view False ≡ falsehood
+view-false = ap plain_formula_view (sym rolls-False) ∙ fold-roll-PlainFormula PlainFormulaTree plain_formula_step PlainFormula-F.False
+
+pub view-or : (fs : _) → plain_formula_view (Or fs) ≡ any_of (plain_formulas_view fs.items)
+view-or fs = ap plain_formula_view (sym (rolls-Or fs)) ∙ fold-roll-PlainFormula PlainFormulaTree plain_formula_step (PlainFormula-F.Or fs)
 
 pub fixings-none : fixings_view chain.Nothing ≡ []
 fixings-none = ap fixings_view (sym chain.rolls-Nothing) ∙ fold-roll-Fixings (List Fixing) fixings_step Fixings-F.Nothing

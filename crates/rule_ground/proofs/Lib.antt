@@ -19,6 +19,7 @@ pub mod Said
 pub mod Behind
 pub mod Arms
 pub mod Chains
+pub mod TellSteps
 pub mod Nodes
 pub mod RuleSteps
 pub mod Meaning

@@ -255,6 +255,11 @@ abbrev mutual
       either_way (List CondTree) (decides all c) (Done (c ∷ []) k')
       (and_then (List CondTree) (List CondTree) (ground_operands p rest all sign env fix k') (λ cs k''. Done (c ∷ cs) k'')))
 
+-- operands that come together: all or one of them must hold
+abbrev pub joined_operands : ProblemData → PlainFormulas → Bool → Bool → PlainEnv → List Fixing → Counts → Outcome CondTree
+joined_operands p fs all sign env fix k =
+    and_then (List CondTree) CondTree (ground_operands p fs all sign env fix k) (λ cs j. Done (joined all cs) j)
+
 -- ---- the objects that a formula names itself
 
 -- the objects whose shapes it asks for by their names, in file order

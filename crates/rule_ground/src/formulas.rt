@@ -2,7 +2,7 @@
 
 ghost use Rattle.std.specs.Prelude.{◌≡◌, ◌∷◌, ◌++◌, [], Err, MatchResult, map};
 ghost use Rattle.linear_conditions.specs.CondTree.{cond_view};
-ghost use Rattle.linear_conditions.specs.Counts.{Counts, Done, and_then, visit};
+ghost use Rattle.linear_conditions.specs.Counts.{Counts, Done, and_then, visit, visits};
 ghost use Rattle.linear_conditions.specs.CondTree.{CondTree};
 ghost use Rattle.linear_conditions.specs.Folding.{certain, joined};
 ghost use Rattle.linear_conditions.specs.Leaves.{under};
@@ -21,6 +21,8 @@ use crate::optional::{absent_place, add_absence, ground_gone, optional_child};
 use crate::quantifiers::{
     Manner, body_sign, is_counted, joined_two, manner_of, quantifier_node, shape_child,
 };
+use crate::signs::compared;
+use crate::told::{Told, told_of};
 use geo_conditions::{Cond, ObjId};
 use linear_conditions::compare::compare;
 use linear_conditions::counter::Counter;
@@ -73,23 +75,6 @@ pub fn join(alloc: Global, all: bool, parts: Vec<Cond>) -> Result<Cond, GroundFa
     Ok(joined(alloc, all, parts)?)
 }
 
-// A comparison under plus (true) or minus.
-fn compared(sign: bool, rel: Rel) -> Rel
-    ensures { result ≡ under sign rel }
-{
-    if sign {
-        return rel;
-    }
-    match rel {
-        Rel::Lt => Rel::Ge,
-        Rel::Le => Rel::Gt,
-        Rel::Eq => Rel::Ne,
-        Rel::Ne => Rel::Eq,
-        Rel::Ge => Rel::Lt,
-        Rel::Gt => Rel::Le,
-    }
-}
-
 // A visit, and a condition that is certain.
 fn ground_certain(alloc: Global, holds: bool, counter: &mut Counter) -> Result<Cond, GroundFault>
     ensures { Gives
@@ -98,6 +83,18 @@ fn ground_certain(alloc: Global, holds: bool, counter: &mut Counter) -> Result<C
 {
     match counter.visit() {
         Ok(()) => Ok(certain(alloc, holds)),
+        Err(e) => Err(e),
+    }
+}
+
+// The visits of a formula that is told, and its condition, which is certain.
+fn ground_told(alloc: Global, told: Told, counter: &mut Counter) -> Result<Cond, GroundFault>
+    ensures { Gives
+        (and_then Counts CondTree (visits told.visits counter.old)
+        (λ k same. Done (certain told.holds) k)) counter.new result }
+{
+    match counter.visit_often(told.visits) {
+        Ok(()) => Ok(certain(alloc, told.holds)),
         Err(e) => Err(e),
     }
 }
@@ -410,15 +407,18 @@ fn ground_whole(
         return Err(e);
     }
     let env = Env::More(&*site.env, site.variable, thing);
-    ground(
-        alloc,
-        problem,
-        &*site.formula,
-        site.sign,
-        &env,
-        &*fixings,
-        counter,
-    )
+    match told_of(problem, &*site.formula, site.sign, &env, &*fixings) {
+        Some(told) => ground_told(alloc, told, counter),
+        None => ground(
+            alloc,
+            problem,
+            &*site.formula,
+            site.sign,
+            &env,
+            &*fixings,
+            counter,
+        ),
+    }
 }
 
 // The child of an object that may be absent, and whose shape is not asked for: its visit and the

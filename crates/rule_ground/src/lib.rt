@@ -16,6 +16,8 @@ mod optional;
 mod own;
 pub mod quantifiers;
 pub mod shapes;
+mod signs;
+mod told;
 pub mod within;
 
 pub use beginning::{order, start};

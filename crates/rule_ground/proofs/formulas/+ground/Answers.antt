@@ -324,8 +324,15 @@ ground_split-returns-then-is_counted t c =
 pub ground_whole-returns-in-Err : goal.ground_whole-returns-in-Err
 ground_whole-returns-in-Err t c = then-fault Counts CondTree (visit c.args.counter.now) _ c.in-Err.e (past-fault (visit c.args.counter.now) c.in-Err.e c.in-Err.ensures)
 
-pub ground_whole-returns : goal.ground_whole-returns
-ground_whole-returns t c =
+pub ground_whole-returns-in-None : goal.ground_whole-returns-in-None
+ground_whole-returns-in-None t c =
     let f = plain_formula_view c.args.site.now.formula.now in
     step-gives (visit c.args.counter.now) _ c.visit.new.self c.ground.new.counter c.ground.result c.in_default.ensures
     (subst (λ e. Gives (grounded c.args.problem.now f c.args.site.now.sign e (fixings_view c.args.fixings.now) c.visit.new.self) c.ground.new.counter c.ground.result) (env-more c.args.site.now.env c.args.site.now.variable c.args.thing) c.ground.ensures)
+
+pub ground_whole-returns-in-Some : goal.ground_whole-returns-in-Some
+ground_whole-returns-in-Some t c =
+    let f = plain_formula_view c.args.site.now.formula.now in
+    step-gives (visit c.args.counter.now) _ c.visit.new.self c.ground_told.new.counter c.ground_told.result c.in_default.ensures
+    (subst (λ e. Gives (grounded c.args.problem.now f c.args.site.now.sign e (fixings_view c.args.fixings.now) c.visit.new.self) c.ground_told.new.counter c.ground_told.result) (env-more c.args.site.now.env c.args.site.now.variable c.args.thing)
+    (subst (λ o. Gives o c.ground_told.new.counter c.ground_told.result) (sym (c.in-Some.ensures.gives c.visit.new.self)) c.ground_told.ensures))
