@@ -145,6 +145,32 @@ sole_in bs s h =
     let one : how_many bs ≡ 1 = eqb-true (how_many bs) 1 p.1 in
     one_there bs s (first_place bs) one p.0 (first_there bs (omega (arith, one))) ∙ sym (sole_one bs one)
 
+-- sets of one length in which nothing is there are one
+none_same : (bs cs : List Bool) → length bs ≡ length cs → how_many bs ≡ 0 → how_many cs ≡ 0 → bs ≡ cs
+none_same [] [] l h k = refl
+none_same [] (c ∷ cs) l h k = absurd (omega arith)
+none_same (b ∷ bs) [] l h k = absurd (omega arith)
+none_same (true ∷ bs) (c ∷ cs) l h k = absurd (omega arith)
+none_same (false ∷ bs) (true ∷ cs) l h k = absurd (omega arith)
+none_same (false ∷ bs) (false ∷ cs) l h k = ap (λ (xs : List Bool). false ∷ xs) (none_same bs cs (omega arith) (omega arith) (omega arith))
+
+first_some : (bs : List Bool) → 0 < how_many bs → first_place bs ≡ 0 → ⊥
+first_some [] h e = omega arith
+first_some (true ∷ bs) h e = omega arith
+first_some (false ∷ bs) h e = omega arith
+
+first_same : (bs cs : List Bool) → length bs ≡ length cs → how_many bs ≡ 1 → how_many cs ≡ 1 → first_place bs ≡ first_place cs → bs ≡ cs
+first_same [] cs l h k e = absurd (omega arith)
+first_same (b ∷ bs) [] l h k e = absurd (omega arith)
+first_same (true ∷ bs) (true ∷ cs) l h k e = ap (λ (xs : List Bool). true ∷ xs) (none_same bs cs (omega arith) (omega arith) (omega arith))
+first_same (true ∷ bs) (false ∷ cs) l h k e = absurd (first_some cs (omega arith) (omega arith))
+first_same (false ∷ bs) (true ∷ cs) l h k e = absurd (first_some bs (omega arith) (omega arith))
+first_same (false ∷ bs) (false ∷ cs) l h k e = ap (λ (xs : List Bool). false ∷ xs) (first_same bs cs (omega arith) (omega arith) (omega arith) (omega arith))
+
+-- sets of one length with the same sole place are one
+pub sole_same : (bs cs : List Bool) → length bs ≡ length cs → how_many bs ≡ 1 → how_many cs ≡ 1 → sole_place bs ≡ sole_place cs → bs ≡ cs
+sole_same bs cs l h k e = first_same bs cs l h k (sym (sole_one bs h) ∙ e ∙ sole_one cs k)
+
 -- the set of one place has that place alone
 pub only_self : (s : ℕ) → 0 < s → place_in (only s) s ≡ true
 only_self zero h = absurd (omega arith)

@@ -43,6 +43,39 @@ impl Model for Form {
     ghost invariant = { λ f. IsForm f.terms.items f.constant };
 }
 
+// A coordinate with its factor as one term.
+fn as_term(given: &(ObjId, usize, i64)) -> Term
+    ensures { result ≡ term_of given.now }
+{
+    let (object, dimension, factor) = *given;
+    Term {
+        object,
+        dimension,
+        factor,
+    }
+}
+
+// The terms in a list.
+fn listed(alloc: Global, terms: &[(ObjId, usize, i64)]) -> Result<SmallVec<Term, 2>, AllocError>
+    ensures { IfOk result (λ list. list.items ≡ map term_of terms.now) }
+{
+    let mut list = SmallVec::new(alloc);
+    for given in terms {
+        list.push(as_term(given))?;
+    }
+    Ok(list)
+}
+
+// The terms as a form keeps them; two fill the inline places.
+fn terms_of(alloc: Global, terms: &[(ObjId, usize, i64)]) -> Result<SmallVec<Term, 2>, AllocError>
+    ensures { IfOk result (λ list. list.items ≡ map term_of terms.now) }
+{
+    match terms {
+        [first, second] => Ok(SmallVec::from_buf(alloc, [as_term(first), as_term(second)])),
+        _ => listed(alloc, terms),
+    }
+}
+
 impl Form {
     /// The form of those terms, which stand in order of object and dimension, each pair once.
     pub fn new(
@@ -54,15 +87,7 @@ impl Form {
         ensures { IfOk result (λ f.
             f ≡ record { terms = map term_of terms.now; constant = constant }) }
     {
-        let mut list = SmallVec::new(alloc);
-        for term in terms {
-            let (object, dimension, factor) = *term;
-            list.push(Term {
-                object,
-                dimension,
-                factor,
-            })?;
-        }
+        let list = terms_of(alloc, terms)?;
         Ok(Form {
             terms: list,
             constant,

@@ -109,6 +109,9 @@ impl ShapeSet {
     pub fn is_same(&self, other: &ShapeSet) -> bool
         ensures { IsTrue result ↔ (self.now ≡ other.now) }
     {
+        if self.count == 1 && other.count == 1 {
+            return self.sole == other.sole;
+        }
         self.there == other.there
     }
 
