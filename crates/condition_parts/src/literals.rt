@@ -5,13 +5,14 @@ ghost use Rattle.geo_conditions.specs.Terms.{term_of};
 ghost use Rattle.condition_parts.specs.Literals.{AddsTo, AddsAll, IsOneOf};
 
 use geo_conditions::{Cond, Conds, Form, ObjId};
+use smallvec::SmallVec;
 use std::alloc::{AllocError, Global};
 
 // A form once more.
 fn copied_form(alloc: Global, f: &Form) -> Result<Form, AllocError>
     ensures { IfOk result (λ g. g ≡ f.now) }
 {
-    let mut terms = Vec::new(alloc);
+    let mut terms: SmallVec<(ObjId, usize, i64), 2> = SmallVec::new(alloc);
     for term in f.terms() {
         terms.push((term.object, term.dimension, term.factor))?;
     }

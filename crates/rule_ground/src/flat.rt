@@ -5,14 +5,15 @@ ghost use Rattle.std.specs.Prelude.{◌≡◌, ◌++◌, ◌∷◌, [], IfOk, On
 ghost use Rattle.linear_conditions.specs.CondTree.{at_least, cond_view, conds};
 ghost use Rattle.rule_ground.specs.Rules.{conds_of, is_count};
 
-use geo_conditions::{Cond, Conds, Form};
+use geo_conditions::{Cond, Conds, Form, ObjId};
+use smallvec::SmallVec;
 use std::alloc::{AllocError, Global};
 
 // A form once more.
 fn copied_form(alloc: Global, f: &Form) -> Result<Form, AllocError>
     ensures { IfOk result (λ g. g ≡ f.now) }
 {
-    let mut terms = Vec::new(alloc);
+    let mut terms: SmallVec<(ObjId, usize, i64), 2> = SmallVec::new(alloc);
     for term in f.terms() {
         terms.push((term.object, term.dimension, term.factor))?;
     }

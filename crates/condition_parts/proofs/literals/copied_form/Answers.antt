@@ -24,11 +24,11 @@ same_form terms constant f a b = λ i. record { terms = a i; constant = b i }
 pub new-requires : goal.new-requires
 new-requires c =
     let f = c.args.f.now in
-    let terms = all_terms c.as_slice.result.now c.loop-term.terms.items c.terms-term-items.result.now f.terms c.loop-term.term-index c.as_slice.ensures.value c.loop-term.invariant c.loop-term-test.false c.terms-term-items.ensures.value in
+    let terms = all_terms c.as_slice.result.now c.loop-term.terms.items c.terms-term-items.result.now f.terms c.loop-term.term-index c.as_slice.ensures c.loop-term.invariant c.loop-term-test.false c.terms-term-items.ensures.value in
     form_again _ f.terms _ f.constant c.terms-term-items.ensures.form terms (kept64 c.constant.result c.constant.type_inv ∙ c.constant.ensures)
 
 pub returns : goal.returns
 returns c =
     let f = c.args.f.now in
-    let terms = all_terms c.as_slice.result.now c.loop-term.terms.items c.terms-term-items.result.now f.terms c.loop-term.term-index c.as_slice.ensures.value c.loop-term.invariant c.loop-term-test.false c.terms-term-items.ensures.value in
+    let terms = all_terms c.as_slice.result.now c.loop-term.terms.items c.terms-term-items.result.now f.terms c.loop-term.term-index c.as_slice.ensures c.loop-term.invariant c.loop-term-test.false c.terms-term-items.ensures.value in
     subst (λ (x : Form). IfOk c.new.result (λ g. g ≡ x)) (same_form _ _ f terms (kept64 c.constant.result c.constant.type_inv ∙ c.constant.ensures)) c.new.ensures
