@@ -63,6 +63,9 @@ pub fn lasting_point<const K: usize, I: Indexical<K>>(
     }
     let _objects = s.objects();
     let low = slice(s, o, d, q.point.get(d));
+    if low.lo.coordinates == low.hi.coordinates {
+        return *q;
+    }
     let way = Way::new(0, false);
     let mut unrecorded = NoRecord::new();
     match first_point_in(
