@@ -13,3 +13,4 @@ pub mod Blaming
 pub mod TakenApart
 pub mod Watching
 pub mod Idle
+pub mod SameReach
