@@ -21,7 +21,7 @@ use Rattle.object_pruning.proofs.Supports.{supports_at}
 use Rattle.fixpoint.specs.Links.{PicksOf, NamedBy, is_among, row}
 use Rattle.fixpoint.specs.Near.{NearUnrefuted, Unhindered}
 use Rattle.fixpoint.specs.Kept.{Slots, IsBlank, AllStand, StandBut, Stand, RetriesMarked, StandsAlone}
-use Rattle.fixpoint.specs.Marks.{MarkRows, IsCleared, MarksAt, NotesChanges}
+use Rattle.fixpoint.specs.Marks.{MarkRows, marks_of, IsCleared, MarksAt, NotesChanges}
 use Rattle.fixpoint.proofs.Names.{still_possible}
 use Rattle.fixpoint.proofs.Linking.{named_all, row_set_same, row_set_other, or_first, or_second}
 
@@ -84,32 +84,32 @@ noted_one cs S T o before after slots same h stay fresh f i q e m d hm nm un =
 pub stand_noted : {K : ℕ} (cs : List Cond) (S T : State) (before after : MarkRows) (kept : Slots K) → length S ≡ length T → AllStand cs S before kept → NotesChanges cs S T before after → AllStand cs T after kept
 stand_noted cs S T before after kept same f n o h =
     let hs : o < length S = omega (arith, h, same) in
-    noted_one cs S T o (row before o) (row after o) (row kept o) same hs (λ u. n.stay o u) (λ u b ne. n.fresh o u hs b (λ e. ne (sym e))) (f o hs)
+    noted_one cs S T o (marks_of before o) (marks_of after o) (row kept o) same hs (λ u. n.stay o u) (λ u b ne. n.fresh o u hs b (λ e. ne (sym e))) (f o hs)
 
 -- an object whose row is cleared after what is kept of it was asked again
 pub stand_cleared : {K : ℕ} (cs : List Cond) (S : State) (o : ℕ) (before after : MarkRows) (old new : Slots K) → AllStand cs S before old → IsCleared o before after → StandsAlone cs S o old new → AllStand cs S after new
 stand_cleared {K} cs S o before after old new f c y u h = elim (cases_eq u o) [
-  | inl s ↦ subst (λ (z : ℕ). StandBut cs S z (row after z) (row new z)) (sym s) (λ i q e m d hm nm un. y.itself i q e m d hm nm)
-  | inr ne ↦ subst (λ (l : List Bool). StandBut cs S u l (row new u)) (sym (c.others u ne)) (subst (λ (l : List (Option (Placed K))). StandBut cs S u (row before u) l) (sym (y.others u ne)) (f u h))
+  | inl s ↦ subst (λ (z : ℕ). StandBut cs S z (marks_of after z) (row new z)) (sym s) (λ i q e m d hm nm un. y.itself i q e m d hm nm)
+  | inr ne ↦ subst (λ (l : List Bool). StandBut cs S u l (row new u)) (sym (c.others u ne)) (subst (λ (l : List (Option (Placed K))). StandBut cs S u (marks_of before u) l) (sym (y.others u ne)) (f u h))
 ]
 
 -- one object changed, and is marked at those that it may hinder
 pub stand_changed : {K : ℕ} (cs : List Cond) (S T : State) (o : ℕ) (before after : MarkRows) (old new : Slots K) → SameBut o S T → length before ≡ length S → AllStand cs S before old → StandsAlone cs T o old new → MarksAt (Unhindered cs T o) o before after → AllStand cs T after new
 stand_changed {K} cs S T o before after old new alone long f y m u h = elim (cases_eq u o) [
-  | inl s ↦ subst (λ (z : ℕ). StandBut cs T z (row after z) (row new z)) (sym s) (λ i q e k d hm nm un. y.itself i q e k d hm nm)
+  | inl s ↦ subst (λ (z : ℕ). StandBut cs T z (marks_of after z) (row new z)) (sym s) (λ i q e k d hm nm un. y.itself i q e k d hm nm)
   | inr ne ↦
       let hs : u < length S = omega (arith, h, alone.objects) in
-      noted_one cs S T u (row before u) (row after u) (row new u) alone.objects hs (λ v. m.stay u v) (λ v b nv un. elim (cases_eq v o) [
-        | inl s ↦ inr (subst (λ (z : ℕ). Unhindered cs T z u) (sym s) (m.fresh u ne (omega (arith, hs, long)) (subst (λ (z : ℕ). get_or (row after u) z false ≡ false) s un)))
+      noted_one cs S T u (marks_of before u) (marks_of after u) (row new u) alone.objects hs (λ v. m.stay u v) (λ v b nv un. elim (cases_eq v o) [
+        | inl s ↦ inr (subst (λ (z : ℕ). Unhindered cs T z u) (sym s) (m.fresh u ne (omega (arith, hs, long)) (subst (λ (z : ℕ). get_or (marks_of after u) z false ≡ false) s un)))
         | inr other ↦ inl (alone.each v other)
-      ]) (subst (λ (l : List (Option (Placed K))). StandBut cs S u (row before u) l) (sym (y.others u ne)) (f u hs))
+      ]) (subst (λ (l : List (Option (Placed K))). StandBut cs S u (marks_of before u) l) (sym (y.others u ne)) (f u hs))
 ]
 
 -- no object changed
 pub stand_same : {K : ℕ} (cs : List Cond) (S T : State) (o : ℕ) (marks : MarkRows) (old new : Slots K) → T ≡ S → AllStand cs S marks old → StandsAlone cs T o old new → AllStand cs T marks new
 stand_same {K} cs S T o marks old new same f y u h = elim (cases_eq u o) [
-  | inl s ↦ subst (λ (z : ℕ). StandBut cs T z (row marks z) (row new z)) (sym s) (λ i q e m d hm nm un. y.itself i q e m d hm nm)
-  | inr ne ↦ subst (λ (l : List (Option (Placed K))). StandBut cs T u (row marks u) l) (sym (y.others u ne)) ((subst (λ (X : State). AllStand cs X marks old) (sym same) f) u h)
+  | inl s ↦ subst (λ (z : ℕ). StandBut cs T z (marks_of marks z) (row new z)) (sym s) (λ i q e m d hm nm un. y.itself i q e m d hm nm)
+  | inr ne ↦ subst (λ (l : List (Option (Placed K))). StandBut cs T u (marks_of marks u) l) (sym (y.others u ne)) ((subst (λ (X : State). AllStand cs X marks old) (sym same) f) u h)
 ]
 
 -- ---- what is kept of one object

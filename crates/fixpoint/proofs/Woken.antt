@@ -16,7 +16,7 @@ use Rattle.object_pruning.proofs.LivePicks.{HaveBelow, fit}
 use Rattle.fixpoint.specs.declared.links.Links.{Links}
 use Rattle.geo_conditions.specs.declared.object.ObjId.{ObjId}
 use Rattle.fixpoint.specs.Links.{AreLinks, AreSomeRows, IsByPlace, row, is_among}
-use Rattle.fixpoint.specs.Marks.{MarkRows, is_marked, IsSquare, MarksAt, NotesChanges}
+use Rattle.fixpoint.specs.Marks.{MarkRows, is_marked, marks_of, IsSquare, MarksAt, NotesChanges}
 use Rattle.fixpoint.specs.Near.{IsPair, Unhinders, Unhindered, UnhinderedBy}
 use Rattle.fixpoint.specs.Queue.{Queues, CatchesUp}
 use Rattle.fixpoint.proofs.Linking.{row_set_same, row_set_other, row_before, row_last, length_more, nth, each_named, among_not}
@@ -45,16 +45,6 @@ queues_both First Second Both u old mid new f p q = record {
       (v.0, f o v.1 w.1);
 }
 
--- one object is queued
-pub queues_one : (u o : ℕ) (q : List Bool) → o < length q → o ≢ u → Queues (λ v. v ≢ o) u q (set q o true)
-queues_one u o q h ne = record {
-  objects = length-set q o true;
-  itself = get_or-set_other q o u true false (λ e. ne (sym e));
-  others = λ v n b f.
-      let other : v ≢ o = λ e. false≢true (sym f ∙ subst (λ (z : ℕ). get_or (set q o true) z false ≡ true) (sym e) (get_or-set_same q o true false h)) in
-      (sym (get_or-set_other q o v true false other) ∙ f, other);
-}
-
 -- ---- what is marked
 
 pub marks_none : (Free : ℕ → Type 0) (u : ℕ) (marks : MarkRows) → ((o : ℕ) → o ≢ u → o < length marks → Free o) → MarksAt Free u marks marks
@@ -69,35 +59,13 @@ marks_both First Second Both u old mid new long f p q = record {
   fresh = λ o n h e. f o (p.fresh o n h (q.stay o u e)) (q.fresh o n (omega (arith, h, long)) e);
 }
 
-module _ (u o : ℕ) (marks : MarkRows) (v : Vec Bool Global) (h : o < length marks) (b : u < length (row marks o)) (items : v.items ≡ set (row marks o) u true) where
-  put_row : (w : ℕ) → is_marked (set marks o v) o w ≡ get_or (set (row marks o) u true) w false
-  put_row w = ap (λ (l : List Bool). get_or l w false) (row_set_same marks o v h ∙ items)
-
-  put_here : is_marked (set marks o v) o u ≡ true
-  put_here = put_row u ∙ get_or-set_same (row marks o) u true false b
-
-  put_stay : (w : ℕ) → is_marked (set marks o v) o w ≡ false → is_marked marks o w ≡ false
-  put_stay w e =
-      let other : w ≢ u = λ s. false≢true (sym e ∙ subst (λ (z : ℕ). is_marked (set marks o v) o z ≡ true) (sym s) put_here) in
-      sym (get_or-set_other (row marks o) u w true false other) ∙ sym (put_row w) ∙ e
-
-  -- u is marked at one object
-  pub marks_one : MarksAt (λ p. p ≢ o) u marks (set marks o v)
-  marks_one = record {
-    stay = λ p w e. elim (cases_eq p o) [
-      | inl s ↦ subst (λ (z : ℕ). is_marked marks z w ≡ false) (sym s) (put_stay w (subst (λ (z : ℕ). is_marked (set marks o v) z w ≡ false) s e))
-      | inr ne ↦ sym (ap (λ (l : List Bool). get_or l w false) (row_set_other marks o p v ne)) ∙ e
-    ];
-    fresh = λ p n k e s. false≢true (sym e ∙ subst (λ (z : ℕ). is_marked (set marks o v) z u ≡ true) (sym s) put_here);
-  }
-
 -- a row is replaced by one as long
-pub square_put : (n o : ℕ) (marks : MarkRows) (v : Vec Bool Global) → o < length marks → length v.items ≡ n → IsSquare n marks → IsSquare n (set marks o v)
+pub square_put : (n o : ℕ) (marks : MarkRows) (v : List Bool) → o < length marks → length v ≡ n → IsSquare n marks → IsSquare n (set marks o v)
 square_put n o marks v h long s = record {
   rows = length-set marks o v ∙ s.rows;
   each = λ p b. elim (cases_eq p o) [
-    | inl e ↦ subst (λ (z : ℕ). length (row (set marks o v) z) ≡ n) (sym e) (ap length (row_set_same marks o v h) ∙ long)
-    | inr ne ↦ ap length (row_set_other marks o p v ne) ∙ s.each p b
+    | inl e ↦ subst (λ (z : ℕ). length (marks_of (set marks o v) z) ≡ n) (sym e) (ap length (get_or-set_same marks o v [] h) ∙ long)
+    | inr ne ↦ ap length (get_or-set_other marks o p v [] ne) ∙ s.each p b
   ];
 }
 
@@ -122,17 +90,6 @@ marked_skip u list o old q before marks e x y z = record {
   marked = marks_weaker _ _ u before marks (λ p n h f. among_not p list o f (λ s. n (s ∙ e))) y;
   square = z;
 }
-
--- the rows are made one by one
-pub rows_more : (n k : ℕ) (marks : MarkRows) (v : Vec Bool Global) → length v.items ≡ n → (length marks ≡ k) × ((o : ℕ) → o < k → length (row marks o) ≡ n)
-    → (length (marks ++ v ∷ []) ≡ k + 1) × ((o : ℕ) → o < k + 1 → length (row (marks ++ v ∷ []) o) ≡ n)
-rows_more n k marks v long m = (
-  length_more marks v ∙ ap (λ (z : ℕ). z + 1) m.0,
-  λ o b. elim (cases_eq o k) [
-    | inl e ↦ subst (λ (z : ℕ). length (row (marks ++ v ∷ []) z) ≡ n) (m.0 ∙ sym e) (ap length (row_last marks v) ∙ long)
-    | inr ne ↦ ap length (row_before marks v o (omega (arith, b, ne, m.0))) ∙ m.1 o (omega (arith, b, ne))
-  ],
-)
 
 -- ---- the conditions that name u
 

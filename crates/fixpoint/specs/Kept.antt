@@ -12,7 +12,7 @@ use Rattle.object_pruning.specs.declared.kept.Placed.{Placed}
 use Rattle.object_pruning.specs.Gathered.{AllPossible}
 use Rattle.object_pruning.specs.Kept.{placed}
 use Rattle.fixpoint.specs.Links.{row}
-use Rattle.fixpoint.specs.Marks.{MarkRows, NamesUnmarked}
+use Rattle.fixpoint.specs.Marks.{MarkRows, NamesUnmarked, marks_of}
 use Rattle.fixpoint.specs.Near.{NearUnrefuted}
 
 -- the slots of each object
@@ -37,7 +37,7 @@ StandBut {K} cs S o marks slots = (i : ℕ) (q : Placed K) → slice_index_or sl
 
 -- so it is of each object with its row of marks
 abbrev pub AllStand : {K : ℕ} → List Cond → State → MarkRows → Slots K → Type 0
-AllStand cs S marks kept = (o : ℕ) → o < length S → StandBut cs S o (row marks o) (row kept o)
+AllStand cs S marks kept = (o : ℕ) → o < length S → StandBut cs S o (marks_of marks o) (row kept o)
 
 -- with the object at what is kept in its slots, no condition that names it is refuted
 abbrev pub Stand : {K : ℕ} → List Cond → State → ℕ → List (Option (Placed K)) → Type 0

@@ -1,25 +1,26 @@
 -- Marks: for each object a row with a mark for each neighbour that changed since what is kept of the object was last asked.
-use Rattle.std.specs.Prelude.{◌≡◌, ◌≢◌, ◌⊎◌, ℕ, ◌<◌, Bool, true, false, List, length, slice_index_or}
-use Rattle.std.specs.declared.vec.Vec.{Vec}
-use Rattle.std.specs.declared.alloc.Global.{Global}
+use Rattle.std.specs.Prelude.{◌≡◌, ◌≢◌, ◌⊎◌, ℕ, ◌<◌, Bool, true, false, List, [], length, slice_index_or}
 use Rattle.geo_conditions.specs.declared.cond.Cond.{Cond}
 use Rattle.geo_conditions.specs.Reach.{State, reach}
 use Rattle.indexical.specs.Names.{names}
-use Rattle.fixpoint.specs.Links.{row}
 use Rattle.fixpoint.specs.Near.{Unhindered}
 
 -- a row of marks for each object
 abbrev pub MarkRows : Type 0
-MarkRows = List (Vec Bool Global)
+MarkRows = List (List Bool)
+
+-- the row of the object o
+abbrev pub marks_of : MarkRows → ℕ → List Bool
+marks_of marks o = slice_index_or marks o []
 
 -- whether the object u is marked in the row of o
 abbrev pub is_marked : MarkRows → ℕ → ℕ → Bool
-is_marked marks o u = slice_index_or (row marks o) u false
+is_marked marks o u = slice_index_or (marks_of marks o) u false
 
 -- n rows of n marks
 pub record IsSquare (n : ℕ) (marks : MarkRows) : Type 0 where
   pub rows : length marks ≡ n
-  pub each : (o : ℕ) → o < n → length (row marks o) ≡ n
+  pub each : (o : ℕ) → o < n → length (marks_of marks o) ≡ n
 
 -- u is marked at each object, but u and those that are free; what was marked is marked still
 pub record MarksAt (Free : ℕ → Type 0) (u : ℕ) (old new : MarkRows) : Type 0 where
@@ -38,4 +39,4 @@ NamesUnmarked marks c = (u : ℕ) → names u c ≡ true → slice_index_or mark
 -- no object is marked in the row of o, and the other rows are as they were
 pub record IsCleared (o : ℕ) (old new : MarkRows) : Type 0 where
   pub itself : (u : ℕ) → is_marked new o u ≡ false
-  pub others : (u : ℕ) → u ≢ o → row new u ≡ row old u
+  pub others : (u : ℕ) → u ≢ o → marks_of new u ≡ marks_of old u

@@ -9,6 +9,7 @@ ghost use Rattle.fixpoint.specs.Queue.{CatchesUp};
 ghost use Rattle.watches.specs.Watches.{Later};
 
 use crate::links::Links;
+use crate::marks::Marks;
 use crate::waking::wake;
 use geo_base::MAX_DIMS;
 use geo_conditions::{ObjId, State};
@@ -101,7 +102,7 @@ pub fn queue_changed<const K: usize>(
     from: &State<K>,
     to: &State<K>,
     queued: &mut [bool],
-    dirty: &mut [Vec<bool>],
+    dirty: &mut [Marks],
     watches: &mut Watches,
 )
     requires k { K ≤ MAX_DIMS }

@@ -12,10 +12,10 @@ ghost use Rattle.fixpoint.specs.declared.pairs.RowGroup.{RowGroup};
 ghost use Rattle.fixpoint.specs.Pairs.{AreSomePairs, HaveBeside, HaveIn, IsGroupOf};
 ghost use Rattle.fixpoint.specs.Kept.{AllStand, AsksSlot, IsBlank, IsKnown, RetriesMarked, RetriesThose, Stand, StandBut, StandsAlone};
 ghost use Rattle.fixpoint.specs.Marks.{IsCleared, IsSquare};
-ghost use Rattle.fixpoint.specs.declared.kept.TheConstants.{BLOCK};
 ghost use Rattle.watches.specs.Watches.{Hold};
 
 use crate::links::Links;
+use crate::marks::Marks;
 use crate::pairs::{Pairs, RowGroup};
 use geo_base::MAX_DIMS;
 use geo_conditions::{ObjId, State};
@@ -353,56 +353,13 @@ fn ask_all<const K: usize>(
     }
 }
 
-// How many marks are looked at together.
-const BLOCK: usize = 16;
-
-// Whether one of the marks of a block is set.
-#[inline(always)]
-fn is_any_set(marks: &[bool], first: usize) -> bool
-    requires { first + BLOCK ≤ length marks.now }
-    ensures { result ≡ false → (u : ℕ) → first ≤ u → u < first + BLOCK
-        → slice_index_or marks.now u false ≡ false }
-{
-    let mut any = false;
-    for k in 0..BLOCK {
-        any |= marks[first + k];
-    }
-    any
-}
-
-// The first mark from `from` on of a block in which one is set, or of what is left behind the last block.
-fn skip_blocks(marks: &[bool], from: usize) -> usize
-    requires { from ≤ length marks.now }
-    ensures within { (from ≤ result) × (result ≤ length marks.now) }
-    ensures none { (u : ℕ) → from ≤ u → u < result → slice_index_or marks.now u false ≡ false }
-{
-    let mut at = from;
-    while marks.len() - at >= BLOCK && !is_any_set(marks, at) {
-        at += BLOCK;
-    }
-    at
-}
-
-// The first mark from `from` on that is set, or the number of marks where none is.
-fn next_marked(marks: &[bool], from: usize) -> usize
-    requires { from ≤ length marks.now }
-    ensures within { (from ≤ result) × (result ≤ length marks.now) }
-    ensures none { (u : ℕ) → from ≤ u → u < result → slice_index_or marks.now u false ≡ false }
-{
-    let mut at = skip_blocks(marks, from);
-    while at < marks.len() && !marks[at] {
-        at += 1;
-    }
-    at
-}
-
 // Asks at the groups of each marked object, where the object itself is not marked.
 fn ask_marked<const K: usize>(
     list: &[AnyIndexical<K>],
     pairs: &Pairs,
     o: ObjId,
     s: &State<K>,
-    marks: &[bool],
+    marks: &Marks,
     kept: &mut [Option<Placed<K>>],
 )
     requires k { K ≤ MAX_DIMS }
@@ -413,10 +370,10 @@ fn ask_marked<const K: usize>(
     ensures { RetriesThose (map (λ x. x.cond) list.now) s.now o.0 marks.now
         (HaveBeside pairs.now.beside.items) kept.old kept.new }
 {
-    let mut u = next_marked(marks, 0);
+    let mut u = marks.next(0);
     while u < pairs.beside.len() {
         ask_groups(list, &pairs.beside[u], o, u, s, kept);
-        u = next_marked(marks, u + 1);
+        u = marks.next(u + 1);
     }
 }
 
@@ -426,7 +383,7 @@ fn ask_pairs<const K: usize>(
     pairs: &Pairs,
     o: ObjId,
     s: &State<K>,
-    marks: &[bool],
+    marks: &Marks,
     kept: &mut [Option<Placed<K>>],
 )
     requires k { K ≤ MAX_DIMS }
@@ -436,7 +393,7 @@ fn ask_pairs<const K: usize>(
     ensures { RetriesThose (map (λ x. x.cond) list.now) s.now o.0 marks.now
         (HaveBeside pairs.now.beside.items) kept.old kept.new }
 {
-    if marks[o.0 as usize] {
+    if marks.has(o.0 as usize) {
         ask_all(list, pairs, o, s, kept);
     } else {
         ask_marked(list, pairs, o, s, marks, kept);
@@ -450,7 +407,7 @@ fn ask_again<const K: usize>(
     links: &Links,
     o: usize,
     s: &State<K>,
-    marks: &[bool],
+    marks: &Marks,
     watches: &mut Watches,
     kept: &mut [Option<Placed<K>>],
 )
@@ -467,16 +424,8 @@ fn ask_again<const K: usize>(
     let object = ObjId(o as u16);
     let pairs = &links.pairs[o];
     ask_pairs(list, pairs, object, s, marks, kept);
-    ask_others(list, links, &pairs.others, object, s, marks, watches, kept);
-}
-
-// Takes all marks away.
-fn clear(marks: &mut [bool])
-    ensures { (u : ℕ) → slice_index_or marks.new u false ≡ false }
-{
-    for mark in marks.iter_mut() {
-        *mark = false;
-    }
+    let marked = marks.as_slice();
+    ask_others(list, links, &pairs.others, object, s, marked, watches, kept);
 }
 
 /// Asks what is kept of the object again where a neighbour changed. Then all of it stands, and no neighbour is marked any more.
@@ -485,7 +434,7 @@ pub fn refresh<const K: usize>(
     links: &Links,
     o: usize,
     s: &State<K>,
-    dirty: &mut [Vec<bool>],
+    dirty: &mut [Marks],
     watches: &mut Watches,
     kept: &mut [Vec<Option<Placed<K>>>],
 )
@@ -502,5 +451,5 @@ pub fn refresh<const K: usize>(
     ensures hold { Hold (map (λ x. x.cond) list.now) s.now watches.new }
 {
     ask_again(list, links, o, s, &dirty[o], watches, &mut kept[o]);
-    clear(&mut dirty[o]);
+    dirty[o].clear();
 }

@@ -5,6 +5,7 @@ mod apart;
 mod differences;
 mod kept;
 mod links;
+mod marks;
 mod pairs;
 mod propagation;
 mod queue;

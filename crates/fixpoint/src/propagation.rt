@@ -23,6 +23,7 @@ ghost use Rattle.watches.specs.Watches.{Hold};
 use crate::differences::queue_changed;
 use crate::kept::{all_blank, blank_slots, refresh};
 use crate::links::{Links, links_of};
+use crate::marks::Marks;
 use crate::queue::pop;
 use crate::waking::{no_marks, wake};
 use derivation::{Event, Recorder};
@@ -106,7 +107,7 @@ fn prune_and_wake<const K: usize, R: Recorder>(
     o: usize,
     t: &mut Trailed<K>,
     queued: &mut [bool],
-    dirty: &mut [Vec<bool>],
+    dirty: &mut [Marks],
     watches: &mut Watches,
     kept: &mut [Vec<Option<Placed<K>>>],
     hints: &mut [Option<Placed<K>>],
@@ -153,7 +154,7 @@ fn prune_queued<const K: usize, R: Recorder>(
     list: &[AnyIndexical<K>],
     links: &Links,
     queued: &mut [bool],
-    dirty: &mut [Vec<bool>],
+    dirty: &mut [Marks],
     t: &mut Trailed<K>,
     watches: &mut Watches,
     kept: &mut [Vec<Option<Placed<K>>>],
@@ -207,7 +208,7 @@ fn settle<const K: usize, R: Recorder>(
     links: &Links,
     last: &mut State<K>,
     queued: &mut [bool],
-    dirty: &mut [Vec<bool>],
+    dirty: &mut [Marks],
     watches: &mut Watches,
     kept: &mut [Vec<Option<Placed<K>>>],
     hints: &mut [Option<Placed<K>>],
@@ -269,7 +270,7 @@ pub struct QueueFixpoint<const K: usize> {
     links: Links,
     last: State<K>,
     pub queued: Vec<bool>,
-    dirty: Vec<Vec<bool>>,
+    dirty: Vec<Marks>,
     watches: Watches,
     kept: Vec<Vec<Option<Placed<K>>>>,
     hints: Vec<Option<Placed<K>>>,

@@ -14,34 +14,27 @@ ghost use Rattle.fixpoint.specs.Near.{IsPair, LeavesPairsFree, Unhindered, Unhin
 ghost use Rattle.fixpoint.specs.Queue.{Queues};
 
 use crate::links::Links;
+use crate::marks::Marks;
 use geo_base::MAX_DIMS;
 use geo_conditions::{ObjId, State};
 use indexical::AnyIndexical;
 use object_pruning::{Group, Rows};
 use std::alloc::{AllocError, Global};
 
-/// A row of marks for each of that number of objects, with no object marked. The answer is an error where memory is short.
-pub fn no_marks(alloc: Global, objects: usize) -> Result<Vec<Vec<bool>>, AllocError>
+/// A row of marks for each of that number of objects, with no object marked. The answer is an error
+/// where memory is short.
+pub fn no_marks(alloc: Global, objects: usize) -> Result<Vec<Marks>, AllocError>
     ensures { IfOk result (λ v. IsSquare objects v.items) }
 {
     let mut marks = Vec::new(alloc);
     for _ in 0..objects {
-        let row = Vec::from_elem(alloc, false, objects)?;
-        marks.push(row)?;
+        marks.push(Marks::start(alloc, objects)?)?;
     }
     Ok(marks)
 }
 
-// Marks u in a row.
-fn set_mark(marks: &mut [bool], u: usize)
-    requires { u < length marks.old }
-    ensures { marks.new ≡ slice_set marks.old u true }
-{
-    marks[u] = true;
-}
-
 // Queues o, and marks u at it.
-fn wake_at(u: usize, o: usize, queued: &mut [bool], dirty: &mut [Vec<bool>])
+fn wake_at(u: usize, o: usize, queued: &mut [bool], dirty: &mut [Marks])
     requires objects { (u < length queued.old) × (o < length queued.old) × (o ≢ u) }
     requires square { IsSquare (length queued.old) dirty.old }
     ensures queued { Queues (λ v. v ≢ o) u queued.old queued.new }
@@ -49,11 +42,11 @@ fn wake_at(u: usize, o: usize, queued: &mut [bool], dirty: &mut [Vec<bool>])
     ensures square { IsSquare (length queued.old) dirty.new }
 {
     queued[o] = true;
-    set_mark(&mut dirty[o], u);
+    dirty[o].set(u);
 }
 
 // Queues the objects of the list, but u, and marks u at each.
-fn mark(list: &[ObjId], u: usize, queued: &mut [bool], dirty: &mut [Vec<bool>])
+fn mark(list: &[ObjId], u: usize, queued: &mut [bool], dirty: &mut [Marks])
     requires list { All (λ o. o.0 < length queued.old) list.now }
     requires object { u < length queued.old }
     requires square { IsSquare (length queued.old) dirty.old }
@@ -76,7 +69,7 @@ fn wake_named<const K: usize>(
     u: ObjId,
     s: &State<K>,
     queued: &mut [bool],
-    dirty: &mut [Vec<bool>],
+    dirty: &mut [Marks],
 )
     requires fits { FitsIn x.now.cond s.now }
     requires named { NamedBy x.now.cond (length queued.old) named.now }
@@ -100,7 +93,7 @@ fn wake_others<const K: usize>(
     u: ObjId,
     s: &State<K>,
     queued: &mut [bool],
-    dirty: &mut [Vec<bool>],
+    dirty: &mut [Marks],
 )
     requires fits { AllFit (map (λ x. x.cond) list.now) s.now }
     requires links { AreLinks (map (λ x. x.cond) list.now) (length queued.old) links.now }
@@ -143,13 +136,13 @@ fn may_hinder<const K: usize>(
 }
 
 // Whether v is queued, and u is marked at it.
-fn is_woken(queued: &[bool], dirty: &[Vec<bool>], u: usize, v: usize) -> bool
+fn is_woken(queued: &[bool], dirty: &[Marks], u: usize, v: usize) -> bool
     requires objects { (u < length queued.now) × (v < length queued.now) }
     requires square { IsSquare (length queued.now) dirty.now }
     ensures { IsTrue result → (slice_index_or queued.now v false ≡ true)
         × (is_marked dirty.now v u ≡ true) }
 {
-    queued[v] && dirty[v][u]
+    queued[v] && dirty[v].has(u)
 }
 
 // Queues v and marks u at it, where u may hinder it by a condition of the group, and its conditions
@@ -162,7 +155,7 @@ fn wake_one<const K: usize>(
     v: usize,
     s: &State<K>,
     queued: &mut [bool],
-    dirty: &mut [Vec<bool>],
+    dirty: &mut [Marks],
 )
     requires fits { AllFit (map (λ x. x.cond) list.now) s.now }
     requires numbers { (i : ℕ) → IsInGroup group.now i → (0 < i) × (i - 1 < length list.now) }
@@ -203,7 +196,7 @@ fn wake_group<const K: usize>(
     u: ObjId,
     s: &State<K>,
     queued: &mut [bool],
-    dirty: &mut [Vec<bool>],
+    dirty: &mut [Marks],
 )
     requires fits { AllFit (map (λ x. x.cond) list.now) s.now }
     requires links { AreLinks (map (λ x. x.cond) list.now) (length queued.old) links.now }
@@ -233,7 +226,7 @@ fn wake_row<const K: usize>(
     u: ObjId,
     s: &State<K>,
     queued: &mut [bool],
-    dirty: &mut [Vec<bool>],
+    dirty: &mut [Marks],
 )
     requires fits { AllFit (map (λ x. x.cond) list.now) s.now }
     requires links { AreLinks (map (λ x. x.cond) list.now) (length queued.old) links.now }
@@ -294,7 +287,7 @@ fn wake_by_place<const K: usize>(
     u: ObjId,
     s: &State<K>,
     queued: &mut [bool],
-    dirty: &mut [Vec<bool>],
+    dirty: &mut [Marks],
 )
     requires k { K ≤ MAX_DIMS }
     requires fits { AllFit (map (λ x. x.cond) list.now) s.now }
@@ -322,7 +315,7 @@ pub fn wake<const K: usize>(
     u: usize,
     s: &State<K>,
     queued: &mut [bool],
-    dirty: &mut [Vec<bool>],
+    dirty: &mut [Marks],
 )
     requires k { K ≤ MAX_DIMS }
     requires fits { AllFit (map (λ x. x.cond) list.now) s.now }

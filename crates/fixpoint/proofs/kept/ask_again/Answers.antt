@@ -1,4 +1,4 @@
-use Rattle.std.proofs.Common.{◌<◌, ◌-◌, ℕ, List, length, map, sym, subst, rules}
+use Rattle.std.proofs.Common.{◌<◌, ◌-◌, ℕ, Bool, List, length, map, sym, subst, rules}
 use Rattle.std.proofs.lemmas.List.{length-map}
 use Rattle.indexical.specs.declared.any.AnyIndexical.{AnyIndexical}
 use Rattle.fixpoint.specs.declared.pairs.Pairs.{Pairs}
@@ -47,6 +47,7 @@ returns-clause-kept g c =
     let mid = c.ask_pairs.new.kept in
     let new = c.ask_others.new.kept in
     let first = subst (λ (p : Pairs). RetriesThose cs S o marks (HaveBeside p.beside.items) old mid) c.index-pairs.ensures c.ask_pairs.ensures in
-    let others = subst (λ (bs : List RowGroup). RetriesThose cs S o marks (HaveIn bs) mid new) c.deref.ensures.value c.ask_others.ensures.kept in
+    let marked = subst (λ (ms : List Bool). RetriesThose cs S o ms (HaveIn c.deref.result.now) mid new) c.as_slice-marked.ensures c.ask_others.ensures.kept in
+    let others = subst (λ (bs : List RowGroup). RetriesThose cs S o marks (HaveIn bs) mid new) c.deref.ensures.value marked in
     let second = subst (λ (p : Pairs). RetriesThose cs S o marks (HaveIn p.others.items) mid new) c.index-pairs.ensures others in
     pairs_asked cs S o marks c.args.links.now own old mid new c.requires.links c.requires.object.0 first second c.requires.stand

@@ -16,8 +16,8 @@ loop-u-init g c =
     let a = c.requires.pairs in
     let lists = c.args.pairs.now.beside.items in
     let kept = c.args.kept.now in
-    those_skip cs c.args.s.now c.args.o.0 marks lists 0 c.next_marked-u.result kept kept (λ u k b e. subst (λ (n : ℕ). NamesNoThird cs n c.args.o.0 u b.group) (sym c.requires.object.1) (a.2.beside u b (k, e)).1) c.requires.own
-    c.next_marked-u.ensures.none
+    those_skip cs c.args.s.now c.args.o.0 marks lists 0 c.next-u.result kept kept (λ u k b e. subst (λ (n : ℕ). NamesNoThird cs n c.args.o.0 u b.group) (sym c.requires.object.1) (a.2.beside u b (k, e)).1) c.requires.own
+    c.next-u.ensures.none
     (those_none cs c.args.s.now c.args.o.0 marks (BesideBelow lists 0) kept (λ i p. absurd (omega (arith, p.1))))
 
 pub ask_groups-requires : goal.ask_groups-requires
@@ -46,8 +46,8 @@ loop-u-preserved g c =
     let new = c.ask_groups.new.kept in
     let h : u < length lists = omega (arith, c.loop-u-test.true, c.len.ensures) in
     let same : c.deref.result.now ≡ row lists u = c.deref.ensures.value ∙ ap (λ (v : Vec RowGroup Global). v.items) c.index.ensures ∙ sym (row_get lists u c.index.result.now h) in
-    those_skip cs S o marks lists (u + 1) c.next_marked-u-in-loop-u.result old new (λ v k b e. subst (λ (n : ℕ). NamesNoThird cs n o v b.group) (sym c.requires.object.1) (a.2.beside v b (k, e)).1) c.requires.own
-    c.next_marked-u-in-loop-u.ensures.none
+    those_skip cs S o marks lists (u + 1) c.next-u-in-loop-u.result old new (λ v k b e. subst (λ (n : ℕ). NamesNoThird cs n o v b.group) (sym c.requires.object.1) (a.2.beside v b (k, e)).1) c.requires.own
+    c.next-u-in-loop-u.ensures.none
     (those_beside cs S o marks lists u old mid new c.loop-u.invariant (subst (λ (bs : List RowGroup). RetriesThose cs S o marks (HaveIn bs) mid new) same (c.ask_groups.ensures marks)))
 
 pub returns : goal.returns
