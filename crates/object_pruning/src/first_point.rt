@@ -18,9 +18,10 @@ use geo_conditions::{ObjId, State};
 use indexical::Indexical;
 use std::alloc::AllocError;
 
-/// The first point of the object's region, in the way's order, at which no picked condition is refuted with the object at
-/// that place. None where there is no such point. The events that are added are a cover of the region, or of the part of it
-/// that comes before the point in the lead dimension. The only error is want of memory, and then a refusal was counted.
+/// The first point of the object's region, in the way's order, at which no picked condition is
+/// refuted with the object at that place. None where there is no such point. The events that are
+/// added are a cover of the region, or of the part of it that comes before the point in the lead
+/// dimension. The only error is want of memory, and then a refusal was counted.
 pub fn first_point<const K: usize, I: Indexical<K>, R: Recorder>(
     s: &State<K>,
     o: ObjId,

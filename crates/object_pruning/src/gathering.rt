@@ -1,4 +1,5 @@
-//! The conditions that may be refuted somewhere with an object at a place, gathered once for a sweep.
+//! The conditions that may be refuted somewhere with an object at a place, gathered once for a
+//! sweep.
 
 ghost use Rattle.std.specs.Prelude.{◌≡◌, ◌≢◌, ℕ, ◌+◌, ◌-◌, ◌<◌, ◌≤◌, true, false, length, map, slice_get, slice_set, Some, IfNone, IfSome, IsTrue, MatchOption};
 ghost use Rattle.geo_base.specs.declared.kbox.KBox.{KBox};
@@ -33,8 +34,8 @@ pub fn no_parts<const K: usize>() -> [Option<KBox<K>>; PARTS]
     [None; PARTS]
 }
 
-// Puts the number behind the first `count` ones of the list, and what it forbids, where there is room for that, and answers how many
-// they are then. None where there is no room.
+// Puts the number behind the first `count` ones of the list, and what it forbids, where there is
+// room for that, and answers how many they are then. None where there is no room.
 fn put_number<const K: usize>(
     number: u32,
     part: Option<KBox<K>>,
@@ -58,9 +59,9 @@ fn put_number<const K: usize>(
     Some(count + 1)
 }
 
-// Adds the number to the first `count` ones of the list, where its condition forbids some of the region with the object at
-// that place, or may do so, and answers how many they are then. None where there is no room. What it forbids is kept, where
-// it is known and there is room for it.
+// Adds the number to the first `count` ones of the list, where its condition forbids some of the
+// region with the object at that place, or may do so, and answers how many they are then. None
+// where there is no room. What it forbids is kept, where it is known and there is room for it.
 fn gather_number<const K: usize, I: Indexical<K>>(
     s: &State<K>,
     o: ObjId,
@@ -124,7 +125,8 @@ fn gather_numbers<const K: usize, I: Indexical<K>>(
     Some(gathered)
 }
 
-/// The place that the other object of a run has alone; 0 where it has none alone. None where the groups do not ask for places of it.
+/// The place that the other object of a run has alone; 0 where it has none alone. None where the
+/// groups do not ask for places of it.
 #[inline(always)]
 pub fn sole_place_of<const K: usize>(s: &State<K>, run: &Run) -> Option<u8>
     requires k { K ≤ MAX_DIMS }
@@ -144,7 +146,8 @@ pub fn sole_place_of<const K: usize>(s: &State<K>, run: &Run) -> Option<u8>
     }
 }
 
-/// Whether the conditions of a group can be in the way, where it is told which place the other object has alone.
+/// Whether the conditions of a group can be in the way, where it is told which place the other
+/// object has alone.
 #[inline(always)]
 pub fn can_be_in_the_way(group: &Group, sole: Option<u8>) -> bool
     ensures { result ≡ false → MatchOption sole ⊥ (λ p.
@@ -316,7 +319,8 @@ fn gather_groups<const K: usize, I: Indexical<K>>(
     Some(gathered)
 }
 
-/// Whether no group of a run can be in the way: all ask for a place, and the other object has none alone.
+/// Whether no group of a run can be in the way: all ask for a place, and the other object has none
+/// alone.
 pub fn is_passed_over(sole: Option<u8>) -> bool
     ensures { IsTrue result → sole ≡ Some 0 }
 {
@@ -326,8 +330,8 @@ pub fn is_passed_over(sole: Option<u8>) -> bool
     }
 }
 
-// The same. All groups are passed over at once where none can be in the way: none asks for the place
-// that the other object has alone, or that one is nowhere near the region.
+// The same. All groups are passed over at once where none can be in the way: none asks for the
+// place that the other object has alone, or that one is nowhere near the region.
 fn gather_run<const K: usize, I: Indexical<K>>(
     s: &State<K>,
     o: ObjId,
@@ -485,8 +489,9 @@ fn gather_all<const K: usize, I: Indexical<K>>(
     Some(count)
 }
 
-/// Gathers the picks whose conditions forbid some of the region with the object at that place, or may do so, and answers how many
-/// they are. None where there is not room for so many. Of the first ones what they forbid is kept, where it is known.
+/// Gathers the picks whose conditions forbid some of the region with the object at that place, or
+/// may do so, and answers how many they are. None where there is not room for so many. Of the first
+/// ones what they forbid is kept, where it is known.
 pub fn gather<const K: usize, I: Indexical<K>>(
     s: &State<K>,
     o: ObjId,

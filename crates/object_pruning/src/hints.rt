@@ -17,7 +17,8 @@ use geo_base::MAX_DIMS;
 use geo_conditions::{ObjId, State};
 use indexical::Indexical;
 
-// Whether the object can be there: it has the place and the point, and no picked condition is refuted.
+// Whether the object can be there: it has the place and the point, and no picked condition is
+// refuted.
 fn can_be<const K: usize, I: Indexical<K>>(
     s: &State<K>,
     o: ObjId,
@@ -63,7 +64,8 @@ fn hint_of_place<const K: usize, I: Indexical<K>>(
     }
 }
 
-// The hint of an end of an interval, if the object can be there and it has that end as its coordinate.
+// The hint of an end of an interval, if the object can be there and it has that end as its
+// coordinate.
 fn hint_of_end<const K: usize, I: Indexical<K>>(
     s: &State<K>,
     o: ObjId,
@@ -92,8 +94,8 @@ fn hint_of_end<const K: usize, I: Indexical<K>>(
     }
 }
 
-/// Whether a point is known at which the object has that place, which is there: a kept one, or else the hint, which is kept
-/// then.
+/// Whether a point is known at which the object has that place, which is there: a kept one, or else
+/// the hint, which is kept then.
 pub fn knows_place<const K: usize, I: Indexical<K>>(
     s: &State<K>,
     o: ObjId,
@@ -126,7 +128,8 @@ pub fn knows_place<const K: usize, I: Indexical<K>>(
     }
 }
 
-/// Whether a point is known at which the object has that end of an interval: a kept one, or else the hint, which is kept then.
+/// Whether a point is known at which the object has that end of an interval: a kept one, or else
+/// the hint, which is kept then.
 pub fn knows_end<const K: usize, I: Indexical<K>>(
     s: &State<K>,
     o: ObjId,

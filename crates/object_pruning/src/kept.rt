@@ -20,7 +20,8 @@ pub struct Placed<const K: usize> {
     pub point: Point<K>,
 }
 
-/// How many supports are kept of an object: one for each place, and one for each end of each interval.
+/// How many supports are kept of an object: one for each place, and one for each end of each
+/// interval.
 pub fn slots<const K: usize>() -> usize
     requires { K ≤ MAX_DIMS }
     ensures { result ≡ 16 + 2 * K }
@@ -79,7 +80,8 @@ pub fn is_same_point<const K: usize>(a: &Placed<K>, b: &Placed<K>) -> bool
     a.place == b.place && a.point.coordinates == b.point.coordinates
 }
 
-// Whether the condition is possible with the object there. The point that was asked about last is not asked again.
+// Whether the condition is possible with the object there. The point that was asked about last is
+// not asked again.
 fn is_possible_there<const K: usize, I: Indexical<K>>(
     q: &Placed<K>,
     last: &mut Option<Asked<K>>,
@@ -240,7 +242,8 @@ fn is_kept_there<const K: usize>(
     }
 }
 
-/// Whether a point is kept at which the object still has that end of an interval: the one that was kept for it, or another.
+/// Whether a point is kept at which the object still has that end of an interval: the one that was
+/// kept for it, or another.
 pub fn end_stands<const K: usize>(
     s: &State<K>,
     o: ObjId,

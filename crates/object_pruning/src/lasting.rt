@@ -34,9 +34,10 @@ fn slice<const K: usize>(s: &State<K>, o: ObjId, d: usize, v: i64) -> KBox<K>
     KBox::new(region.lo.with(d, v), region.hi.with(d, v))
 }
 
-/// A point to keep for an end of an interval, whose outermost point is given: for a low end the last one, by its other
-/// coordinates, with the same shape and end, for a high end the given one. Where low values are tried first, other objects
-/// take it last. No picked condition is refuted with the object there.
+/// A point to keep for an end of an interval, whose outermost point is given: for a low end the
+/// last one, by its other coordinates, with the same shape and end, for a high end the given one.
+/// Where low values are tried first, other objects take it last. No picked condition is refuted
+/// with the object there.
 pub fn lasting_point<const K: usize, I: Indexical<K>>(
     s: &State<K>,
     o: ObjId,

@@ -1,4 +1,5 @@
-//! The ends of an object's intervals: each moves to the outermost coordinate of the object's points.
+//! The ends of an object's intervals: each moves to the outermost coordinate of the object's
+//! points.
 
 ghost use Rattle.std.specs.Prelude.{◌≡◌, ◌+◌, ◌-◌, ◌^◌, ◌<◌, ◌≤◌, ◌≤ℤ◌, false, true, length, map, min, IfOk, IsOk, OnErr, IfSome};
 ghost use Rattle.geo_conditions.specs.Conditions.{AllFit};
@@ -42,8 +43,9 @@ fn set_end<const K: usize>(t: &mut Trailed<K>, o: ObjId, d: usize, up: bool, v: 
     }
 }
 
-// Moves one end of an interval to the outermost coordinate of the object's points, where no known point has it, records it,
-// and says whether it moved. A point with that coordinate that lasts is kept from then on, and a hint.
+// Moves one end of an interval to the outermost coordinate of the object's points, where no known
+// point has it, records it, and says whether it moved. A point with that coordinate that lasts is
+// kept from then on, and a hint.
 fn move_end<const K: usize, I: Indexical<K>, R: Recorder>(
     t: &mut Trailed<K>,
     o: ObjId,
@@ -57,8 +59,8 @@ fn move_end<const K: usize, I: Indexical<K>, R: Recorder>(
     rec: &mut R,
 ) -> Result<bool, AllocError>
     requires k { K ≤ MAX_DIMS }
-    requires can { CanMove (map I.cond list.now) (picked (map I.cond list.now) picks.now) t.old.state
-        o.0 }
+    requires can { CanMove (map I.cond list.now) (picked (map I.cond list.now) picks.now)
+        t.old.state o.0 }
     requires dimension { d < K }
     requires picks { ArePicks (length list.now) picks.now }
     requires rows { IfSome rows (λ r. AreRows (map I.cond list.now) o.0 picks.now r.now) }
@@ -68,8 +70,8 @@ fn move_end<const K: usize, I: Indexical<K>, R: Recorder>(
     ensures led { IfOk result (λ m. R.keeps ≡ true
         → IsLed (map I.cond list.now) t.old.state t.new.state (R.list rec.old) (R.list rec.new)) }
     ensures unmoved { OnErr result (t.new.state ≡ t.old.state) }
-    ensures can { CanMove (map I.cond list.now) (picked (map I.cond list.now) picks.now) t.new.state
-        o.0 }
+    ensures can { CanMove (map I.cond list.now) (picked (map I.cond list.now) picks.now)
+        t.new.state o.0 }
     ensures kept { AllSupport (picked (map I.cond list.now) picks.now) t.new.state o.0 kept.new }
     ensures levels { (t.new.levels ≡ t.old.levels) × (t.new.restores ≡ t.old.restores) }
     ensures grows { Grows R.keeps R.list R.refusals rec.old rec.new result }

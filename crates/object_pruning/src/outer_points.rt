@@ -48,8 +48,8 @@ fn sooner_of<const K: usize>(d: usize, up: bool, best: Option<Placed<K>>, q: Pla
     }
 }
 
-// The point of the object at a place that comes first; none where the place is not there or has no point. The record goes on
-// by a cover of what lies before the point at that place.
+// The point of the object at a place that comes first; none where the place is not there or has no
+// point. The record goes on by a cover of what lies before the point at that place.
 fn point_at<const K: usize, I: Indexical<K>, R: Recorder>(
     s: &State<K>,
     o: ObjId,
@@ -87,8 +87,8 @@ fn point_at<const K: usize, I: Indexical<K>, R: Recorder>(
     }
 }
 
-// The object's outermost point in a dimension: a lowest one upwards, else a highest. Where it does not have the end as its
-// coordinate, the record goes on by covers of what lies beyond it.
+// The object's outermost point in a dimension: a lowest one upwards, else a highest. Where it does
+// not have the end as its coordinate, the record goes on by covers of what lies beyond it.
 fn outermost<const K: usize, I: Indexical<K>, R: Recorder>(
     s: &State<K>,
     o: ObjId,
@@ -146,8 +146,9 @@ fn end_event(o: ObjId, d: usize, up: bool, v: i64) -> Event
     }
 }
 
-/// The object's outermost point in a dimension: a lowest one upwards, else a highest. The record has the end moved to its
-/// coordinate, with covers of what lies beyond it; where that is the end already, the record is as before.
+/// The object's outermost point in a dimension: a lowest one upwards, else a highest. The record
+/// has the end moved to its coordinate, with covers of what lies beyond it; where that is the end
+/// already, the record is as before.
 pub fn sought_end<const K: usize, I: Indexical<K>, R: Recorder>(
     s: &State<K>,
     o: ObjId,

@@ -42,8 +42,9 @@ pub fn last_place<const K: usize>(s: &State<K>, o: ObjId) -> u8
     last
 }
 
-// A point of the object at that place, which is there: one that a sweep finds from the far corner on. Where there is none,
-// the record has the place dropped, with its cover, and else it is as before.
+// A point of the object at that place, which is there: one that a sweep finds from the far corner
+// on. Where there is none, the record has the place dropped, with its cover, and else it is as
+// before.
 fn sought_point<const K: usize, I: Indexical<K>, R: Recorder>(
     s: &State<K>,
     o: ObjId,
@@ -83,8 +84,9 @@ fn sought_point<const K: usize, I: Indexical<K>, R: Recorder>(
     }
 }
 
-// Whether the object has a point at that place, which is there: one that is known, or else one that is sought, and that is
-// kept from then on, and a hint. Where it has none, the record has the place dropped, with its cover, and else it is as before.
+// Whether the object has a point at that place, which is there: one that is known, or else one that
+// is sought, and that is kept from then on, and a hint. Where it has none, the record has the place
+// dropped, with its cover, and else it is as before.
 fn has_point<const K: usize, I: Indexical<K>, R: Recorder>(
     s: &State<K>,
     o: ObjId,

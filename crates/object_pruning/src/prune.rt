@@ -49,14 +49,16 @@ fn record_gone<R: Recorder>(o: ObjId, rec: &mut R) -> Result<(), AllocError>
     }
 }
 
-/// Leaves the object the places at which it has a point, and in each dimension the loosest bounds over its points: those of its
-/// region, at its places, at which no picked condition is refuted on the state. The picks are numbers of the list, from 1;
-/// where they are given in rows too, only those are looked at that ask for places which the objects have.
-/// Every other object stays as it is, and so does what the open levels restore. Kept supports that the object still has are not
-/// sought again, and what is found is kept, as far as there are slots. Of hints nothing need be known: each is tried before a
-/// point is sought, and what is found is the next hint of its slot. The events that are added are a chain from the old state to
-/// the new one, or, where no point is left, one that is closed by the node of the object, which is gone. The only error is want
-/// of memory, and then a refusal was counted.
+/// Leaves the object the places at which it has a point, and in each dimension the loosest bounds
+/// over its points: those of its region, at its places, at which no picked condition is refuted on
+/// the state. The picks are numbers of the list, from 1; where they are given in rows too, only
+/// those are looked at that ask for places which the objects have. Every other object stays as it
+/// is, and so does what the open levels restore. Kept supports that the object still has are not
+/// sought again, and what is found is kept, as far as there are slots. Of hints nothing need be
+/// known: each is tried before a point is sought, and what is found is the next hint of its slot.
+/// The events that are added are a chain from the old state to the new one, or, where no point is
+/// left, one that is closed by the node of the object, which is gone. The only error is want of
+/// memory, and then a refusal was counted.
 pub fn prune_kept<const K: usize, I: Indexical<K>, R: Recorder>(
     t: &mut Trailed<K>,
     o: ObjId,

@@ -84,9 +84,10 @@ impl<'a, const K: usize, I: Indexical<K> + 'a, R: Recorder> Counted<
     }
 }
 
-// The first point of a region, in the way's order, at which no picked condition is refuted with the object at
-// that place. None where there is no such point. The events that are added are a cover of the region, or of the part of it
-// that comes before the point in the lead dimension. The only error is want of memory, and then a refusal was counted.
+// The first point of a region, in the way's order, at which no picked condition is refuted with the
+// object at that place. None where there is no such point. The events that are added are a cover of
+// the region, or of the part of it that comes before the point in the lead dimension. The only
+// error is want of memory, and then a refusal was counted.
 fn sweep_region<const K: usize, I: Indexical<K>, R: Recorder>(
     s: &State<K>,
     o: ObjId,
@@ -149,7 +150,8 @@ fn without_parts<const K: usize, I: Indexical<K>>(
     no_parts()
 }
 
-// The numbers that were gathered: the first ones of the list. They are picks, and `parts` are theirs.
+// The numbers that were gathered: the first ones of the list. They are picks, and `parts` are
+// theirs.
 #[inline(always)]
 fn gathered<'a, const K: usize, I: Indexical<K>>(
     _s: &State<K>,
@@ -176,9 +178,10 @@ fn gathered<'a, const K: usize, I: Indexical<K>>(
     &live[0..count]
 }
 
-/// The first point of a region, in the way's order, at which no picked condition is refuted with the object at
-/// that place. None where there is no such point. The events that are added are a cover of the region, or of the part of it
-/// that comes before the point in the lead dimension. The only error is want of memory, and then a refusal was counted.
+/// The first point of a region, in the way's order, at which no picked condition is refuted with
+/// the object at that place. None where there is no such point. The events that are added are a
+/// cover of the region, or of the part of it that comes before the point in the lead dimension. The
+/// only error is want of memory, and then a refusal was counted.
 pub fn first_point_in<const K: usize, I: Indexical<K>, R: Recorder>(
     s: &State<K>,
     o: ObjId,

@@ -24,7 +24,8 @@ fn goes_on(group: &Group, number: u32, facing: &Facing) -> bool
         && is_same_object(group.other, facing.other)
 }
 
-// Puts a number behind the others of a row: into the last group, where it goes on, or else into a group of its own.
+// Puts a number behind the others of a row: into the last group, where it goes on, or else into a
+// group of its own.
 fn put_number(groups: &mut Vec<Group>, number: u32, facing: &Facing) -> Result<(), AllocError>
     requires { 0 < number }
     ensures { OnOk result (PutsNumber facing.now number groups.old.items groups.new.items) }
@@ -101,8 +102,8 @@ fn put_pick<const K: usize>(
     put_number(groups, number, &facing)
 }
 
-/// The picked conditions in rows, by what they ask of places before they can be in the object's way. The answer is an error
-/// where memory runs out.
+/// The picked conditions in rows, by what they ask of places before they can be in the object's
+/// way. The answer is an error where memory runs out.
 pub fn rows_of<const K: usize>(
     alloc: Global,
     list: &[AnyIndexical<K>],

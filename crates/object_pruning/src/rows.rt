@@ -32,7 +32,8 @@ pub struct Run {
     pub end: usize,
 }
 
-/// The conditions that name an object, in rows: first those that ask for no place of it, and then, place by place, those that ask for it.
+/// The conditions that name an object, in rows: first those that ask for no place of it, and then,
+/// place by place, those that ask for it.
 pub struct Rows {
     pub rows: Vec<Vec<Group>>,
     /// The runs of the groups of each row.

@@ -27,7 +27,8 @@ fn is_alike(run: &Run, group: &Group) -> bool
     run.asks == (group.other_place != 0) && is_same_object(group.other, run.other)
 }
 
-// Puts the k-th group behind the others: into the last run, where it can stand there, or else into a run of its own.
+// Puts the k-th group behind the others: into the last run, where it can stand there, or else into
+// a run of its own.
 fn put_group(groups: &[Group], k: usize, runs: &mut Vec<Run>) -> Result<(), AllocError>
     requires group { k < length groups.now }
     requires below { AreRunsTo groups.now k runs.old.items }
