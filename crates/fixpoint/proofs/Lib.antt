@@ -2,6 +2,8 @@ pub mod Names
 pub mod Turns
 pub mod Linking
 pub mod Paired
+pub mod Partnering
+pub mod Finding
 pub mod Effect
 pub mod Stable
 pub mod StableRows

@@ -18,6 +18,7 @@ use Rattle.std.specs.declared.alloc.Global.{Global}
 use Rattle.std.proofs.Math.Bool.{or-false}
 use Rattle.geo_conditions.specs.declared.object.ObjId.{ObjId}
 use Rattle.fixpoint.specs.declared.links.Links.{Links}
+use Rattle.fixpoint.specs.Partners.{HavePartners}
 use Rattle.object_pruning.specs.declared.rows.Rows.{Rows}
 use Rattle.object_pruning.specs.InRows.{AreRows}
 pub use Rattle.object_pruning.proofs.InRows.{row_get, row_empty, row_set_same, row_set_other, length_more}
@@ -243,8 +244,8 @@ links_more cs n i named picks new bare c v l at k m e = record {
   bare = numbers_put (names_none n) cs i bare (names_none n c) l.bare (λ d. ap (names_none n) (at d));
 }
 
-pub links_end : (cs : List Cond) (n i : ℕ) (l : Links) → i ≡ length cs → LinksBelow cs n i l.named.items l.picks.items l.bare.items → HaveRows cs l.picks.items n l.rows.items → HavePairs cs l.picks.items n l.pairs.items → AreLinks cs n l
-links_end cs n i l e b rows pairs = record {
+pub links_end : (cs : List Cond) (n i : ℕ) (l : Links) → i ≡ length cs → LinksBelow cs n i l.named.items l.picks.items l.bare.items → HaveRows cs l.picks.items n l.rows.items → HavePairs cs l.picks.items n l.pairs.items → HavePartners l.named.items l.pairs.items n n l.partners.items → AreLinks cs n l
+links_end cs n i l e b rows pairs partners = record {
   conditions = b.conditions ∙ e;
   named = λ j d h. b.named j d (omega (arith, h, e));
   objects = b.objects;
@@ -252,6 +253,7 @@ links_end cs n i l e b rows pairs = record {
   bare = subst (λ (m : ℕ). NumbersOf (names_none n) cs m l.bare.items) e b.bare;
   rows = rows;
   pairs = pairs;
+  partners = partners;
 }
 
 -- the rows of one object more

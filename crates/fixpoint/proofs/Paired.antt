@@ -22,16 +22,16 @@ use Rattle.fixpoint.proofs.Linking.{length_more, row_set_same, row_set_other}
 
 -- ---- one group more
 
-get_left : {X : Type 0} (xs : List X) (j : ℕ) (y z : X) → slice_get xs j ≡ Some z → slice_get (xs ++ y ∷ []) j ≡ Some z
+pub get_left : {X : Type 0} (xs : List X) (j : ℕ) (y z : X) → slice_get xs j ≡ Some z → slice_get (xs ++ y ∷ []) j ≡ Some z
 get_left [] j y z e = absurd (cc)
 get_left (x ∷ xs) zero y z e = e
 get_left (x ∷ xs) (suc j) y z e = get_left xs j y z e
 
-get_last : {X : Type 0} (xs : List X) (y : X) → slice_get (xs ++ y ∷ []) (length xs) ≡ Some y
+pub get_last : {X : Type 0} (xs : List X) (y : X) → slice_get (xs ++ y ∷ []) (length xs) ≡ Some y
 get_last [] y = refl
 get_last (x ∷ xs) y = get_last xs y
 
-get_either : {X : Type 0} (xs : List X) (j : ℕ) (y z : X) → slice_get (xs ++ y ∷ []) j ≡ Some z → (slice_get xs j ≡ Some z) ⊎ (z ≡ y)
+pub get_either : {X : Type 0} (xs : List X) (j : ℕ) (y z : X) → slice_get (xs ++ y ∷ []) j ≡ Some z → (slice_get xs j ≡ Some z) ⊎ (z ≡ y)
 get_either [] zero y z e = inr (sym (same_Some _ _ e))
 get_either [] (suc j) y z e = absurd (cc)
 get_either (x ∷ xs) zero y z e = inl e

@@ -1,5 +1,5 @@
 -- Rows and pairs are decided by a search through their groups.
-use Rattle.std.proofs.Common.{◌≡◌, ◌⊎◌, ℕ, zero, suc, ◌≤◌, List, [], ◌∷◌, length, get_or, slice_index, refl, sym, subst, inl, inr, arith, Some, None, Option, Vec, Global}
+use Rattle.std.proofs.Common.{◌≡◌, ◌⊎◌, ℕ, zero, suc, ◌≤◌, List, [], ◌∷◌, length, get_or, slice_index, refl, sym, ap, ◌∙◌, subst, inl, inr, arith, Some, None, Option, Vec, Global}
 use Rattle.std.specs.Prelude.{slice_get, IfSome, Contains}
 use Rattle.std.proofs.Props.{props}
 use Rattle.std.proofs.Math.Logic.{∥∥₁_elim, ∥∥₁_map}
@@ -15,7 +15,9 @@ use Rattle.object_pruning.specs.InRows.{row, IsInGroup, IsGroup, AreRows}
 use Rattle.fixpoint.specs.declared.links.Links.{Links}
 use Rattle.fixpoint.specs.declared.pairs.Pairs.{Pairs}
 use Rattle.fixpoint.specs.declared.pairs.RowGroup.{RowGroup}
-use Rattle.fixpoint.specs.Pairs.{ArePairs}
+use Rattle.fixpoint.specs.Pairs.{ArePairs, HaveIn}
+use Rattle.fixpoint.specs.declared.partners.Partners.{Partners}
+use Rattle.fixpoint.specs.Partners.{ArePartners, HasNumber}
 use Rattle.fixpoint.specs.Links.{AreLinks}
 use Rattle.fixpoint.proofs.Stable.{stable, both}
 
@@ -127,6 +129,22 @@ stable_pairs cs o picks n p h = record {
       stable _ (either _ _ (decide_rows (λ (x : RowGroup). IsInGroup x.group i) f p.beside.items) (decide_in (λ (x : RowGroup). IsInGroup x.group i) f p.others.items)) (∥∥₁_map h (λ a. a.each k b));
 }
 
+stable_partners : (named : List (Vec ObjId Global)) (o n : ℕ) (bs : List RowGroup) (p : Partners) → ∥ ArePartners named o n (HaveIn bs) p ∥₁ → ArePartners named o n (HaveIn bs) p
+stable_partners named o n bs p h = record {
+  objects = ∥∥₁_elim h (hlevel props) (λ a. a.objects);
+  few = λ u j w. stable _ (decide_have bs j) (∥∥₁_map h (λ a. a.few u j w));
+  many = λ j w. stable _ (decide_have bs j) (∥∥₁_map h (λ a. a.many j w));
+  each = λ j u w b ne m. stable _ (either _ _ (decide_number p.many.items j) (decide_number (row p.few.items u) j)) (∥∥₁_map h (λ a. a.each j u w b ne m));
+}
+  where
+    decide_have : (gs : List RowGroup) (j : ℕ) → Decided (HaveIn gs j)
+    decide_have gs j = decide_in (λ (x : RowGroup). IsInGroup x.group j) (λ x. in_group j x.group) gs
+    decide_number : (numbers : List ℕ) (j : ℕ) → Decided (HasNumber numbers j)
+    decide_number numbers j = elim (decide_in (λ (x : ℕ). x ≡ j) (λ x. decide_eq x j) numbers) [
+      | inl w ↦ inl (w.0, w.2 ∙ ap Some w.3)
+      | inr n ↦ inr (λ w. n (w.0, j, w.1, refl))
+    ]
+
 -- the links can be taken out
 pub links_taken : (cs : List Cond) (n : ℕ) (l : Links) → ∥ AreLinks cs n l ∥₁ → AreLinks cs n l
 links_taken cs n l h = record {
@@ -142,5 +160,8 @@ links_taken cs n l h = record {
   pairs = record {
     objects = ∥∥₁_elim h (hlevel props) (λ a. a.pairs.objects);
     each = λ o d b. stable_pairs cs o _ n (get_or l.pairs.items o d) (∥∥₁_map h (λ a. a.pairs.each o d b));
+  };  partners = record {
+    objects = ∥∥₁_elim h (hlevel props) (λ a. a.partners.objects);
+    each = λ o p d b. stable_partners l.named.items o n (get_or l.pairs.items o p).others.items (get_or l.partners.items o d) (∥∥₁_map h (λ a. a.partners.each o p d b));
   };
 }

@@ -1,5 +1,7 @@
 pub mod Near
 pub mod Pairs
+pub mod Among
+pub mod Partners
 pub mod Links
 pub mod Marks
 pub mod Queue

@@ -13,6 +13,8 @@ pub use Rattle.object_pruning.specs.InRows.{row}
 use Rattle.fixpoint.specs.declared.links.Links.{Links}
 use Rattle.fixpoint.specs.declared.pairs.Pairs.{Pairs}
 use Rattle.fixpoint.specs.Pairs.{ArePairs, SortsRows}
+use Rattle.fixpoint.specs.Partners.{HavePartners}
+pub use Rattle.fixpoint.specs.Among.{is_among}
 
 -- the numbers, from 1 and rising, are those of the first n conditions that meet the test
 pub record NumbersOf (test : Cond → Bool) (cs : List Cond) (n : ℕ) (numbers : List ℕ) : Type 0 where
@@ -32,10 +34,6 @@ names_none (suc n) c = not (names n c) && names_none n c
 -- the numbers are those of the conditions that name no object below n
 abbrev pub BareOf : List Cond → ℕ → List ℕ → Type 0
 BareOf cs n numbers = NumbersOf (names_none n) cs (length cs) numbers
-
--- the object is in the list
-abbrev pub is_among : ℕ → List ObjId → Bool
-is_among o list = list_any (λ u. u.0 == o) list
 
 -- of the objects below n, the list has those that the condition names
 pub record NamedBy (c : Cond) (n : ℕ) (list : List ObjId) : Type 0 where
@@ -74,6 +72,7 @@ pub record AreLinks (cs : List Cond) (n : ℕ) (l : Links) : Type 0 where
   pub bare : BareOf cs n l.bare.items
   pub rows : HaveRows cs l.picks.items n l.rows.items
   pub pairs : HavePairs cs l.picks.items n l.pairs.items
+  pub partners : HavePartners l.named.items l.pairs.items n n l.partners.items
 
 -- the list, with the number at its end where the test is met
 abbrev pub put_where : Bool → ℕ → List ℕ → List ℕ

@@ -10,6 +10,9 @@ ghost use Rattle.object_pruning.specs.InRows.{IsInGroup};
 ghost use Rattle.fixpoint.specs.Links.{AreLinks, NamedBy};
 ghost use Rattle.fixpoint.specs.declared.pairs.RowGroup.{RowGroup};
 ghost use Rattle.fixpoint.specs.Pairs.{AreSomePairs, HaveBeside, HaveIn, IsGroupOf};
+ghost use Rattle.fixpoint.specs.Links.{row};
+ghost use Rattle.fixpoint.specs.declared.partners.Partners.{Partners};
+ghost use Rattle.fixpoint.specs.Partners.{ArePartners, HasNumber, HaveMarked};
 ghost use Rattle.fixpoint.specs.Kept.{AllStand, AsksSlot, IsBlank, IsKnown, RetriesMarked, RetriesThose, Stand, StandBut, StandsAlone};
 ghost use Rattle.fixpoint.specs.Marks.{IsCleared, IsSquare};
 ghost use Rattle.watches.specs.Watches.{Hold};
@@ -400,6 +403,98 @@ fn ask_pairs<const K: usize>(
     }
 }
 
+// Asks the conditions of those numbers again that name a marked object.
+fn retry_numbers<const K: usize>(
+    list: &[AnyIndexical<K>],
+    links: &Links,
+    numbers: &[u32],
+    o: ObjId,
+    s: &State<K>,
+    marks: &[bool],
+    watches: &mut Watches,
+    kept: &mut [Option<Placed<K>>],
+)
+    requires k { K ≤ MAX_DIMS }
+    requires fits { AllFit (map (λ x. x.cond) list.now) s.now }
+    requires links { AreLinks (map (λ x. x.cond) list.now) (length s.now) links.now }
+    requires object { (o.0 < length s.now) × (length marks.now ≡ length s.now) }
+    requires numbers { (i : ℕ) → HasNumber numbers.now i
+        → (0 < i) × (i - 1 < length list.now) }
+    requires hold { Hold (map (λ x. x.cond) list.now) s.now watches.old }
+    ensures kept { RetriesThose (map (λ x. x.cond) list.now) s.now o.0 marks.now
+        (HasNumber numbers.now) kept.old kept.new }
+    ensures hold { Hold (map (λ x. x.cond) list.now) s.now watches.new }
+{
+    for k in 0..numbers.len() {
+        retry_number(list, links, o, s, marks, numbers[k], watches, kept);
+    }
+}
+
+// The same for the numbers of each marked object.
+fn ask_few<const K: usize>(
+    list: &[AnyIndexical<K>],
+    links: &Links,
+    few: &[Vec<u32>],
+    o: ObjId,
+    s: &State<K>,
+    marks: &Marks,
+    watches: &mut Watches,
+    kept: &mut [Option<Placed<K>>],
+)
+    requires k { K ≤ MAX_DIMS }
+    requires fits { AllFit (map (λ x. x.cond) list.now) s.now }
+    requires links { AreLinks (map (λ x. x.cond) list.now) (length s.now) links.now }
+    requires object { (o.0 < length s.now) × (length marks.now ≡ length s.now) }
+    requires few { length few.now ≤ length s.now }
+    requires numbers { (u i : ℕ) → HasNumber (row few.now u) i
+        → (0 < i) × (i - 1 < length list.now) }
+    requires hold { Hold (map (λ x. x.cond) list.now) s.now watches.old }
+    ensures kept { RetriesThose (map (λ x. x.cond) list.now) s.now o.0 marks.now
+        (HaveMarked marks.now few.now) kept.old kept.new }
+    ensures hold { Hold (map (λ x. x.cond) list.now) s.now watches.new }
+{
+    let marked = marks.as_slice();
+    let mut u = marks.next(0);
+    while u < few.len() {
+        retry_numbers(list, links, &few[u], o, s, marked, watches, kept);
+        u = marks.next(u + 1);
+    }
+}
+
+// Asks the conditions of those groups again that name a marked object. Where the object itself is
+// not marked, those that name few are found by the marked ones.
+fn ask_partners<const K: usize>(
+    list: &[AnyIndexical<K>],
+    links: &Links,
+    others: &[RowGroup],
+    o: ObjId,
+    s: &State<K>,
+    marks: &Marks,
+    watches: &mut Watches,
+    kept: &mut [Option<Placed<K>>],
+)
+    requires k { K ≤ MAX_DIMS }
+    requires fits { AllFit (map (λ x. x.cond) list.now) s.now }
+    requires links { AreLinks (map (λ x. x.cond) list.now) (length s.now) links.now }
+    requires object { (o.0 < length s.now) × (length marks.now ≡ length s.now) }
+    requires numbers { (i : ℕ) → HaveIn others.now i → (0 < i) × (i - 1 < length list.now) }
+    requires partners { (d : Partners) → ArePartners links.now.named.items o.0 (length s.now)
+        (HaveIn others.now) (slice_index_or links.now.partners.items o.0 d) }
+    requires hold { Hold (map (λ x. x.cond) list.now) s.now watches.old }
+    ensures kept { RetriesThose (map (λ x. x.cond) list.now) s.now o.0 marks.now
+        (HaveIn others.now) kept.old kept.new }
+    ensures hold { Hold (map (λ x. x.cond) list.now) s.now watches.new }
+{
+    let marked = marks.as_slice();
+    if marks.has(o.0 as usize) {
+        ask_others(list, links, others, o, s, marked, watches, kept);
+        return;
+    }
+    let partners = &links.partners[o.0 as usize];
+    ask_few(list, links, &partners.few, o, s, marks, watches, kept);
+    retry_numbers(list, links, &partners.many, o, s, marked, watches, kept);
+}
+
 // Asks each condition that names the object and a marked one again, at what is kept of the object, and forgets where it is refuted.
 // Then all of it stands.
 fn ask_again<const K: usize>(
@@ -424,8 +519,7 @@ fn ask_again<const K: usize>(
     let object = ObjId(o as u16);
     let pairs = &links.pairs[o];
     ask_pairs(list, pairs, object, s, marks, kept);
-    let marked = marks.as_slice();
-    ask_others(list, links, &pairs.others, object, s, marked, watches, kept);
+    ask_partners(list, links, &pairs.others, object, s, marks, watches, kept);
 }
 
 /// Asks what is kept of the object again where a neighbour changed. Then all of it stands, and no neighbour is marked any more.

@@ -7,6 +7,7 @@ mod kept;
 mod links;
 mod marks;
 mod pairs;
+mod partners;
 mod propagation;
 mod queue;
 mod waking;

@@ -3,8 +3,10 @@
 ghost use Rattle.std.specs.Prelude.{◌≡◌, ℕ, ◌<◌, ◌≤◌, [], length, map, IfOk};
 ghost use Rattle.sweep.specs.Picks.{ArePicks};
 ghost use Rattle.fixpoint.specs.Links.{AreLinks, HaveRows, NamedBy, Numbers, SortAllRows, row};
+ghost use Rattle.fixpoint.specs.Partners.{HavePartners};
 
 use crate::pairs::{Pairs, pairs_of};
+use crate::partners::{Partners, partners_of};
 use geo_conditions::{MAX_OBJECTS, ObjId};
 use indexical::AnyIndexical;
 use object_pruning::{Rows, rows_of};
@@ -22,6 +24,8 @@ pub struct Links {
     pub rows: Vec<Rows>,
     /// For each object the groups of its rows by the other objects that the conditions name.
     pub pairs: Vec<Pairs>,
+    /// For each object the numbers of its other groups by the other objects that they name.
+    pub partners: Vec<Partners>,
 }
 
 impl Drop for Links {
@@ -32,6 +36,7 @@ impl Drop for Links {
             bare: _bare,
             rows: _rows,
             pairs: _pairs,
+            partners: _partners,
         } = self;
     }
 }
@@ -103,6 +108,24 @@ fn all_pairs(alloc: Global, rows: &[Rows], named: &[Vec<ObjId>]) -> Result<Vec<P
     Ok(pairs)
 }
 
+// The partners of each object, by its pairs and by what each condition names.
+fn all_partners(
+    alloc: Global,
+    pairs: &[Pairs],
+    named: &[Vec<ObjId>],
+) -> Result<Vec<Partners>, AllocError>
+    ensures { IfOk result (λ v. HavePartners named.now pairs.now (length pairs.now)
+        (length pairs.now) v.items) }
+{
+    let objects = pairs.len();
+    let mut partners = Vec::new(alloc);
+    for o in 0..objects {
+        let own = partners_of(alloc, &pairs[o].others, o, named, objects)?;
+        partners.push(own)?;
+    }
+    Ok(partners)
+}
+
 /// The links between the conditions and that number of objects. The answer is an error where memory
 /// runs out.
 pub fn links_of<const K: usize>(
@@ -127,11 +150,13 @@ pub fn links_of<const K: usize>(
     }
     let rows = all_rows(alloc, list, &picks)?;
     let pairs = all_pairs(alloc, &rows, &named)?;
+    let partners = all_partners(alloc, &pairs, &named)?;
     Ok(Links {
         named,
         picks,
         bare,
         rows,
         pairs,
+        partners,
     })
 }

@@ -10,6 +10,8 @@ use Rattle.indexical.specs.declared.any.AnyIndexical.{AnyIndexical}
 use Rattle.geo_conditions.specs.declared.object.TheConstants.{MAX_OBJECTS}
 use Rattle.sweep.specs.Picks.{ArePicks}
 use Rattle.object_pruning.specs.declared.rows.Rows.{Rows}
+use Rattle.fixpoint.specs.declared.pairs.Pairs.{Pairs}
+use Rattle.fixpoint.specs.Partners.{HavePartners}
 use Rattle.fixpoint.specs.Links.{HavePairs, SortAllRows, HaveRows, NamedBy, Numbers, NumbersOf, PicksOf, names_none, put_where, row}
 use Rattle.fixpoint.proofs.Linking.{LinksBelow, links_start, links_more, links_end, named_empty}
 use Rattle.fixpoint.proofs.Paired.{have_pairs}
@@ -77,4 +79,10 @@ returns g c =
     let are : (o : ℕ) → o < c.args.objects → PicksOf cs o (row picks o) = λ o h. subst (λ (m : ℕ). NumbersOf (names o) cs m (row picks o)) end (l.picks o h) in
     let by : (j : ℕ) (d : Cond) → j < length cs → NamedBy (get_or cs j d) c.args.objects (row named j) = λ j d h. l.named j d (omega (arith, h, end)) in
     let pairs : HavePairs cs picks c.args.objects beside = have_pairs cs picks c.args.objects named own beside are by rows sorted in
-    links_end _ c.args.objects c.loop-i.i _ end l rows pairs
+    let all : HavePartners c.deref-5.result.now c.deref-4.result.now (length c.deref-4.result.now) (length c.deref-4.result.now) c.in_ok-partners.partners.items = c.in_ok-partners.ensures in
+    let long : length beside ≡ c.args.objects = pairs.objects in
+    let found = c.in_ok-partners.partners.items in
+    let by_named = subst (λ (ns : List (Vec ObjId Global)). HavePartners ns c.deref-4.result.now (length c.deref-4.result.now) (length c.deref-4.result.now) found) c.deref-5.ensures.value all in
+    let by_pairs = subst (λ (ps : List Pairs). HavePartners named ps (length ps) (length ps) found) c.deref-4.ensures.value by_named in
+    let partners = subst (λ (m : ℕ). HavePartners named beside m m found) long by_pairs in
+    links_end _ c.args.objects c.loop-i.i _ end l rows pairs partners
