@@ -17,6 +17,7 @@ use Rattle.object_pruning.proofs.InRows.{row_past}
 use Rattle.fixpoint.specs.declared.links.Links.{Links}
 use Rattle.fixpoint.specs.declared.partners.Partners.{Partners}
 use Rattle.fixpoint.specs.Links.{AreLinks, is_among, row}
+use Rattle.fixpoint.specs.Pairs.{names_at}
 use Rattle.fixpoint.specs.Kept.{RetriesThose}
 use Rattle.fixpoint.specs.Marks.{NamesUnmarked}
 use Rattle.fixpoint.specs.Partners.{ArePartners, HasNumber, HaveMarked}
@@ -83,7 +84,7 @@ module _ {K : ℕ} (cs : List Cond) (S : State) (o : ℕ) (marks : List Bool) wh
           let ne : u ≢ o = λ s. false≢true (sym own ∙ subst (λ (v : ℕ). get_or marks v false ≡ true) s f.2) in
           let here : k - 1 < length cs = slice_get_within cs (k - 1) x at in
           let same : get_or cs (k - 1) x ≡ x = same_Some _ _ (sym (slice_get-get_or cs (k - 1) x here) ∙ at) in
-          let among : is_among u (row l.named.items (k - 1)) ≡ true = (a.named (k - 1) x here).each u below ∙ ap (names u) same ∙ f.3 in
+          let among : is_among u (names_at l.named.items (k - 1)) ≡ true = (a.named (k - 1) x here).each u below ∙ ap (names u) same ∙ f.3 in
           elim (are.each k u w below ne among) [
             | inl many ↦ second.tried i q e k x many at
             | inr few ↦ first.tried i q (second.stay i q e) k x (u, f.2, few) at

@@ -16,7 +16,9 @@ use Rattle.sweep.proofs.PickedConditions.{picked_at, pick_in}
 use Rattle.std.specs.declared.vec.Vec.{Vec}
 use Rattle.std.specs.declared.alloc.Global.{Global}
 use Rattle.std.proofs.Math.Bool.{or-false}
+use Rattle.smallvec.specs.SmallVec.{SmallVec}
 use Rattle.geo_conditions.specs.declared.object.ObjId.{ObjId}
+use Rattle.fixpoint.specs.Pairs.{names_at}
 use Rattle.fixpoint.specs.declared.links.Links.{Links}
 use Rattle.fixpoint.specs.Partners.{HavePartners}
 use Rattle.object_pruning.specs.declared.rows.Rows.{Rows}
@@ -43,6 +45,26 @@ pub named_all : (P : Cond → Type 0) (cs : List Cond) (o : ℕ) (picks : List �
 named_all P cs o picks p a = numbers_all P (names o) cs picks p a
 
 -- ---- lists of lists
+
+-- the same of the lists of what conditions name
+pub names_get : (vs : List (SmallVec ObjId)) (i : ℕ) (d : SmallVec ObjId) → i < length vs → names_at vs i ≡ (get_or vs i d).items
+names_get [] i d h = absurd (omega arith)
+names_get (v ∷ vs) zero d h = refl
+names_get (v ∷ vs) (suc i) d h = names_get vs i d (omega arith)
+
+pub names_past : (vs : List (SmallVec ObjId)) (i : ℕ) → length vs ≤ i → names_at vs i ≡ []
+names_past [] i h = refl
+names_past (v ∷ vs) zero h = absurd (omega arith)
+names_past (v ∷ vs) (suc i) h = names_past vs i (omega arith)
+
+names_before : (vs : List (SmallVec ObjId)) (v : SmallVec ObjId) (i : ℕ) → i < length vs → names_at (vs ++ v ∷ []) i ≡ names_at vs i
+names_before [] v i h = absurd (omega arith)
+names_before (w ∷ vs) v zero h = refl
+names_before (w ∷ vs) v (suc i) h = names_before vs v i (omega arith)
+
+names_last : (vs : List (SmallVec ObjId)) (v : SmallVec ObjId) → names_at (vs ++ v ∷ []) (length vs) ≡ v.items
+names_last [] v = refl
+names_last (w ∷ vs) v = names_last vs v
 
 pub row_before : {X : Type 0} (vs : List (Vec X Global)) (v : Vec X Global) (i : ℕ) → i < length vs → row (vs ++ v ∷ []) i ≡ row vs i
 row_before [] v i h = absurd (omega arith)
@@ -215,9 +237,9 @@ linked_more c k o named old new u v l t q h e = record {
 }
 
 -- the links of the first i conditions
-pub record LinksBelow (cs : List Cond) (n i : ℕ) (lists : List (Vec ObjId Global)) (numbers : List (Vec ℕ Global)) (without : List ℕ) : Type 0 where
+pub record LinksBelow (cs : List Cond) (n i : ℕ) (lists : List (SmallVec ObjId)) (numbers : List (Vec ℕ Global)) (without : List ℕ) : Type 0 where
   pub conditions : length lists ≡ i
-  pub named : (j : ℕ) (d : Cond) → j < i → NamedBy (get_or cs j d) n (row lists j)
+  pub named : (j : ℕ) (d : Cond) → j < i → NamedBy (get_or cs j d) n (names_at lists j)
   pub objects : length numbers ≡ n
   pub picks : (o : ℕ) → o < n → NumbersOf (names o) cs i (row numbers o)
   pub bare : NumbersOf (names_none n) cs i without
@@ -231,13 +253,13 @@ links_start cs n picks e f = record {
   bare = numbers_start (names_none n) cs;
 }
 
-pub links_more : (cs : List Cond) (n i : ℕ) (named : List (Vec ObjId Global)) (picks new : List (Vec ℕ Global)) (bare : List ℕ) (c : Cond) (v : Vec ObjId Global) → LinksBelow cs n i named picks bare → ((d : Cond) → get_or cs i d ≡ c) → NamedBy c n v.items → Numbers c (i + 1) picks new → length new ≡ length picks → LinksBelow cs n (i + 1) (named ++ v ∷ []) new (put_where (names_none n c) (i + 1) bare)
+pub links_more : (cs : List Cond) (n i : ℕ) (named : List (SmallVec ObjId)) (picks new : List (Vec ℕ Global)) (bare : List ℕ) (c : Cond) (v : SmallVec ObjId) → LinksBelow cs n i named picks bare → ((d : Cond) → get_or cs i d ≡ c) → NamedBy c n v.items → Numbers c (i + 1) picks new → length new ≡ length picks → LinksBelow cs n (i + 1) (named ++ v ∷ []) new (put_where (names_none n c) (i + 1) bare)
 links_more cs n i named picks new bare c v l at k m e = record {
   conditions = length_more named v ∙ ap (λ (z : ℕ). z + 1) l.conditions;
   named = λ j d h. elim (cases_eq j i) [
-    | inl q ↦ subst (λ (z : ℕ). NamedBy (get_or cs z d) n (row (named ++ v ∷ []) z)) (sym q)
-        (subst (λ (z : Cond). NamedBy z n (row (named ++ v ∷ []) i)) (sym (at d)) (subst (NamedBy c n) (sym (subst (λ (z : ℕ). row (named ++ v ∷ []) z ≡ v.items) l.conditions (row_last named v))) k))
-    | inr ne ↦ let b : j < i = omega arith in subst (NamedBy (get_or cs j d) n) (sym (row_before named v j (omega (arith, b, l.conditions)))) (l.named j d b)
+    | inl q ↦ subst (λ (z : ℕ). NamedBy (get_or cs z d) n (names_at (named ++ v ∷ []) z)) (sym q)
+        (subst (λ (z : Cond). NamedBy z n (names_at (named ++ v ∷ []) i)) (sym (at d)) (subst (NamedBy c n) (sym (subst (λ (z : ℕ). names_at (named ++ v ∷ []) z ≡ v.items) l.conditions (names_last named v))) k))
+    | inr ne ↦ let b : j < i = omega arith in subst (NamedBy (get_or cs j d) n) (sym (names_before named v j (omega (arith, b, l.conditions)))) (l.named j d b)
   ];
   objects = e ∙ l.objects;
   picks = λ o h. subst (NumbersOf (names o) cs (i + 1)) (sym (m o (omega (arith, h, l.objects)))) (numbers_put (names o) cs i (row picks o) (names o c) (l.picks o h) (λ d. ap (names o) (at d)));
@@ -274,7 +296,7 @@ some_of (x ∷ xs) i h = x
 
 -- a number of an object is that of a list
 pub number_in : (cs : List Cond) (n : ℕ) (l : Links) (u : ℕ) (numbers : List ℕ) (k : ℕ) → AreLinks cs n l → u < n → numbers ≡ row l.picks.items u → k < length numbers
-    → (0 < slice_index numbers k) × (slice_index numbers k - 1 < length l.named.items) × All (λ o. o.0 < n) (row l.named.items (slice_index numbers k - 1))
+    → (0 < slice_index numbers k) × (slice_index numbers k - 1 < length l.named.items) × All (λ o. o.0 < n) (names_at l.named.items (slice_index numbers k - 1))
 number_in cs n l u numbers k a h e b =
     let w = pick_in (length cs) numbers k (subst (ArePicks (length cs)) (sym e) (a.picks u h).within) b in
     (w.0, omega (arith, w.1, a.conditions), (a.named (slice_index numbers k - 1) (some_of cs (slice_index numbers k - 1) w.1) w.1).below)

@@ -6,6 +6,7 @@ use Rattle.std.proofs.lemmas.Bool.{cases_eq, cases_lt, false≢true, or_cases}
 use Rattle.std.proofs.lemmas.List.{get_or_push, get_or_append_left}
 use Rattle.std.proofs.lemmas.List.Folds.{list_any_at}
 use Rattle.std.proofs.lemmas.Option.{same_Some, slice_get_within, slice_get-get_or}
+use Rattle.smallvec.specs.SmallVec.{SmallVec}
 use Rattle.geo_conditions.specs.declared.cond.Cond.{Cond}
 use Rattle.geo_conditions.specs.declared.object.ObjId.{ObjId}
 use Rattle.object_pruning.specs.declared.rows.Group.{Group}
@@ -16,7 +17,7 @@ use Rattle.object_pruning.specs.InRows.{row, AreRows, IsGroup, IsInGroup}
 use Rattle.object_pruning.proofs.InRows.{row_past}
 use Rattle.fixpoint.specs.declared.pairs.Pairs.{Pairs}
 use Rattle.fixpoint.specs.declared.pairs.RowGroup.{RowGroup}
-use Rattle.fixpoint.specs.Pairs.{ArePairs, BelongsTo, HasGroup, HaveIn, IsOfRows, NamesNoThird, Puts, SortsRows}
+use Rattle.fixpoint.specs.Pairs.{ArePairs, BelongsTo, HasGroup, HaveIn, IsOfRows, NamesNoThird, Puts, SortsRows, names_at}
 use Rattle.fixpoint.specs.Links.{HavePairs, HaveRows, NamedBy, PicksOf, SortAllRows, is_among}
 use Rattle.fixpoint.proofs.Linking.{length_more, row_set_same, row_set_other}
 
@@ -181,7 +182,7 @@ sorts_start B rows n start long none = (start, long, none, puts_none B (IsBelow 
 pub sorts_more : (B : ℕ → Group → Type 0) (rows : Rows) (n m : ℕ) (mid new : List (Vec RowGroup Global)) (more most : List RowGroup) → SortedBelow B rows n m mid more → Puts B (λ b. (b.row ≡ m) × HasGroup (row rows.rows.items m) b.group) mid more new most → SortedBelow B rows n (m + 1) new most
 sorts_more B rows n m mid new more most w p = (w.0, w.1, w.2, puts_row B rows m w.0 mid new [] more most w.3 p)
 
-pub sorts_rows : (named : List (Vec ObjId Global)) (o : ℕ) (rows : Rows) (n m : ℕ) (p : Pairs) → length rows.rows.items ≤ m → SortedBelow (BelongsTo named o) rows n m p.beside.items p.others.items → SortsRows named o rows n p
+pub sorts_rows : (named : List (SmallVec ObjId)) (o : ℕ) (rows : Rows) (n m : ℕ) (p : Pairs) → length rows.rows.items ≤ m → SortedBelow (BelongsTo named o) rows n m p.beside.items p.others.items → SortsRows named o rows n p
 sorts_rows named o rows n m p h w = record {
   objects = w.3.objects ∙ w.1;
   beside = λ u b x. elim (w.3.beside u b x) [
@@ -196,7 +197,7 @@ sorts_rows named o rows n m p h w = record {
 }
 
 -- those of one object more
-pub sort_more : (named : List (Vec ObjId Global)) (rows : List Rows) (n : ℕ) (pairs : List Pairs) (p : Pairs) → SortAllRows named rows n pairs → ((d : Rows) → SortsRows named n (get_or rows n d) (length rows) p) → SortAllRows named rows (n + 1) (pairs ++ p ∷ [])
+pub sort_more : (named : List (SmallVec ObjId)) (rows : List Rows) (n : ℕ) (pairs : List Pairs) (p : Pairs) → SortAllRows named rows n pairs → ((d : Rows) → SortsRows named n (get_or rows n d) (length rows) p) → SortAllRows named rows (n + 1) (pairs ++ p ∷ [])
 sort_more named rows n pairs p h one = record {
   objects = length_more pairs p ∙ ap (λ (k : ℕ). k + 1) h.objects;
   each = λ o d q b. elim (cases_eq o n) [
@@ -222,10 +223,10 @@ same_one (x ∷ []) v w h a b = sym (only x v a) ∙ only x w b
 same_one (x ∷ y ∷ list) v w h a b = absurd (omega (arith, h))
 
 -- what the lists of named objects say of a group that belongs to u's
-no_third : (cs : List Cond) (o : ℕ) (picks : List ℕ) (n : ℕ) (named : List (Vec ObjId Global)) (u r : ℕ) (g : Group) → o < n → PicksOf cs o picks → ((i : ℕ) (d : Cond) → i < length cs → NamedBy (get_or cs i d) n (row named i)) → IsGroup cs o picks r g → BelongsTo named o u g → NamesNoThird cs n o u g
+no_third : (cs : List Cond) (o : ℕ) (picks : List ℕ) (n : ℕ) (named : List (SmallVec ObjId)) (u r : ℕ) (g : Group) → o < n → PicksOf cs o picks → ((i : ℕ) (d : Cond) → i < length cs → NamedBy (get_or cs i d) n (names_at named i)) → IsGroup cs o picks r g → BelongsTo named o u g → NamesNoThird cs n o u g
 no_third cs o picks n named u r g h p each is belongs i x b at v l t ne = elim belongs [
   | inl other ↦ elim (pair_of x o g.other_place u g.other other (is.faces i x b at).other v t) [ inl e ↦ absurd (ne e) | inr e ↦ e ]
-  | inr own ↦ absurd (ne (same_one (row named (i - 1)) v o (own.1 i b) (among v l t) (among o h (o_named))))
+  | inr own ↦ absurd (ne (same_one (names_at named (i - 1)) v o (own.1 i b) (among v l t) (among o h (o_named))))
 ]
   where
     within : i - 1 < length cs
@@ -234,10 +235,10 @@ no_third cs o picks n named u r g h p each is belongs i x b at v l t ne = elim b
     here : get_or cs (i - 1) x ≡ x
     here = same_Some _ _ (sym (slice_get-get_or cs (i - 1) x within) ∙ at)
 
-    by : NamedBy x n (row named (i - 1))
-    by = subst (λ (c : Cond). NamedBy c n (row named (i - 1))) here (each (i - 1) x within)
+    by : NamedBy x n (names_at named (i - 1))
+    by = subst (λ (c : Cond). NamedBy c n (names_at named (i - 1))) here (each (i - 1) x within)
 
-    among : (w : ℕ) → w < n → names w x ≡ true → is_among w (row named (i - 1)) ≡ true
+    among : (w : ℕ) → w < n → names w x ≡ true → is_among w (names_at named (i - 1)) ≡ true
     among w b e = by.each w b ∙ e
 
     o_named : names o x ≡ true
@@ -247,7 +248,7 @@ no_third cs o picks n named u r g h p each is belongs i x b at v l t ne = elim b
         let found = list_any_at (nat_eq (suc (i - 1))) picks at_pick.0 i at_pick.1 (eq-eqb (suc (i - 1)) (get_or picks at_pick.0 i) (e ∙ sym at_pick.2)) in
         sym (ap (names o) here) ∙ sym (p.each (i - 1) x within) ∙ found
 
-pairs_of_rows : (cs : List Cond) (o : ℕ) (picks : List ℕ) (rows : Rows) (n : ℕ) (named : List (Vec ObjId Global)) (p : Pairs) → o < n → PicksOf cs o picks → ((i : ℕ) (d : Cond) → i < length cs → NamedBy (get_or cs i d) n (row named i)) → AreRows cs o picks rows → SortsRows named o rows n p → ArePairs cs o picks n p
+pairs_of_rows : (cs : List Cond) (o : ℕ) (picks : List ℕ) (rows : Rows) (n : ℕ) (named : List (SmallVec ObjId)) (p : Pairs) → o < n → PicksOf cs o picks → ((i : ℕ) (d : Cond) → i < length cs → NamedBy (get_or cs i d) n (names_at named i)) → AreRows cs o picks rows → SortsRows named o rows n p → ArePairs cs o picks n p
 pairs_of_rows cs o picks rows n named p h are each a s = record {
   objects = s.objects;
   beside = λ u b w.
@@ -258,7 +259,7 @@ pairs_of_rows cs o picks rows n named p h are each a s = record {
   each = λ k h. let w = a.each k h in s.each (in_row w.0 w.1.1) (slice_index picks k) (w.1.0, w.1.2) w.1.3;
 }
 
-pub have_pairs : (cs : List Cond) (picks : List (Vec ℕ Global)) (n : ℕ) (named : List (Vec ObjId Global)) (rows : List Rows) (pairs : List Pairs) → ((o : ℕ) → o < n → PicksOf cs o (row picks o)) → ((i : ℕ) (d : Cond) → i < length cs → NamedBy (get_or cs i d) n (row named i)) → HaveRows cs picks n rows → SortAllRows named rows (length rows) pairs → HavePairs cs picks n pairs
+pub have_pairs : (cs : List Cond) (picks : List (Vec ℕ Global)) (n : ℕ) (named : List (SmallVec ObjId)) (rows : List Rows) (pairs : List Pairs) → ((o : ℕ) → o < n → PicksOf cs o (row picks o)) → ((i : ℕ) (d : Cond) → i < length cs → NamedBy (get_or cs i d) n (names_at named i)) → HaveRows cs picks n rows → SortAllRows named rows (length rows) pairs → HavePairs cs picks n pairs
 have_pairs cs picks n named rows pairs are by r s = record {
   objects = s.objects ∙ r.objects;
   each = λ o d h.

@@ -6,6 +6,7 @@ use Rattle.std.proofs.Math.ListN.{length-set}
 use Rattle.std.proofs.lemmas.Bool.{cases_eq, false≢true, or_cases}
 use Rattle.std.proofs.lemmas.List.{get_or_push, get_or_append_left}
 use Rattle.std.proofs.lemmas.Option.{same_Some, slice_get-get_or, slice_get_within}
+use Rattle.smallvec.specs.SmallVec.{SmallVec}
 use Rattle.geo_conditions.specs.declared.object.ObjId.{ObjId}
 use Rattle.object_pruning.specs.declared.rows.Group.{Group}
 use Rattle.object_pruning.specs.InRows.{row, IsInGroup}
@@ -13,7 +14,7 @@ use Rattle.fixpoint.specs.Among.{is_among}
 use Rattle.fixpoint.specs.declared.pairs.Pairs.{Pairs}
 use Rattle.fixpoint.specs.declared.pairs.RowGroup.{RowGroup}
 use Rattle.fixpoint.specs.declared.partners.Partners.{Partners}
-use Rattle.fixpoint.specs.Pairs.{HaveIn}
+use Rattle.fixpoint.specs.Pairs.{HaveIn, names_at}
 use Rattle.fixpoint.specs.Partners.{ArePartners, HasNumber, HavePartners, PutsAt, PutsNumbers}
 use Rattle.fixpoint.proofs.Asked.{InBelow}
 use Rattle.fixpoint.proofs.Linking.{length_more, row_set_same, row_set_other}
@@ -96,8 +97,8 @@ at_list i o list n old new h a = record {
 
 -- ---- some numbers
 
-module _ (named : List (Vec ObjId Global)) (o : ℕ) where
-  pub numbers_few : (i : ℕ) (list : List ObjId) (old new : List (Vec ℕ Global)) (others : List ℕ) → list ≡ row named (i - 1) → PutsAt i (λ u. (is_among u list ≡ true) × (u ≢ o)) old new → PutsNumbers named o (λ j. j ≡ i) old others new others
+module _ (named : List (SmallVec ObjId)) (o : ℕ) where
+  pub numbers_few : (i : ℕ) (list : List ObjId) (old new : List (Vec ℕ Global)) (others : List ℕ) → list ≡ names_at named (i - 1) → PutsAt i (λ u. (is_among u list ≡ true) × (u ≢ o)) old new → PutsNumbers named o (λ j. j ≡ i) old others new others
   numbers_few i list old new others e a = record {
     objects = a.objects;
     stay = a.stay;
@@ -105,7 +106,7 @@ module _ (named : List (Vec ObjId Global)) (o : ℕ) where
     from = a.from;
     further = λ j w. inl w;
     each = λ j u s h ne m.
-        let among : is_among u list ≡ true = subst (λ (l : List ObjId). is_among u l ≡ true) (sym e) (subst (λ (z : ℕ). is_among u (row named (z - 1)) ≡ true) s m) in
+        let among : is_among u list ≡ true = subst (λ (l : List ObjId). is_among u l ≡ true) (sym e) (subst (λ (z : ℕ). is_among u (names_at named (z - 1)) ≡ true) s m) in
         inr (subst (HasNumber (row new u)) (sym s) (a.there u (among, ne) h));
   }
 
@@ -187,7 +188,7 @@ module _ (named : List (Vec ObjId Global)) (o : ℕ) where
   }
 
 -- those of one object more
-pub partners_more : (named : List (Vec ObjId Global)) (pairs : List Pairs) (n m : ℕ) (partners : List Partners) (q : Partners) → HavePartners named pairs n m partners → ((p : Pairs) → ArePartners named m n (HaveIn (get_or pairs m p).others.items) q) → HavePartners named pairs n (m + 1) (partners ++ q ∷ [])
+pub partners_more : (named : List (SmallVec ObjId)) (pairs : List Pairs) (n m : ℕ) (partners : List Partners) (q : Partners) → HavePartners named pairs n m partners → ((p : Pairs) → ArePartners named m n (HaveIn (get_or pairs m p).others.items) q) → HavePartners named pairs n (m + 1) (partners ++ q ∷ [])
 partners_more named pairs n m partners q h one = record {
   objects = length_more partners q ∙ ap (λ (z : ℕ). z + 1) h.objects;
   each = λ o p d b. elim (cases_eq o m) [

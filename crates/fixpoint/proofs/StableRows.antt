@@ -6,6 +6,7 @@ use Rattle.std.proofs.Math.Logic.{∥∥₁_elim, ∥∥₁_map}
 use Rattle.std.proofs.lemmas.Bool.{cases_eq, cases_lt}
 use Rattle.std.proofs.lemmas.Option.{same_Some}
 use Rattle.geo_conditions.specs.declared.cond.Cond.{Cond}
+use Rattle.smallvec.specs.SmallVec.{SmallVec}
 use Rattle.geo_conditions.specs.declared.object.ObjId.{ObjId}
 use Rattle.geo_conditions.proofs.Decide.{Decided, search_below}
 use Rattle.indexical.specs.Faces.{IsBeside}
@@ -129,7 +130,7 @@ stable_pairs cs o picks n p h = record {
       stable _ (either _ _ (decide_rows (λ (x : RowGroup). IsInGroup x.group i) f p.beside.items) (decide_in (λ (x : RowGroup). IsInGroup x.group i) f p.others.items)) (∥∥₁_map h (λ a. a.each k b));
 }
 
-stable_partners : (named : List (Vec ObjId Global)) (o n : ℕ) (bs : List RowGroup) (p : Partners) → ∥ ArePartners named o n (HaveIn bs) p ∥₁ → ArePartners named o n (HaveIn bs) p
+stable_partners : (named : List (SmallVec ObjId)) (o n : ℕ) (bs : List RowGroup) (p : Partners) → ∥ ArePartners named o n (HaveIn bs) p ∥₁ → ArePartners named o n (HaveIn bs) p
 stable_partners named o n bs p h = record {
   objects = ∥∥₁_elim h (hlevel props) (λ a. a.objects);
   few = λ u j w. stable _ (decide_have bs j) (∥∥₁_map h (λ a. a.few u j w));

@@ -3,6 +3,7 @@ use Rattle.std.specs.Prelude.{◌≡◌, ◌≢◌, ◌==◌, ◌&&◌, ℕ, zer
 use Rattle.std.specs.List.{All, AllPairs, list_any}
 use Rattle.std.specs.declared.vec.Vec.{Vec}
 use Rattle.std.specs.declared.alloc.Global.{Global}
+use Rattle.smallvec.specs.SmallVec.{SmallVec}
 use Rattle.geo_conditions.specs.declared.cond.Cond.{Cond}
 use Rattle.geo_conditions.specs.declared.object.ObjId.{ObjId}
 use Rattle.indexical.specs.Names.{names}
@@ -12,9 +13,9 @@ use Rattle.object_pruning.specs.InRows.{AreRows, HaveNumber}
 pub use Rattle.object_pruning.specs.InRows.{row}
 use Rattle.fixpoint.specs.declared.links.Links.{Links}
 use Rattle.fixpoint.specs.declared.pairs.Pairs.{Pairs}
-use Rattle.fixpoint.specs.Pairs.{ArePairs, SortsRows}
 use Rattle.fixpoint.specs.Partners.{HavePartners}
 pub use Rattle.fixpoint.specs.Among.{is_among}
+use Rattle.fixpoint.specs.Pairs.{ArePairs, SortsRows, names_at}
 
 -- the numbers, from 1 and rising, are those of the first n conditions that meet the test
 pub record NumbersOf (test : Cond → Bool) (cs : List Cond) (n : ℕ) (numbers : List ℕ) : Type 0 where
@@ -54,7 +55,7 @@ pub record HaveRows (cs : List Cond) (picks : List (Vec ℕ Global)) (n : ℕ) (
   pub each : (o : ℕ) (d : Rows) → o < n → AreRows cs o (row picks o) (slice_index_or rows o d)
 
 -- there are pairs for the rows of each of the first n objects
-pub record SortAllRows (named : List (Vec ObjId Global)) (rows : List Rows) (n : ℕ) (pairs : List Pairs) : Type 0 where
+pub record SortAllRows (named : List (SmallVec ObjId)) (rows : List Rows) (n : ℕ) (pairs : List Pairs) : Type 0 where
   pub objects : length pairs ≡ n
   pub each : (o : ℕ) (d : Rows) (p : Pairs) → o < n → SortsRows named o (slice_index_or rows o d) (length rows) (slice_index_or pairs o p)
 
@@ -66,7 +67,7 @@ pub record HavePairs (cs : List Cond) (picks : List (Vec ℕ Global)) (n : ℕ) 
 -- the links between the conditions and n objects
 pub record AreLinks (cs : List Cond) (n : ℕ) (l : Links) : Type 0 where
   pub conditions : length l.named.items ≡ length cs
-  pub named : (i : ℕ) (d : Cond) → i < length cs → NamedBy (slice_index_or cs i d) n (row l.named.items i)
+  pub named : (i : ℕ) (d : Cond) → i < length cs → NamedBy (slice_index_or cs i d) n (names_at l.named.items i)
   pub objects : length l.picks.items ≡ n
   pub picks : (o : ℕ) → o < n → PicksOf cs o (row l.picks.items o)
   pub bare : BareOf cs n l.bare.items

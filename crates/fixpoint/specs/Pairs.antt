@@ -1,7 +1,8 @@
 -- The groups of an object's rows, by the other object that they name.
-use Rattle.std.specs.Prelude.{◌≡◌, ◌≢◌, ◌⊎◌, ℕ, ◌-◌, ◌<◌, ◌≤◌, true, List, length, slice_get, slice_index, Some, MatchOption}
+use Rattle.std.specs.Prelude.{◌≡◌, ◌≢◌, ◌⊎◌, ℕ, zero, suc, [], ◌∷◌, ◌-◌, ◌<◌, ◌≤◌, true, List, length, slice_get, slice_index, Some, MatchOption}
 use Rattle.std.specs.declared.vec.Vec.{Vec}
 use Rattle.std.specs.declared.alloc.Global.{Global}
+use Rattle.smallvec.specs.SmallVec.{SmallVec}
 use Rattle.geo_conditions.specs.declared.cond.Cond.{Cond}
 use Rattle.geo_conditions.specs.declared.object.ObjId.{ObjId}
 use Rattle.indexical.specs.Names.{names}
@@ -28,12 +29,18 @@ HaveBeside lists i = (u : ℕ) × HaveIn (row lists u) i
 abbrev pub IsOther : Group → ℕ → Type 0
 IsOther g u = MatchOption g.other ⊥ (λ v. v.0 ≡ u)
 
+-- the objects that are listed there; nothing past the last list
+abbrev pub names_at : List (SmallVec ObjId) → ℕ → List ObjId
+names_at [] i = []
+names_at (v ∷ vs) zero = v.items
+names_at (v ∷ vs) (suc i) = names_at vs i
+
 -- each condition of the group names one object at most, by the lists of what conditions name
-abbrev pub NamesOne : List (Vec ObjId Global) → Group → Type 0
-NamesOne named g = (i : ℕ) → IsInGroup g i → length (row named (i - 1)) ≤ 1
+abbrev pub NamesOne : List (SmallVec ObjId) → Group → Type 0
+NamesOne named g = (i : ℕ) → IsInGroup g i → length (names_at named (i - 1)) ≤ 1
 
 -- the group of the object o is one of u's: it tells that u is the other object, or u is o itself, and it names no other one
-abbrev pub BelongsTo : List (Vec ObjId Global) → ℕ → ℕ → Group → Type 0
+abbrev pub BelongsTo : List (SmallVec ObjId) → ℕ → ℕ → Group → Type 0
 BelongsTo named o u g = IsOther g u ⊎ ((u ≡ o) × NamesOne named g)
 
 -- some of those groups were put there, each where it belongs
@@ -50,7 +57,7 @@ abbrev pub IsOfRows : Rows → RowGroup → Type 0
 IsOfRows rows b = HasGroup (row rows.rows.items b.row) b.group
 
 -- the groups of the rows of the object o, by the other object, of which there are n
-pub record SortsRows (named : List (Vec ObjId Global)) (o : ℕ) (rows : Rows) (n : ℕ) (p : Pairs) : Type 0 where
+pub record SortsRows (named : List (SmallVec ObjId)) (o : ℕ) (rows : Rows) (n : ℕ) (p : Pairs) : Type 0 where
   pub objects : length p.beside.items ≡ n
   pub beside : (u : ℕ) (b : RowGroup) → HasGroup (row p.beside.items u) b → IsOfRows rows b × BelongsTo named o u b.group
   pub others : (b : RowGroup) → HasGroup p.others.items b → IsOfRows rows b

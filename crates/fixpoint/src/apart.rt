@@ -13,9 +13,9 @@ use geo_state::{Propagate, Settled, Trailed};
 use indexical::AnyIndexical;
 use std::alloc::{AllocError, Global};
 
-/// Propagation by a queue of objects, each pruned by sweeps for its places and for the ends of its intervals. Conditions that ask for
-/// several things at once are taken apart first; the record names them by their own numbers. All memory but that of the record is
-/// taken at the start.
+/// Propagation by a queue of objects, each pruned by sweeps for its places and for the ends of its
+/// intervals. Conditions that ask for several things at once are taken apart first; the record
+/// names them by their own numbers. All memory but that of the record is taken at the start.
 pub struct Fixpoint<const K: usize> {
     parts: QueueFixpoint<K>,
     wholes: Vec<Option<Cond>>,
@@ -24,7 +24,8 @@ pub struct Fixpoint<const K: usize> {
         (map (λ x. x.cond) parts.list.items) numbers ∥₁ },
 }
 
-/// Written out, since a derived one, with those of all parts, is made and proved anew in each crate that drops one.
+/// Written out, since a derived one, with those of all parts, is made and proved anew in each crate
+/// that drops one.
 impl<const K: usize> Drop for Fixpoint<K> {
     fn drop(self) {
         let Fixpoint {

@@ -95,7 +95,8 @@ fn is_same<const K: usize>(a: &State<K>, b: &State<K>, o: ObjId) -> bool
     has_same_region(a, b, o) && has_same_places(a, b, o)
 }
 
-/// Queues each object that differs in the two states, wakes those that it may hinder, and tells the watches.
+/// Queues each object that differs in the two states, wakes those that it may hinder, and tells the
+/// watches.
 pub fn queue_changed<const K: usize>(
     list: &[AnyIndexical<K>],
     links: &Links,

@@ -39,7 +39,8 @@ pub fn blank_slots<const K: usize>(alloc: Global) -> Result<Vec<Option<Placed<K>
     Ok(blank)
 }
 
-/// The slots of that number of objects, with nothing kept. The answer is an error where memory is short.
+/// The slots of that number of objects, with nothing kept. The answer is an error where memory is
+/// short.
 pub fn all_blank<const K: usize>(
     alloc: Global,
     objects: usize,
@@ -54,8 +55,8 @@ pub fn all_blank<const K: usize>(
     Ok(kept)
 }
 
-// Asks the i-th condition again at what is kept of the object, and forgets where it is refuted. Where it surely spares the object,
-// there is nothing to ask.
+// Asks the i-th condition again at what is kept of the object, and forgets where it is refuted.
+// Where it surely spares the object, there is nothing to ask.
 fn retry_watched<const K: usize>(
     list: &[AnyIndexical<K>],
     i: usize,
@@ -120,8 +121,8 @@ fn retry_marked<const K: usize>(
     }
 }
 
-// Asks the condition of that number again, if it names a marked object. One that rests on two others, which did not change since that
-// was found, is not asked.
+// Asks the condition of that number again, if it names a marked object. One that rests on two
+// others, which did not change since that was found, is not asked.
 fn retry_number<const K: usize>(
     list: &[AnyIndexical<K>],
     links: &Links,
@@ -146,7 +147,8 @@ fn retry_number<const K: usize>(
     if watches.is_known_to_spare(i, o) {
         return;
     }
-    retry_marked(list, i, &links.named[i], marks, o, s, watches, kept);
+    let named = links.named[i].as_slice();
+    retry_marked(list, i, named, marks, o, s, watches, kept);
 }
 
 // Asks the conditions of a group again that name a marked object.
@@ -213,8 +215,9 @@ fn is_known<const K: usize>(known: &Option<Placed<K>>, q: &Placed<K>) -> bool
     }
 }
 
-// Forgets what is kept in a slot where a condition of the group is refuted. Those of a row of a place ask for that place of the
-// object. The last point at which they were all possible is known, and not asked again.
+// Forgets what is kept in a slot where a condition of the group is refuted. Those of a row of a
+// place ask for that place of the object. The last point at which they were all possible is known,
+// and not asked again.
 fn ask_slot<const K: usize>(
     list: &[AnyIndexical<K>],
     r: usize,
@@ -273,7 +276,8 @@ fn ask_slots<const K: usize>(
     }
 }
 
-// Whether the conditions of a group can be in the way, where that is the place which u has alone, or 0.
+// Whether the conditions of a group can be in the way, where that is the place which u has alone,
+// or 0.
 #[inline(always)]
 fn can_be_in_the_way(group: &Group, u: ObjId, sole: u8) -> bool
     ensures { result ≡ false → MatchOption group.now.other ⊥ (λ v. (v.0 ≡ u.0)
@@ -495,8 +499,8 @@ fn ask_partners<const K: usize>(
     retry_numbers(list, links, &partners.many, o, s, marked, watches, kept);
 }
 
-// Asks each condition that names the object and a marked one again, at what is kept of the object, and forgets where it is refuted.
-// Then all of it stands.
+// Asks each condition that names the object and a marked one again, at what is kept of the object,
+// and forgets where it is refuted. Then all of it stands.
 fn ask_again<const K: usize>(
     list: &[AnyIndexical<K>],
     links: &Links,
@@ -522,7 +526,8 @@ fn ask_again<const K: usize>(
     ask_partners(list, links, &pairs.others, object, s, marks, watches, kept);
 }
 
-/// Asks what is kept of the object again where a neighbour changed. Then all of it stands, and no neighbour is marked any more.
+/// Asks what is kept of the object again where a neighbour changed. Then all of it stands, and no
+/// neighbour is marked any more.
 pub fn refresh<const K: usize>(
     list: &[AnyIndexical<K>],
     links: &Links,

@@ -10,12 +10,13 @@ use crate::partners::{Partners, partners_of};
 use geo_conditions::{MAX_OBJECTS, ObjId};
 use indexical::AnyIndexical;
 use object_pruning::{Rows, rows_of};
+use smallvec::SmallVec;
 use std::alloc::{AllocError, Global};
 
 /// The links between conditions and objects. The numbers of the conditions count from 1.
 pub struct Links {
     /// For each condition the objects that it names.
-    pub named: Vec<Vec<ObjId>>,
+    pub named: Vec<SmallVec<ObjId, 2>>,
     /// For each object the numbers of the conditions that name it.
     pub picks: Vec<Vec<u32>>,
     /// The numbers of the conditions that name no object.
@@ -47,13 +48,13 @@ fn link<const K: usize>(
     x: &AnyIndexical<K>,
     number: u32,
     picks: &mut [Vec<u32>],
-) -> Result<Vec<ObjId>, AllocError>
+) -> Result<SmallVec<ObjId, 2>, AllocError>
     requires { length picks.old ≤ MAX_OBJECTS }
     ensures named { IfOk result (λ v. NamedBy x.now.cond (length picks.old) v.items) }
     ensures numbers { IfOk result (λ v. Numbers x.now.cond number picks.old picks.new) }
 {
     let objects = picks.len();
-    let mut named = Vec::new(alloc);
+    let mut named = SmallVec::new(alloc);
     let mut next = 0;
     while let Some(o) = x.first_named(next, objects) {
         named.push(o)?;
@@ -96,7 +97,11 @@ fn all_rows<const K: usize>(
 }
 
 // The pairs of each object, by its rows and by what each condition names.
-fn all_pairs(alloc: Global, rows: &[Rows], named: &[Vec<ObjId>]) -> Result<Vec<Pairs>, AllocError>
+fn all_pairs(
+    alloc: Global,
+    rows: &[Rows],
+    named: &[SmallVec<ObjId, 2>],
+) -> Result<Vec<Pairs>, AllocError>
     ensures { IfOk result (λ v. SortAllRows named.now rows.now (length rows.now) v.items) }
 {
     let objects = rows.len();
@@ -112,7 +117,7 @@ fn all_pairs(alloc: Global, rows: &[Rows], named: &[Vec<ObjId>]) -> Result<Vec<P
 fn all_partners(
     alloc: Global,
     pairs: &[Pairs],
-    named: &[Vec<ObjId>],
+    named: &[SmallVec<ObjId, 2>],
 ) -> Result<Vec<Partners>, AllocError>
     ensures { IfOk result (λ v. HavePartners named.now pairs.now (length pairs.now)
         (length pairs.now) v.items) }

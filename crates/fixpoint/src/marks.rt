@@ -46,8 +46,8 @@ fn take_away(there: &mut [bool], from: usize, end: usize)
     }
 }
 
-// The first mark from `from` on that is set, where those that are set lie before `end`; the number of
-// marks where none is.
+// The first mark from `from` on that is set, where those that are set lie before `end`; the number
+// of marks where none is.
 #[inline(always)]
 fn first_between(there: &[bool], from: usize, end: usize) -> usize
     requires bounds { (from ≤ length there.now) × (end ≤ length there.now) }

@@ -6,6 +6,7 @@ ghost use Rattle.fixpoint.specs.Pairs.{BelongsTo, HasGroup, NamesOne, Puts, Sort
 
 use geo_conditions::ObjId;
 use object_pruning::{Group, Rows};
+use smallvec::SmallVec;
 use std::alloc::{AllocError, Global};
 
 /// A group of conditions of an object, and its row.
@@ -17,7 +18,8 @@ pub struct RowGroup {
 
 /// The groups of an object's rows, by the other object that they name.
 pub struct Pairs {
-    /// For each object the groups that name it too, and no third one; for the object itself those that name no other one.
+    /// For each object the groups that name it too, and no third one; for the object itself those
+    /// that name no other one.
     pub beside: Vec<Vec<RowGroup>>,
     /// The other groups.
     pub others: Vec<RowGroup>,
@@ -32,8 +34,9 @@ impl Drop for Pairs {
     }
 }
 
-// Whether each condition of the group names one object at most, by the lists of what conditions name.
-fn names_one(group: &Group, named: &[Vec<ObjId>]) -> bool
+// Whether each condition of the group names one object at most, by the lists of what conditions
+// name.
+fn names_one(group: &Group, named: &[SmallVec<ObjId, 2>]) -> bool
     ensures { IsTrue result → NamesOne named.now group.now }
 {
     let first = group.first as usize;
@@ -47,9 +50,9 @@ fn names_one(group: &Group, named: &[Vec<ObjId>]) -> bool
     true
 }
 
-// The object to whose groups this one of the object o belongs: the other one that it names, where that is told, or else o, where it
-// names no other one.
-fn home_of(group: &Group, o: usize, named: &[Vec<ObjId>]) -> Option<usize>
+// The object to whose groups this one of the object o belongs: the other one that it names, where
+// that is told, or else o, where it names no other one.
+fn home_of(group: &Group, o: usize, named: &[SmallVec<ObjId, 2>]) -> Option<usize>
     ensures { IfSome result (λ u. BelongsTo named.now o u group.now) }
 {
     match group.other {
@@ -64,11 +67,12 @@ fn home_of(group: &Group, o: usize, named: &[Vec<ObjId>]) -> Option<usize>
     }
 }
 
-// Puts the group of the object o to those to which it belongs, where that is told, or else behind the others.
+// Puts the group of the object o to those to which it belongs, where that is told, or else behind
+// the others.
 fn put_group(
     placed: RowGroup,
     o: usize,
-    named: &[Vec<ObjId>],
+    named: &[SmallVec<ObjId, 2>],
     beside: &mut [Vec<RowGroup>],
     others: &mut Vec<RowGroup>,
 ) -> Result<(), AllocError>
@@ -91,7 +95,7 @@ fn put_row(
     row: usize,
     groups: &[Group],
     o: usize,
-    named: &[Vec<ObjId>],
+    named: &[SmallVec<ObjId, 2>],
     beside: &mut [Vec<RowGroup>],
     others: &mut Vec<RowGroup>,
 ) -> Result<(), AllocError>
@@ -117,13 +121,13 @@ fn no_groups(alloc: Global, objects: usize) -> Result<Vec<Vec<RowGroup>>, AllocE
     Ok(groups)
 }
 
-/// The groups of the rows of the object o by the other object that they name, of that many, where it is given what each condition
-/// names. The answer is an error where memory runs out.
+/// The groups of the rows of the object o by the other object that they name, of that many, where
+/// it is given what each condition names. The answer is an error where memory runs out.
 pub fn pairs_of(
     alloc: Global,
     rows: &Rows,
     o: usize,
-    named: &[Vec<ObjId>],
+    named: &[SmallVec<ObjId, 2>],
     objects: usize,
 ) -> Result<Pairs, AllocError>
     ensures { IfOk result (SortsRows named.now o rows.now objects) }

@@ -9,6 +9,7 @@ ghost use Rattle.fixpoint.specs.Partners.{ArePartners, PutsAt, PutsNumbers};
 use crate::pairs::RowGroup;
 use geo_conditions::ObjId;
 use object_pruning::Group;
+use smallvec::SmallVec;
 use std::alloc::{AllocError, Global};
 
 // A condition that names no more objects is found by each of them.
@@ -63,7 +64,7 @@ fn put_beside(
 }
 
 // Whether the k-th condition names few objects.
-fn names_few(named: &[Vec<ObjId>], k: usize) -> bool
+fn names_few(named: &[SmallVec<ObjId, 2>], k: usize) -> bool
     ensures { IsTrue result → k < length named.now }
 {
     k < named.len() && named[k].len() <= FEW
@@ -74,7 +75,7 @@ fn names_few(named: &[Vec<ObjId>], k: usize) -> bool
 fn put_number(
     number: u32,
     o: usize,
-    named: &[Vec<ObjId>],
+    named: &[SmallVec<ObjId, 2>],
     few: &mut [Vec<u32>],
     many: &mut Vec<u32>,
 ) -> Result<(), AllocError>
@@ -83,7 +84,7 @@ fn put_number(
 {
     let k = (number as usize).saturating_sub(1);
     if names_few(named, k) {
-        put_beside(number, o, &named[k], few)?;
+        put_beside(number, o, named[k].as_slice(), few)?;
         return Ok(());
     }
     many.push(number)?;
@@ -94,7 +95,7 @@ fn put_number(
 fn put_group(
     group: &Group,
     o: usize,
-    named: &[Vec<ObjId>],
+    named: &[SmallVec<ObjId, 2>],
     few: &mut [Vec<u32>],
     many: &mut Vec<u32>,
 ) -> Result<(), AllocError>
@@ -127,7 +128,7 @@ pub fn partners_of(
     alloc: Global,
     groups: &[RowGroup],
     o: usize,
-    named: &[Vec<ObjId>],
+    named: &[SmallVec<ObjId, 2>],
     objects: usize,
 ) -> Result<Partners, AllocError>
     ensures { IfOk result (ArePartners named.now o objects (HaveIn groups.now)) }

@@ -59,7 +59,8 @@ fn first_refuted<const K: usize>(
     None
 }
 
-// Prunes an object by the conditions that name it, with what is kept of it. The error is want of memory for the record.
+// Prunes an object by the conditions that name it, with what is kept of it. The error is want of
+// memory for the record.
 fn prune_linked<const K: usize, R: Recorder>(
     list: &[AnyIndexical<K>],
     links: &Links,
@@ -99,8 +100,8 @@ fn prune_linked<const K: usize, R: Recorder>(
     )
 }
 
-// Prunes an object, after what is kept of it was asked again. Where it changed, the neighbours that it may hinder are woken; so are
-// they after an error.
+// Prunes an object, after what is kept of it was asked again. Where it changed, the neighbours that
+// it may hinder are woken; so are they after an error.
 fn prune_and_wake<const K: usize, R: Recorder>(
     list: &[AnyIndexical<K>],
     links: &Links,
@@ -148,8 +149,8 @@ fn prune_and_wake<const K: usize, R: Recorder>(
     pruned
 }
 
-// Prunes the queued objects until none is left. An object comes back where one changed that may hinder it. At a dead end, and
-// after an error, it is queued again itself.
+// Prunes the queued objects until none is left. An object comes back where one changed that may
+// hinder it. At a dead end, and after an error, it is queued again itself.
 fn prune_queued<const K: usize, R: Recorder>(
     list: &[AnyIndexical<K>],
     links: &Links,
@@ -201,8 +202,8 @@ fn prune_queued<const K: usize, R: Recorder>(
     Ok(Settled::Kept)
 }
 
-// Settles the state. Besides what was queued before, it begins with what differs from the last state, which becomes the state
-// that it leaves.
+// Settles the state. Besides what was queued before, it begins with what differs from the last
+// state, which becomes the state that it leaves.
 fn settle<const K: usize, R: Recorder>(
     list: &[AnyIndexical<K>],
     links: &Links,
@@ -263,8 +264,8 @@ fn some_state<const K: usize>(alloc: Global, objects: usize) -> Result<State<K>,
     Ok(s)
 }
 
-/// Propagation by a queue of objects, each pruned by sweeps for its places and for the ends of its intervals. All memory but
-/// that of the record is taken at the start.
+/// Propagation by a queue of objects, each pruned by sweeps for its places and for the ends of its
+/// intervals. All memory but that of the record is taken at the start.
 pub struct QueueFixpoint<const K: usize> {
     pub list: Vec<AnyIndexical<K>>,
     links: Links,
@@ -310,7 +311,8 @@ impl<const K: usize> QueueFixpoint<K> {
         requires list { length list.items ≤ 1000000000 }
         requires objects { objects ≤ MAX_OBJECTS }
         ensures conditions { IfOk result (λ p.
-            ⟦<QueueFixpoint<K> as Propagate<K>>⟧.conditions p ≡ map (λ x. x.cond) list.entry.items) }
+            ⟦<QueueFixpoint<K> as Propagate<K>>⟧.conditions p
+            ≡ map (λ x. x.cond) list.entry.items) }
         ensures objects { IfOk result (λ p.
             ⟦<QueueFixpoint<K> as Propagate<K>>⟧.objects p ≡ objects) }
     {

@@ -1,4 +1,5 @@
-//! Waking the neighbours of an object that changed: each is queued, and the changed object is marked in its row of marks.
+//! Waking the neighbours of an object that changed: each is queued, and the changed object is
+//! marked in its row of marks.
 
 ghost use Rattle.std.specs.Prelude.{◌≡◌, ◌≢◌, ℕ, ◌-◌, ◌<◌, ◌≤◌, false, ◌+◌, true, length, map, slice_get, slice_index_or, slice_set, IfOk, IsTrue, Some};
 ghost use Rattle.std.specs.List.{All};
@@ -62,7 +63,8 @@ fn mark(list: &[ObjId], u: usize, queued: &mut [bool], dirty: &mut [Marks])
     }
 }
 
-// Queues the objects that the condition names, but u, and marks u at each. Where u leaves them free, nobody is woken.
+// Queues the objects that the condition names, but u, and marks u at each. Where u leaves them
+// free, nobody is woken.
 fn wake_named<const K: usize>(
     x: &AnyIndexical<K>,
     named: &[ObjId],
@@ -85,7 +87,8 @@ fn wake_named<const K: usize>(
     mark(named, u.0 as usize, queued, dirty);
 }
 
-// Queues the objects that a condition of the group names with u, and marks u at each; but not those that u leaves free.
+// Queues the objects that a condition of the group names with u, and marks u at each; but not those
+// that u leaves free.
 fn wake_others<const K: usize>(
     list: &[AnyIndexical<K>],
     links: &Links,
@@ -109,7 +112,8 @@ fn wake_others<const K: usize>(
     let first = group.first as usize;
     let end = group.last as usize + 1;
     for i in first..end {
-        wake_named(&list[i - 1], &links.named[i - 1], u, s, queued, dirty);
+        let named = links.named[i - 1].as_slice();
+        wake_named(&list[i - 1], named, u, s, queued, dirty);
     }
 }
 
@@ -186,8 +190,8 @@ fn wake_one<const K: usize>(
     }
 }
 
-// The same for a group of any kind. Where u is idle, it is known to leave the other object of a pair
-// free.
+// The same for a group of any kind. Where u is idle, it is known to leave the other object of a
+// pair free.
 fn wake_group<const K: usize>(
     list: &[AnyIndexical<K>],
     links: &Links,
@@ -279,7 +283,8 @@ fn only_place<const K: usize>(s: &State<K>, u: ObjId) -> Option<u8>
     if place == 0 { None } else { Some(place) }
 }
 
-// The same for the conditions that ask for a place of u: where u has not that place alone, they leave the others free.
+// The same for the conditions that ask for a place of u: where u has not that place alone, they
+// leave the others free.
 fn wake_by_place<const K: usize>(
     list: &[AnyIndexical<K>],
     links: &Links,
@@ -308,7 +313,8 @@ fn wake_by_place<const K: usize>(
     }
 }
 
-/// Queues each object that a condition names with u, and marks u at it; but not those that u, as the state has it, leaves free.
+/// Queues each object that a condition names with u, and marks u at it; but not those that u, as
+/// the state has it, leaves free.
 pub fn wake<const K: usize>(
     list: &[AnyIndexical<K>],
     links: &Links,

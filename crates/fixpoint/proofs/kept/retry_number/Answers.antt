@@ -1,10 +1,12 @@
 use Rattle.std.proofs.Common.{◌≡◌, ◌<◌, ◌-◌, List, length, map, get_or, ap, sym, ◌∙◌, subst, arith, Vec, Global}
 use Rattle.std.proofs.lemmas.List.{length-map}
+use Rattle.smallvec.specs.SmallVec.{SmallVec}
 use Rattle.geo_conditions.specs.declared.cond.Cond.{Cond}
 use Rattle.geo_conditions.specs.declared.object.ObjId.{ObjId}
 use Rattle.indexical.specs.declared.any.AnyIndexical.{AnyIndexical}
 use Rattle.fixpoint.specs.Links.{NamedBy, row}
-use Rattle.fixpoint.proofs.Linking.{row_get}
+use Rattle.fixpoint.specs.Pairs.{names_at}
+use Rattle.fixpoint.proofs.Linking.{names_get}
 use Rattle.fixpoint.proofs.Watching.{those_numbered, those_spared}
 use Rattle.fixpoint.proofs.kept.retry_number.Goals as goal
 
@@ -25,8 +27,8 @@ retry_marked-requires g c =
     let i = c.args.number - 1 in
     let there : i < length cs = omega (arith, c.requires.number.1, length-map c.args.list.now f) in
     let b : i < length l.named.items = omega (arith, there, a.conditions) in
-    let q : c.deref.result.now ≡ row l.named.items i = c.deref.ensures.value ∙ ap (λ (v : Vec ObjId Global). v.items) c.index.ensures ∙ sym (row_get l.named.items i c.index.result.now b) in
-    let named : (d : Cond) → NamedBy (get_or cs i d) (length S) c.deref.result.now = λ d. subst (λ (v : List ObjId). NamedBy (get_or cs i d) (length S) v) (sym q) (a.named i d there) in
+    let q : c.as_slice-named.result.now ≡ names_at l.named.items i = c.as_slice-named.ensures ∙ ap (λ (v : SmallVec ObjId). v.items) c.index.ensures ∙ sym (names_get l.named.items i c.index.result.now b) in
+    let named : (d : Cond) → NamedBy (get_or cs i d) (length S) c.as_slice-named.result.now = λ d. subst (λ (v : List ObjId). NamedBy (get_or cs i d) (length S) v) (sym q) (a.named i d there) in
     (omega arith, (omega arith, (omega arith, (c.requires.k, (c.requires.fits, (c.requires.object.0, (c.requires.number.1, (c.requires.object.1, (named, c.requires.hold)))))))))
 
 pub returns-clause-kept : goal.returns-clause-kept

@@ -25,7 +25,7 @@ loop-o-preserved g c =
     let items : v.items ≡ row picks o.0 ++ number ∷ [] = c.in_ok-push-2.ensures.items ∙ ap (λ (l : List ℕ). l ++ number ∷ []) (sym (row_get picks o.0 c.index-picks-o.result h)) in
     let upto = linked_upto x number c.loop-o.next o.0 named old picks c.loop-o.invariant.0 k.1 k.3 in
     let more : LinkedBelow x number (o.0 + 1) (named ++ o ∷ []) old (set picks o.0 v) = linked_more x number o.0 named old picks o v upto k.2 refl h items in
-    (subst (λ (l : List ObjId). LinkedBelow x number (o.0 + 1) l old (set picks o.0 v)) (sym c.in_ok-push.ensures.items) more, omega (arith, k.0))
+    (subst (λ (l : List ObjId). LinkedBelow x number (o.0 + 1) l old (set picks o.0 v)) (sym c.in_ok-push.ensures.ok) more, omega (arith, k.0))
 
 pub returns-clause-named : goal.returns-clause-named
 returns-clause-named g c =

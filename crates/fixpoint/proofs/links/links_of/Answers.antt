@@ -1,8 +1,9 @@
-use Rattle.std.proofs.Common.{◌≡◌, ◌<◌, ◌≤◌, ◌+◌, [], ℕ, List, Bool, map, length, get_or, ap, sym, ◌∙◌, subst, arith, rules, nat_eq}
+use Rattle.std.proofs.Common.{◌≡◌, ◌<◌, ◌≤◌, ◌+◌, [], ℕ, List, Bool, map, length, get_or, ap, sym, ◌∙◌, subst, arith, rules}
 use Rattle.std.specs.declared.vec.Vec.{Vec}
 use Rattle.std.specs.declared.alloc.Global.{Global}
 use Rattle.std.proofs.lemmas.List.{length-map, get_or-map, with_items_is}
 use Rattle.std.specs.Vec.{with_items}
+use Rattle.smallvec.specs.SmallVec.{SmallVec}
 use Rattle.geo_conditions.specs.declared.object.ObjId.{ObjId}
 use Rattle.geo_conditions.specs.declared.cond.Cond.{Cond}
 use Rattle.indexical.specs.Names.{names}
@@ -12,6 +13,7 @@ use Rattle.sweep.specs.Picks.{ArePicks}
 use Rattle.object_pruning.specs.declared.rows.Rows.{Rows}
 use Rattle.fixpoint.specs.declared.pairs.Pairs.{Pairs}
 use Rattle.fixpoint.specs.Partners.{HavePartners}
+use Rattle.fixpoint.specs.Pairs.{names_at}
 use Rattle.fixpoint.specs.Links.{HavePairs, SortAllRows, HaveRows, NamedBy, Numbers, NumbersOf, PicksOf, names_none, put_where, row}
 use Rattle.fixpoint.proofs.Linking.{LinksBelow, links_start, links_more, links_end, named_empty}
 use Rattle.fixpoint.proofs.Paired.{have_pairs}
@@ -24,7 +26,7 @@ loop-i-init g c =
     let n = c.args.objects in
     let picks = c.in_ok-picks.picks.items in
     subst (LinksBelow cs n 0 c.new-named.result.items picks) (sym c.new-bare.ensures.items)
-    (subst (λ (vs : List (Vec ObjId Global)). LinksBelow cs n 0 vs picks []) (sym c.new-named.ensures.items) (links_start cs n picks c.in_ok-picks.ensures.0 c.in_ok-picks.ensures.1))
+    (subst (λ (vs : List (SmallVec ObjId)). LinksBelow cs n 0 vs picks []) (sym c.new-named.ensures.items) (links_start cs n picks c.in_ok-picks.ensures.0 c.in_ok-picks.ensures.1))
 
 pub loop-i-preserved : goal.loop-i-preserved
 loop-i-preserved g c =
@@ -42,7 +44,7 @@ loop-i-preserved g c =
     let named : NamedBy x.cond n v.items = subst (λ (m : ℕ). NamedBy x.cond m v.items) (ap length value ∙ l.objects) c.in_ok-those.ensures.named in
     let long : length new ≡ length old = c.link.auto.picks ∙ ap length value in
     let back = with_items_is c.loop-i.picks new (omega (arith, long, c.loop-i.picks.ok)) in
-    let none : names_none n x.cond ≡ c.is_empty.result = named_empty x.cond n v.items named ∙ ap (λ (m : ℕ). nat_eq m 0) (sym v.ok.0) ∙ sym c.is_empty.ensures in
+    let none : names_none n x.cond ≡ c.is_empty.result = named_empty x.cond n v.items named ∙ sym c.is_empty.ensures in
     let bare : c.if-is_empty.bare.items ≡ put_where (names_none n x.cond) (i + 1) c.loop-i.bare.items =
     elim c.if-is_empty.branch [
       | then-is_empty+in_ok-push w ↦ ap (λ (b : _). b.items) w.bare-is ∙ w.in_ok-push.ensures.items ∙ sym (ap (λ (b : Bool). put_where b (i + 1) c.loop-i.bare.items) (none ∙ w.if-is_empty.true))
@@ -51,7 +53,7 @@ loop-i-preserved g c =
     let k = links_more cs n i c.loop-i.named.items old new c.loop-i.bare.items x.cond v l at named numbers long in
     subst (λ (b : List ℕ). LinksBelow cs n (i + 1) c.push-in-loop-i.new.self.items (with_items c.loop-i.picks new).items b) (sym bare)
     (subst (λ (vs : List (Vec ℕ Global)). LinksBelow cs n (i + 1) c.push-in-loop-i.new.self.items vs (put_where (names_none n x.cond) (i + 1) c.loop-i.bare.items)) (sym back)
-    (subst (λ (vs : List (Vec ObjId Global)). LinksBelow cs n (i + 1) vs new (put_where (names_none n x.cond) (i + 1) c.loop-i.bare.items)) (sym c.in_ok-push-2.ensures.items) k))
+    (subst (λ (vs : List (SmallVec ObjId)). LinksBelow cs n (i + 1) vs new (put_where (names_none n x.cond) (i + 1) c.loop-i.bare.items)) (sym c.in_ok-push-2.ensures.items) k))
 
 pub all_rows-requires : goal.all_rows-requires
 all_rows-requires g c =
@@ -74,15 +76,15 @@ returns g c =
     let rows : HaveRows cs picks c.args.objects own = subst (λ (m : ℕ). HaveRows cs picks m own) l.objects (subst (λ (vs : List (Vec ℕ Global)). HaveRows cs vs (length vs) own) c.deref.ensures.value c.in_ok-rows.ensures) in
     let beside = c.in_ok-pairs.pairs.items in
     let named = c.loop-i.named.items in
-    let sorted = subst (λ (ns : List (Vec ObjId Global)). SortAllRows ns own (length own) beside) c.deref-3.ensures.value (subst (λ (vs : List Rows). SortAllRows c.deref-3.result.now vs (length vs) beside) c.deref-2.ensures.value c.in_ok-pairs.ensures) in
+    let sorted = subst (λ (ns : List (SmallVec ObjId)). SortAllRows ns own (length own) beside) c.deref-3.ensures.value (subst (λ (vs : List Rows). SortAllRows c.deref-3.result.now vs (length vs) beside) c.deref-2.ensures.value c.in_ok-pairs.ensures) in
     let end : c.loop-i.i ≡ length cs = omega (arith, c.loop-i-test.false, c.loop-i.auto.i-end, length-map c.args.list.now (λ x. x.cond)) in
     let are : (o : ℕ) → o < c.args.objects → PicksOf cs o (row picks o) = λ o h. subst (λ (m : ℕ). NumbersOf (names o) cs m (row picks o)) end (l.picks o h) in
-    let by : (j : ℕ) (d : Cond) → j < length cs → NamedBy (get_or cs j d) c.args.objects (row named j) = λ j d h. l.named j d (omega (arith, h, end)) in
+    let by : (j : ℕ) (d : Cond) → j < length cs → NamedBy (get_or cs j d) c.args.objects (names_at named j) = λ j d h. l.named j d (omega (arith, h, end)) in
     let pairs : HavePairs cs picks c.args.objects beside = have_pairs cs picks c.args.objects named own beside are by rows sorted in
     let all : HavePartners c.deref-5.result.now c.deref-4.result.now (length c.deref-4.result.now) (length c.deref-4.result.now) c.in_ok-partners.partners.items = c.in_ok-partners.ensures in
     let long : length beside ≡ c.args.objects = pairs.objects in
     let found = c.in_ok-partners.partners.items in
-    let by_named = subst (λ (ns : List (Vec ObjId Global)). HavePartners ns c.deref-4.result.now (length c.deref-4.result.now) (length c.deref-4.result.now) found) c.deref-5.ensures.value all in
+    let by_named = subst (λ (ns : List (SmallVec ObjId)). HavePartners ns c.deref-4.result.now (length c.deref-4.result.now) (length c.deref-4.result.now) found) c.deref-5.ensures.value all in
     let by_pairs = subst (λ (ps : List Pairs). HavePartners named ps (length ps) (length ps) found) c.deref-4.ensures.value by_named in
     let partners = subst (λ (m : ℕ). HavePartners named beside m m found) long by_pairs in
     links_end _ c.args.objects c.loop-i.i _ end l rows pairs partners

@@ -1,6 +1,7 @@
 use Rattle.std.proofs.Common.{◌≡◌, ℕ, ◌<◌, ◌+◌, ◌-◌, length, map, get_or, ap, sym, ◌∙◌, subst, inl, inr, arith, Vec, Global}
 use Rattle.std.proofs.lemmas.Bool.{cases_eq}
 use Rattle.std.proofs.lemmas.List.{length-map, get_or-map}
+use Rattle.smallvec.specs.SmallVec.{SmallVec}
 use Rattle.geo_conditions.specs.declared.cond.Cond.{Cond}
 use Rattle.geo_conditions.specs.declared.object.ObjId.{ObjId}
 use Rattle.geo_conditions.specs.Conditions.{FitsIn}
@@ -10,7 +11,8 @@ use Rattle.object_pruning.specs.InRows.{IsInGroup}
 use Rattle.fixpoint.specs.Links.{NamedBy, row}
 use Rattle.fixpoint.specs.Marks.{IsSquare}
 use Rattle.fixpoint.specs.Near.{Unhinders, UnhinderedBy}
-use Rattle.fixpoint.proofs.Linking.{row_get}
+use Rattle.fixpoint.specs.Pairs.{names_at}
+use Rattle.fixpoint.proofs.Linking.{names_get}
 use Rattle.fixpoint.proofs.Woken.{queues_none, queues_both, queues_weaker, marks_none, marks_both, marks_weaker, free_both, free_one}
 use Rattle.fixpoint.proofs.waking.wake_others.Goals as goal
 
@@ -41,10 +43,10 @@ wake_named-requires g c =
     let b : i < length l.named.items = omega (arith, m, n, a.conditions) in
     let x = c.index-list-i.result in
     let at : (d : Cond) → get_or cs i d ≡ x.cond = λ d. get_or-map f c.args.list.now i x d m ∙ ap f (sym c.index-list-i.is) in
-    let q : c.deref.result.now ≡ row l.named.items i = c.deref.ensures.value ∙ ap (λ (v : Vec ObjId Global). v.items) c.index.ensures ∙ sym (row_get l.named.items i c.index.result.now b) in
+    let q : c.as_slice-named.result.now ≡ names_at l.named.items i = c.as_slice-named.ensures ∙ ap (λ (v : SmallVec ObjId). v.items) c.index.ensures ∙ sym (names_get l.named.items i c.index.result.now b) in
     let fits : FitsIn x.cond S = subst (λ (y : Cond). FitsIn y S) (at x.cond) (c.requires.fits i x.cond (omega (arith, m, n))) in
-    let here : NamedBy x.cond (length c.args.queued.now) c.deref.result.now = subst (λ (y : Cond). NamedBy y (length c.args.queued.now) c.deref.result.now) (at x.cond) (subst (NamedBy (get_or cs i x.cond) (length c.args.queued.now)) (sym q) (a.named i x.cond (omega (arith, m, n)))) in
-    let named : NamedBy x.cond (length c.loop-i.queued) c.deref.result.now = subst (λ (z : ℕ). NamedBy x.cond z c.deref.result.now) (sym c.loop-i.auto.queued) here in
+    let here : NamedBy x.cond (length c.args.queued.now) c.as_slice-named.result.now = subst (λ (y : Cond). NamedBy y (length c.args.queued.now) c.as_slice-named.result.now) (at x.cond) (subst (NamedBy (get_or cs i x.cond) (length c.args.queued.now)) (sym q) (a.named i x.cond (omega (arith, m, n)))) in
+    let named : NamedBy x.cond (length c.loop-i.queued) c.as_slice-named.result.now = subst (λ (z : ℕ). NamedBy x.cond z c.as_slice-named.result.now) (sym c.loop-i.auto.queued) here in
     let square : IsSquare (length c.loop-i.queued) c.loop-i.dirty = subst (λ (z : ℕ). IsSquare z c.loop-i.dirty) (sym c.loop-i.auto.queued) c.loop-i.invariant.square in
     let there : u < length c.loop-i.queued = omega (arith, c.requires.object, c.loop-i.auto.queued) in
     (omega arith, (omega arith, (fits, (named, (there, square)))))
