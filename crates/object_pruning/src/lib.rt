@@ -18,6 +18,7 @@ mod region_sweep;
 mod row_making;
 mod rows;
 mod run_making;
+mod settled;
 mod unrefuted;
 
 pub use kept::{Placed, is_same_point, retry, slots};

@@ -17,6 +17,7 @@ use crate::kept::Placed;
 use crate::move_ends::move_ends;
 use crate::places::drop_places;
 use crate::rows::Rows;
+use crate::settled::is_settled;
 use derivation::{Event, Recorder};
 use geo_base::MAX_DIMS;
 use geo_conditions::ObjId;
@@ -89,6 +90,9 @@ pub fn prune_kept<const K: usize, I: Indexical<K>, R: Recorder>(
         → IsClosedByGone (map I.cond list.now) t.old.state o.0 (R.list rec.old) (R.list rec.new)) }
     ensures grows { Grows R.keeps R.list R.refusals rec.old rec.new result }
 {
+    if is_settled(t.state(), o, kept) {
+        return Ok(Pruned::Same);
+    }
     let places = drop_places(t, o, list, picks, rows, kept, hints, rec)?;
     if !places.some {
         record_gone(o, rec)?;

@@ -1,19 +1,46 @@
-use Rattle.std.proofs.Common.{◌≡◌, ◌<◌, ◌++◌, ◌||◌, Bool, List, map, length, refl, sym, ◌∙◌, subst, arith, rules}
+use Rattle.std.proofs.Common.{◌≡◌, ◌<◌, ◌++◌, ◌||◌, Bool, false, List, map, length, refl, sym, ◌∙◌, subst, arith, rules}
 use Rattle.std.proofs.lemmas.Bool.{not-true, not-false}
 use Rattle.geo_conditions.specs.Conditions.{AllFit}
 use Rattle.geo_state.proofs.Fits.{all_fit}
 use Rattle.sweep.specs.Picks.{picked}
 use Rattle.object_pruning.specs.Ends.{HasSome, DropsPlaces}
 use Rattle.object_pruning.proofs.Ends.{prunes_empty, prunes_as, none_left}
-use Rattle.object_pruning.specs.Pruning.{PrunesTo}
+use Rattle.geo_conditions.specs.Reach.{State}
+use Rattle.geo_conditions.proofs.Points.{inside_self}
+use Rattle.object_pruning.specs.Kept.{AllSupport}
+use Rattle.object_pruning.specs.Pruning.{IsTight, PrunesTo}
 use Rattle.object_pruning.specs.Record.{AreEventsOfPruning}
 use Rattle.object_pruning.specs.declared.prune.Pruned.{Pruned}
 use Rattle.derivation.specs.declared.event.Event.{Event}
 use Rattle.object_pruning.proofs.Record.{recorded_as, gone_on, gone_closes, left_some}
 use Rattle.object_pruning.proofs.Narrowing.{alone_on}
-use Rattle.derivation.proofs.Chains.{led_on}
-use Rattle.derivation.proofs.Continuing.{growth_on, growth_failed}
+use Rattle.derivation.proofs.Chains.{led_on, led_same}
+use Rattle.derivation.proofs.Continuing.{growth_none, growth_on, growth_failed}
 use Rattle.object_pruning.proofs.prune.prune_kept.Goals as goal
+
+pub returns-then-is_settled-clause-pruned : goal.returns-then-is_settled-clause-pruned
+returns-then-is_settled-clause-pruned g c =
+    let cs = picked (map g.I.Indexical.cond c.args.list.now) c.args.picks.now in
+    let o = c.args.o.0 in
+    let here : c.state.result.now ≡ c.args.t.now.state = c.state.ensures.value in
+    let kept : AllSupport cs c.state.result.now o c.args.kept.now = subst (λ (X : State). AllSupport cs X o c.args.kept.now) (sym here) c.requires.kept in
+    (refl, subst (λ (X : State). IsTight cs X o) here (c.is_settled.ensures c.if-is_settled.true cs kept))
+
+pub returns-then-is_settled-clause-alone : goal.returns-then-is_settled-clause-alone
+returns-then-is_settled-clause-alone g c = (record { objects = refl; each = λ u ne. refl }, inside_self c.args.t.now.state)
+
+pub returns-then-is_settled-clause-record : goal.returns-then-is_settled-clause-record
+returns-then-is_settled-clause-record g c = λ keeps.
+    let S = c.args.t.now.state in
+    let all = map g.I.Indexical.cond c.args.list.now in
+    let old = g.R.Recorder.list c.args.rec.now in
+    recorded_as all S S false old old (led_same all S S old old refl refl)
+
+pub returns-then-is_settled-clause-gone : goal.returns-then-is_settled-clause-gone
+returns-then-is_settled-clause-gone g c = λ empty keeps. absurd (left_some false empty)
+
+pub returns-then-is_settled-clause-grows : goal.returns-then-is_settled-clause-grows
+returns-then-is_settled-clause-grows g c = growth_none _ _ _
 
 pub returns-then-not-places-clause-pruned : goal.returns-then-not-places-clause-pruned
 returns-then-not-places-clause-pruned g c =
