@@ -15,3 +15,4 @@ pub mod Faces
 pub mod SoleCoordinate
 pub mod ShapeLiterals
 pub mod NearBoxes
+pub mod SoleTerms

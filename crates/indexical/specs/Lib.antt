@@ -10,3 +10,4 @@ pub mod Apart
 pub mod TwoBoxes
 pub mod Bound
 pub mod Nearness
+pub mod Sole

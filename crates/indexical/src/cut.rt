@@ -1,24 +1,29 @@
 //! A box that is cut down to a forbidden box of a linear form, in its place. Of a form with at most
 //! one coordinate of the object one end moves, and no other.
 
-ghost use Rattle.std.specs.Prelude.{◌≡◌, ℕ, suc, ◌<◌, true, false, Some, length, pos, IfSome};
+ghost use Rattle.std.specs.Prelude.{◌≡◌, ℕ, suc, ◌<◌, ◌≤◌, true, false, Some, length, pos, IfSome};
 ghost use Rattle.std.specs.List.{All};
 ghost use Rattle.geo_base.specs.Boxes.{Has};
 ghost use Rattle.geo_conditions.specs.declared.cond.Cond.{Cond};
 ghost use Rattle.geo_conditions.specs.Reach.{Exists, with_at, just};
 ghost use Rattle.geo_conditions.specs.Conditions.{least_value, possible};
 ghost use Rattle.geo_conditions.specs.Regions.{region_of};
-ghost use Rattle.indexical.specs.Forbidden.{IsForbiddenBox};
+ghost use Rattle.indexical.specs.Forbidden.{Forbids, IsForbiddenBox};
+ghost use Rattle.indexical.specs.Sole.{IsSole};
 ghost use Rattle.indexical.specs.Widening.{BeginsAt};
 
+use crate::forbidden::ForbiddenPart;
 use crate::form::{factor_of, forbid_form, widen};
 use crate::least::least_value_with;
-use geo_base::{KBox, Point, Way};
+use crate::sole::SoleTerm;
+use crate::sole_making::sole_term;
+use crate::spared::form_spares;
+use geo_base::{KBox, MAX_DIMS, Point, Way};
 use geo_conditions::{Form, ObjId, State};
 
 /// The dimension in which the form has a coordinate of the object, if it has one; None where it has
 /// several.
-fn own_dimension<const K: usize>(f: &Form, s: &State<K>, o: ObjId) -> Option<Option<usize>>
+pub fn own_dimension<const K: usize>(f: &Form, s: &State<K>, o: ObjId) -> Option<Option<usize>>
     requires fits { All (λ a. Exists s.now a.object.0 a.dimension) f.now.terms }
     ensures own { IfSome result (λ own.
         All (λ a. a.object.0 ≡ o.0 → own ≡ Some a.dimension) f.now.terms) }
@@ -140,5 +145,59 @@ pub fn cut_form<const K: usize>(
             true
         }
         None => cut_by_several(f, s, o, place, c, way, b),
+    }
+}
+
+/// What a form with one coordinate of the object forbids of the region: a side of it. The form is
+/// greatest at one of the two corners, and is cut down from there.
+fn side_part<const K: usize>(
+    f: &Form,
+    sole: &SoleTerm<K>,
+    s: &State<K>,
+    o: ObjId,
+    place: u8,
+    region: &KBox<K>,
+) -> ForbiddenPart<K>
+    requires object { o.0 < length s.now }
+    requires sole { IsSole f.now s.now o.0 sole.now }
+    ensures { Forbids K (Cond.Lin f.now) s.now o.0 place (region_of region.now) result }
+{
+    let _terms = f.terms();
+    if region.is_empty() {
+        return ForbiddenPart::Nothing;
+    }
+    let corner = if sole.is_falling() {
+        region.lo
+    } else {
+        region.hi
+    };
+    let greatest = sole.value_at(&corner);
+    if greatest <= 0 {
+        return ForbiddenPart::Nothing;
+    }
+    let mut b = *region;
+    let own = Some(sole.dimension());
+    cut_by_sole(f, s, o, place, &corner, own, (greatest - 1) as u128, &mut b);
+    ForbiddenPart::Exactly(b)
+}
+
+/// What a form forbids of the region with the object at that place. It is known where the form has
+/// one coordinate of the object.
+pub fn form_part<const K: usize>(
+    f: &Form,
+    s: &State<K>,
+    o: ObjId,
+    place: u8,
+    region: &KBox<K>,
+) -> ForbiddenPart<K>
+    requires k { K ≤ MAX_DIMS }
+    requires fits { All (λ a. Exists s.now a.object.0 a.dimension) f.now.terms }
+    requires object { o.0 < length s.now }
+    ensures { Forbids K (Cond.Lin f.now) s.now o.0 place (region_of region.now) result }
+{
+    match sole_term(f, s, o) {
+        Some(sole) => side_part(f, &sole, s, o, place, region),
+        None if form_spares(f, s, o) => ForbiddenPart::Nothing,
+        None => ForbiddenPart::Unknown,
     }
 }

@@ -1,7 +1,9 @@
 //! The least value of a term, and of a form with an object at a point.
 
-ghost use Rattle.std.specs.Prelude.{◌≡◌, ℕ, ◌<◌, ◌≤◌, length, ◌*ℤ◌};
+ghost use Rattle.std.specs.Prelude.{◌≡◌, ℕ, ◌+◌, ◌*◌, ◌<◌, ◌≤◌, length, ◌*ℤ◌};
 ghost use Rattle.std.specs.List.{All};
+ghost use Rattle.geo_base.specs.declared.TheConstants.{MAX_DIMS};
+ghost use Rattle.geo_conditions.specs.declared.object.TheConstants.{MAX_OBJECTS};
 ghost use Rattle.geo_conditions.specs.Conditions.{least_value, least_term};
 ghost use Rattle.geo_conditions.specs.Form.{IsBounded};
 ghost use Rattle.geo_conditions.specs.Reach.{Exists, high, just, low, with_at};
@@ -66,8 +68,9 @@ fn high_with<const K: usize>(s: &State<K>, o: ObjId, c: &Point<K>, u: ObjId, d: 
     }
 }
 
+/// The product of a factor and an end.
 #[inline(always)]
-fn product(factor: i64, end: i64) -> i128
+pub fn product(factor: i64, end: i64) -> i128
     ensures { result ≡ factor *ℤ end }
 {
     factor as i128 * end as i128
@@ -123,6 +126,22 @@ pub fn least_value_with<const K: usize>(f: &Form, s: &State<K>, o: ObjId, c: &Po
     let mut sum = f.constant() as i128;
     for term in f.terms() {
         sum += least_term_with(term, s, o, c);
+    }
+    sum
+}
+
+/// The least value of the form on the state.
+pub fn least_value_of<const K: usize>(f: &Form, s: &State<K>) -> i128
+    requires k { K ≤ MAX_DIMS }
+    requires fits { All (λ a. Exists s.now a.object.0 a.dimension) f.now.terms }
+    ensures value { result ≡ least_value f.now s.now }
+    ensures bound { InSum (MAX_OBJECTS * MAX_DIMS + 1) result }
+{
+    // The state has few coordinates, and a form names each of them at most once.
+    let _objects = s.objects();
+    let mut sum = f.constant() as i128;
+    for term in f.terms() {
+        sum += least_term_of(term, s);
     }
     sum
 }

@@ -7,7 +7,7 @@ ghost use Rattle.indexical.specs.Forbidden.{IsOnShape};
 ghost use Rattle.indexical.specs.Free.{Spares, SparesAnywhere};
 ghost use Rattle.indexical.specs.Names.{names};
 
-use crate::least::least_term_of;
+use crate::least::least_value_of;
 use crate::shape_literals::shape_refuted;
 use geo_base::MAX_DIMS;
 use geo_conditions::{Cond, Conds, Form, ObjId, State, refuted};
@@ -54,7 +54,7 @@ fn shape_spares<const K: usize>(c: &Cond, s: &State<K>, o: ObjId, place: u8) -> 
 }
 
 /// Whether a form is possible and does not name the object.
-fn form_spares<const K: usize>(f: &Form, s: &State<K>, o: ObjId) -> bool
+pub fn form_spares<const K: usize>(f: &Form, s: &State<K>, o: ObjId) -> bool
     requires k { K ≤ MAX_DIMS }
     requires fits { FitsIn (Cond.Lin f.now) s.now }
     ensures { IsTrue result → SparesAnywhere (Cond.Lin f.now) s.now o.0 }
@@ -62,13 +62,7 @@ fn form_spares<const K: usize>(f: &Form, s: &State<K>, o: ObjId) -> bool
     if is_in_form(f, o) {
         return false;
     }
-    // The state has few coordinates, and a form names each of them at most once.
-    let _objects = s.objects();
-    let mut sum = f.constant() as i128;
-    for term in f.terms() {
-        sum += least_term_of(term, s);
-    }
-    sum <= 0
+    least_value_of(f, s) <= 0
 }
 
 /// Whether a condition is possible and does not name the object.

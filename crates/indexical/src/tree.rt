@@ -8,7 +8,7 @@ ghost use Rattle.geo_conditions.specs.Conditions.{possible, FitsIn};
 ghost use Rattle.geo_conditions.specs.Regions.{region_of};
 ghost use Rattle.indexical.specs.Forbidden.{Forbids, IsForbiddenBox};
 
-use crate::cut::cut_form;
+use crate::cut::{cut_form, form_part};
 use crate::forbidden::ForbiddenPart;
 use crate::indexical::Indexical;
 use crate::point::tree_possible_at;
@@ -250,10 +250,10 @@ pub fn tree_part<const K: usize>(
     requires object { o.0 < length s.now }
     ensures { Forbids K cond.now s.now o.0 place (region_of region.now) result }
 {
-    if tree_spares(cond, s, o, place) {
-        ForbiddenPart::Nothing
-    } else {
-        ForbiddenPart::Unknown
+    match cond {
+        Cond::Lin(f) => form_part(f, s, o, place, region),
+        _ if tree_spares(cond, s, o, place) => ForbiddenPart::Nothing,
+        _ => ForbiddenPart::Unknown,
     }
 }
 

@@ -1,39 +1,13 @@
-use Rattle.std.proofs.Common.{◌≡◌, ◌*◌, ◌<◌, length, sym, ap, ◌∙◌, arith, ℤ, pos}
-use Rattle.std.specs.Int.{w128}
-use mir.Val.{to_z}
-use lib.Signed.{le_z}
-use Rattle.std.proofs.lemmas.Int.{ints}
-use Rattle.std.proofs.lemmas.List.{drop_all}
+use Rattle.std.proofs.Common.{sym, ap, ◌∙◌, ◌+◌, ◌*◌, arith, ℤ, pos}
 use Rattle.geo_base.specs.declared.TheConstants.{MAX_DIMS}
-use Rattle.geo_conditions.specs.declared.cond.Cond.{Lin}
 use Rattle.geo_conditions.specs.declared.object.TheConstants.{MAX_OBJECTS}
-use Rattle.geo_conditions.specs.Conditions.{least_term, least_value, sum_of}
-use Rattle.geo_conditions.proofs.Few.{few_terms}
-use Rattle.geo_conditions.proofs.Products.{step_value, step_bound, step_fits}
+use Rattle.geo_conditions.proofs.Products.{kept, sum_fits}
+use lib.Signed.{le_z}
+use Rattle.geo_conditions.specs.declared.cond.Cond.{Lin}
 use Rattle.indexical.proofs.Unnamed.{spares_unnamed}
 use Rattle.indexical.proofs.spared.form_spares.Goals as goal
 
-pub overflow_add-sum : goal.overflow_add-sum
-overflow_add-sum g c =
-    let most = few_terms g.row.K c.args.s.now c.args.f.now.terms c.args.f.now.constant c.requires.k c.objects-objects.ensures.shape c.terms-term-items.ensures.form c.requires.fits in
-    let few : c.loop-term.term-index < MAX_OBJECTS * MAX_DIMS = omega (arith, most, c.loop-term-test.true, ap length c.terms-term-items.ensures.value) in
-    step_fits c.loop-term.term-index (to_z w128 c.loop-term.sum-bits) c.least_term_of-sum.result few c.loop-term.invariant.bound c.least_term_of-sum.ensures.bound
-
-pub loop-term-preserved : goal.loop-term-preserved
-loop-term-preserved g c =
-    let most = few_terms g.row.K c.args.s.now c.args.f.now.terms c.args.f.now.constant c.requires.k c.objects-objects.ensures.shape c.terms-term-items.ensures.form c.requires.fits in
-    let few : c.loop-term.term-index < MAX_OBJECTS * MAX_DIMS = omega (arith, most, c.loop-term-test.true, ap length c.terms-term-items.ensures.value) in
-    let xs = c.terms-term-items.result.now in
-    record {
-      value = step_value c.args.s.now c.terms-term-items.result.now c.loop-term.term-index _ (to_z w128 c.loop-term.sum-bits) c.least_term_of-sum.result _ c.loop-term-test.true few c.loop-term.invariant.bound c.least_term_of-sum.ensures.bound c.least_term_of-sum.ensures.value c.loop-term.invariant.value;
-      bound = step_bound c.loop-term.term-index (to_z w128 c.loop-term.sum-bits) c.least_term_of-sum.result few c.loop-term.invariant.bound c.least_term_of-sum.ensures.bound;
-    }
-
 pub returns : goal.returns
 returns g c = λ h s.
-    let xs = c.terms-term-items.result.now in
-    let gone = drop_all c.loop-term.term-index xs c.loop-term-test.false in
-    let sum : to_z w128 c.loop-term.sum-bits ≡ least_value c.args.f.now c.args.s.now =
-    (let z = ap (sum_of (least_term c.args.s.now)) gone in omega (arith, ints, z, c.loop-term.invariant.value)) in
     spares_unnamed (Lin c.args.f.now) c.args.s.now c.args.o.0 s
-    (sym c.is_in_form.ensures ∙ c.if-is_in_form.false) (sym (ap (λ (z : ℤ). le_z z (pos 0)) sum) ∙ h)
+    (sym c.is_in_form.ensures ∙ c.if-is_in_form.false) (sym (ap (λ (z : ℤ). le_z z (pos 0)) (kept c.least_value_of.result (sum_fits (MAX_OBJECTS * MAX_DIMS + 1) c.least_value_of.result (omega arith) c.least_value_of.ensures.bound) ∙ c.least_value_of.ensures.value)) ∙ h)

@@ -1,7 +1,7 @@
 use Rattle.std.proofs.Common.{◌≡◌, ◌+◌, drop, ◌+ℤ◌}
 use Rattle.geo_conditions.specs.Sums.{InSum}
 use Rattle.geo_conditions.specs.Conditions.{least_value, sum_of, least_term}
-use Rattle.indexical.proofs.spared.form_spares.Given as goal
+use Rattle.indexical.proofs.least.least_value_of.Given as goal
 
 abbrev pub invariant-loop-term : goal.invariant-loop-term
 invariant-loop-term g l = record {
