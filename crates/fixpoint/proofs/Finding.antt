@@ -1,18 +1,15 @@
 -- Conditions that name few objects are found by those of them that are marked.
-use Rattle.std.proofs.Common.{◌≡◌, ◌≢◌, ◌⊎◌, ℕ, ◌+◌, ◌-◌, ◌<◌, ◌≤◌, Bool, true, false, List, length, get_or, slice_index, sym, ap, ◌∙◌, subst, inl, inr, arith, Some, None, Option, Vec, Global}
+use Rattle.std.proofs.Common.{◌≡◌, ◌≢◌, ◌⊎◌, ℕ, ◌+◌, ◌-◌, ◌<◌, ◌≤◌, Bool, true, false, List, length, get_or, sym, ap, ◌∙◌, subst, inl, inr, arith, Some, Option, Vec, Global}
 use Rattle.std.specs.Prelude.{slice_get}
 use Rattle.std.proofs.lemmas.Bool.{cases_eq, cases_lt, false≢true, false_from_ne_true}
 use Rattle.std.proofs.lemmas.List.{get_or_past}
 use Rattle.std.proofs.lemmas.Option.{same_Some, slice_get-get_or, slice_get_within}
 use Rattle.geo_conditions.specs.declared.cond.Cond.{Cond}
-use Rattle.geo_conditions.specs.declared.object.ObjId.{ObjId}
-use Rattle.geo_conditions.specs.Conditions.{possible}
 use Rattle.geo_conditions.specs.Reach.{State}
 use Rattle.geo_conditions.proofs.Decide.{decide_true, search_below}
 use Rattle.fixpoint.proofs.Stable.{both}
 use Rattle.indexical.specs.Names.{names}
 use Rattle.object_pruning.specs.declared.kept.Placed.{Placed}
-use Rattle.object_pruning.specs.Kept.{placed}
 use Rattle.object_pruning.proofs.InRows.{row_past}
 use Rattle.fixpoint.specs.declared.links.Links.{Links}
 use Rattle.fixpoint.specs.declared.partners.Partners.{Partners}

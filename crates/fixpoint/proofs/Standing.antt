@@ -12,6 +12,8 @@ use Rattle.geo_conditions.specs.Reach.{State, reach}
 use Rattle.geo_conditions.specs.Supported.{NoneRefuted}
 use Rattle.indexical.specs.Names.{names}
 use Rattle.indexical.specs.Free.{SparesAnywhere}
+use Rattle.indexical.specs.Sole.{Decides}
+use Rattle.indexical.specs.declared.sole.SoleTerm.{SoleTerm}
 use Rattle.sweep.specs.Picks.{picked}
 use Rattle.sweep.proofs.PickedConditions.{picked_all, pick_in}
 use Rattle.object_pruning.specs.declared.kept.Placed.{Placed}
@@ -20,7 +22,7 @@ use Rattle.object_pruning.specs.Same.{SameBut}
 use Rattle.object_pruning.proofs.Supports.{supports_at}
 use Rattle.fixpoint.specs.Links.{PicksOf, NamedBy, is_among, row}
 use Rattle.fixpoint.specs.Near.{NearUnrefuted, Unhindered}
-use Rattle.fixpoint.specs.Kept.{Slots, IsBlank, AllStand, StandBut, Stand, RetriesMarked, StandsAlone}
+use Rattle.fixpoint.specs.Kept.{at_most_0, Slots, IsBlank, AllStand, StandBut, Stand, RetriesMarked, StandsAlone}
 use Rattle.fixpoint.specs.Marks.{MarkRows, marks_of, IsCleared, MarksAt, NotesChanges}
 use Rattle.fixpoint.proofs.Names.{still_possible}
 use Rattle.fixpoint.proofs.Linking.{named_all, row_set_same, row_set_other, or_first, or_second}
@@ -48,6 +50,14 @@ retried_anywhere {K} c S o f (None ∷ xs) = ap (λ (l : List (Option (Placed K)
 retried_anywhere {K} c S o f (Some q ∷ xs) =
     ap (λ (b : Bool). (if b then Some q else None) ∷ map (retried c S o) xs) (f q.place q.point.coordinates)
     ∙ ap (λ (l : List (Option (Placed K))). Some q ∷ l) (retried_anywhere c S o f xs)
+
+-- where what a form comes to decides whether the condition is possible, the same is kept
+pub retried_sole : {K : ℕ} (c : Cond) (S : State) (o : ℕ) (x : SoleTerm K) → Decides c S o x → (xs : List (Option (Placed K))) → map (at_most_0 x) xs ≡ map (retried c S o) xs
+retried_sole c S o x f [] = refl
+retried_sole {K} c S o x f (None ∷ xs) = ap (λ (l : List (Option (Placed K))). None ∷ l) (retried_sole c S o x f xs)
+retried_sole {K} c S o x f (Some q ∷ xs) =
+    ap (λ (b : Bool). (if b then Some q else None) ∷ map (at_most_0 x) xs) (sym (f q.place q.point.coordinates))
+    ∙ ap (λ (l : List (Option (Placed K))). retried c S o (Some q) ∷ l) (retried_sole c S o x f xs)
 
 -- asked again, points stay at which the condition is possible
 pub retries_asked : {K : ℕ} (c : Cond) (S : State) (o : ℕ) (marks : List Bool) (old new : List (Option (Placed K))) → new ≡ map (retried c S o) old → RetriesMarked c S o marks old new

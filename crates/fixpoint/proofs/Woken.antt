@@ -1,5 +1,5 @@
 -- Waking the neighbours of an object: what is queued and what is marked.
-use Rattle.std.proofs.Common.{◌≡◌, ◌≢◌, ◌⊎◌, ℕ, ◌+◌, ◌-◌, ◌<◌, ◌≤◌, Bool, true, false, List, [], ◌∷◌, ◌++◌, length, set, get_or, refl, sym, ap, ◌∙◌, subst, inl, inr, arith, Vec, Global}
+use Rattle.std.proofs.Common.{◌≡◌, ◌≢◌, ◌⊎◌, ℕ, ◌+◌, ◌-◌, ◌<◌, ◌≤◌, Bool, true, false, List, [], ◌∷◌, ◌++◌, length, set, get_or, refl, sym, ap, ◌∙◌, subst, inl, inr, arith}
 use Rattle.std.proofs.lemmas.Bool.{false≢true, cases_eq}
 use Rattle.std.proofs.lemmas.List.{get_or-set_same, get_or-set_other}
 use Rattle.std.proofs.lemmas.Option.{same_Some, slice_get-get_or, slice_get_within}
@@ -19,7 +19,7 @@ use Rattle.fixpoint.specs.Links.{AreLinks, AreSomeRows, IsByPlace, row, is_among
 use Rattle.fixpoint.specs.Marks.{MarkRows, is_marked, marks_of, IsSquare, MarksAt, NotesChanges}
 use Rattle.fixpoint.specs.Near.{IsPair, Unhinders, Unhindered, UnhinderedBy}
 use Rattle.fixpoint.specs.Queue.{Queues, CatchesUp}
-use Rattle.fixpoint.proofs.Linking.{row_set_same, row_set_other, row_before, row_last, length_more, nth, each_named, among_not}
+use Rattle.fixpoint.proofs.Linking.{nth, each_named, among_not}
 
 -- ---- what is queued
 

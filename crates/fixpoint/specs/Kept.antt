@@ -1,13 +1,16 @@
 -- Points that are kept of each object: with the object there, no condition that names it is refuted, but perhaps one that names
 -- a neighbour that is marked.
-use Rattle.std.specs.Prelude.{◌≡◌, ◌≢◌, ◌⊎◌, ℕ, ◌-◌, ◌<◌, Bool, true, List, length, slice_get, slice_index_or, Option, None, Some}
+use Rattle.std.specs.Prelude.{◌≡◌, ◌≢◌, ◌⊎◌, ℕ, ◌-◌, ◌<◌, Bool, true, List, length, slice_get, slice_index_or, Option, None, Some, if◌then◌else◌, pos}
 use Rattle.std.specs.List.{All}
+use lib.Signed.{le_z}
 use Rattle.std.specs.declared.vec.Vec.{Vec}
 use Rattle.std.specs.declared.alloc.Global.{Global}
 use Rattle.geo_conditions.specs.declared.cond.Cond.{Cond}
 use Rattle.geo_conditions.specs.Conditions.{possible}
 use Rattle.geo_conditions.specs.Reach.{State}
 use Rattle.indexical.specs.Names.{names}
+use Rattle.indexical.specs.Sole.{value_with}
+use Rattle.indexical.specs.declared.sole.SoleTerm.{SoleTerm}
 use Rattle.object_pruning.specs.declared.kept.Placed.{Placed}
 use Rattle.object_pruning.specs.Gathered.{AllPossible}
 use Rattle.object_pruning.specs.Kept.{placed}
@@ -69,3 +72,8 @@ pub record RetriesThose {K : ℕ} (cs : List Cond) (S : State) (o : ℕ) (marks 
 pub record RetriesMarked {K : ℕ} (c : Cond) (S : State) (o : ℕ) (marks : List Bool) (old new : List (Option (Placed K))) : Type 0 where
   pub stay : (i : ℕ) (q : Placed K) → slice_index_or new i None ≡ Some q → slice_index_or old i None ≡ Some q
   pub tried : NamesUnmarked marks c ⊎ ((i : ℕ) (q : Placed K) → slice_index_or new i None ≡ Some q → possible c (placed S o q) ≡ true)
+
+-- the kept point, if what a form comes to there is at most 0
+abbrev pub at_most_0 : {K : ℕ} → SoleTerm K → Option (Placed K) → Option (Placed K)
+at_most_0 x None = None
+at_most_0 x (Some q) = if le_z (value_with x q.point.coordinates) (pos 0) then Some q else None

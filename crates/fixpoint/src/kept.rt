@@ -13,7 +13,7 @@ ghost use Rattle.fixpoint.specs.Pairs.{AreSomePairs, HaveBeside, HaveIn, IsGroup
 ghost use Rattle.fixpoint.specs.Links.{row};
 ghost use Rattle.fixpoint.specs.declared.partners.Partners.{Partners};
 ghost use Rattle.fixpoint.specs.Partners.{ArePartners, HasNumber, HaveMarked};
-ghost use Rattle.fixpoint.specs.Kept.{AllStand, AsksSlot, IsBlank, IsKnown, RetriesMarked, RetriesThose, Stand, StandBut, StandsAlone};
+ghost use Rattle.fixpoint.specs.Kept.{AllStand, AsksSlot, IsBlank, IsKnown, RetriesMarked, RetriesThose, Stand, StandBut, StandsAlone, at_most_0};
 ghost use Rattle.fixpoint.specs.Marks.{IsCleared, IsSquare};
 ghost use Rattle.watches.specs.Watches.{Hold};
 
@@ -22,7 +22,7 @@ use crate::marks::Marks;
 use crate::pairs::{Pairs, RowGroup};
 use geo_base::MAX_DIMS;
 use geo_conditions::{ObjId, State};
-use indexical::AnyIndexical;
+use indexical::{AnyIndexical, SoleTerm};
 use object_pruning::{Group, Placed, are_possible, is_same_point, retry, slots};
 use std::alloc::{AllocError, Global};
 use watches::Watches;
@@ -55,8 +55,29 @@ pub fn all_blank<const K: usize>(
     Ok(kept)
 }
 
+// Forgets what is kept in a slot where a form that has one coordinate of the object is refuted.
+fn retry_point<const K: usize>(slot: &mut Option<Placed<K>>, sole: &SoleTerm<K>)
+    ensures { slot.new ≡ at_most_0 sole.now slot.old }
+{
+    if let Some(q) = slot {
+        if !sole.is_possible_at(&q.point) {
+            *slot = None;
+        }
+    }
+}
+
+// The same for all slots of the object.
+fn retry_sole<const K: usize>(kept: &mut [Option<Placed<K>>], sole: &SoleTerm<K>)
+    ensures { kept.new ≡ map (at_most_0 sole.now) kept.old }
+{
+    for slot in kept.iter_mut() {
+        retry_point(slot, sole);
+    }
+}
+
 // Asks the i-th condition again at what is kept of the object, and forgets where it is refuted.
-// Where it surely spares the object, there is nothing to ask.
+// Where it surely spares the object, there is nothing to ask. The other terms of a form are not
+// asked at each point.
 fn retry_watched<const K: usize>(
     list: &[AnyIndexical<K>],
     i: usize,
@@ -74,6 +95,10 @@ fn retry_watched<const K: usize>(
         ≡ map (retried (slice_index_or (map (λ x. x.cond) list.now) i c) s.now o.0) kept.old }
     ensures hold { Hold (map (λ x. x.cond) list.now) s.now watches.new }
 {
+    if let Some(sole) = watches.sole_term(list, i, s, o) {
+        retry_sole(kept, &sole);
+        return;
+    }
     if watches.surely_spares(list, i, s, o) {
         return;
     }

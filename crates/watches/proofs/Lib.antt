@@ -1,2 +1,3 @@
 pub mod Resting
 pub mod Holding
+pub mod Totals

@@ -1,17 +1,18 @@
 //! For each condition two objects on which it was found to rest, and for each object when it
 //! changed last.
 
-ghost use Rattle.std.specs.Prelude.{◌≡◌, ◌≢◌, ◌+◌, ◌<◌, ◌≤◌, length, map, slice_index_or, IfOk, IsTrue};
+ghost use Rattle.std.specs.Prelude.{◌≡◌, ◌≢◌, ◌+◌, ◌<◌, ◌≤◌, length, map, slice_index_or, IfOk, IfSome, IsTrue};
 ghost use Rattle.geo_conditions.specs.declared.cond.Cond.{Cond};
-ghost use Rattle.geo_conditions.specs.Conditions.{AllFit};
+ghost use Rattle.geo_conditions.specs.Conditions.{AllFit, FitsIn};
 ghost use Rattle.indexical.specs.Free.{SparesAnywhere};
+ghost use Rattle.indexical.specs.Sole.{Decides};
 ghost use Rattle.watches.specs.declared.watches.TheConstants.{LAST};
-ghost use Rattle.watches.specs.Watches.{HavePlaces, Hold, HoldAnyhow, IsFresh, IsNoted, IsPut, IsWatched, Later, TellSpared};
+ghost use Rattle.watches.specs.Watches.{AddsUp, HavePlaces, Hold, HoldAnyhow, IsAdded, IsFresh, IsNoted, IsPut, IsWatched, Later, TellSpared};
 
 use crate::parts::{Pair, rests_by, width};
 use geo_base::MAX_DIMS;
-use geo_conditions::{ObjId, State};
-use indexical::{AnyIndexical, Watched};
+use geo_conditions::{Cond, Form, ObjId, State};
+use indexical::{AnyIndexical, SoleTerm, Watched, least_value_of, sole_of};
 use std::alloc::{AllocError, Global};
 
 // The clock stops at this time. What is found then is not kept, since it could not be told from
@@ -124,13 +125,48 @@ impl Look {
     }
 }
 
+/// What a form came to, the number of its condition, and the time at which that was so.
+#[derive(Clone, Copy)]
+pub struct Total {
+    condition: usize,
+    since: u64,
+    value: i128,
+}
+
+impl Total {
+    // Added up at that time.
+    fn of(condition: usize, value: i128, since: u64) -> Total
+        ensures { (result.condition ≡ condition) × (result.value ≡ value)
+            × (result.since ≡ since) }
+    {
+        Total {
+            condition,
+            since,
+            value,
+        }
+    }
+
+    // Nothing was added up yet.
+    fn new() -> Total
+        ensures { result.since ≡ 0 }
+    {
+        Total {
+            condition: 0,
+            since: 0,
+            value: 0,
+        }
+    }
+}
+
 /// For each condition what is watched of it: parts that spared an object last, which promise
 /// nothing, and twice two objects on which it was found to rest. That is so as long as neither of
-/// the two changes.
+/// the two changes. Of a form it is also kept what its terms came to, which is so as long as
+/// nothing changes.
 pub struct Watches {
     watched: Vec<Watched>,
     looks: Vec<Look>,
     found: Vec<Watch>,
+    totals: Vec<Total>,
     changed: Vec<u64>,
     clock: u64,
 }
@@ -141,6 +177,7 @@ impl Drop for Watches {
             watched: _watched,
             looks: _looks,
             found: _found,
+            totals: _totals,
             changed: _changed,
             clock: _clock,
         } = self;
@@ -156,11 +193,13 @@ impl Watches {
         let watched = Vec::from_elem(alloc, Watched::new(), conditions)?;
         let looks = Vec::from_elem(alloc, Look::new(), places)?;
         let found = Vec::from_elem(alloc, Watch::new(), 2 * places)?;
+        let totals = Vec::from_elem(alloc, Total::new(), places)?;
         let changed = Vec::from_elem(alloc, 1, objects)?;
         Ok(Watches {
             watched,
             looks,
             found,
+            totals,
             changed,
             clock: 1,
         })
@@ -352,5 +391,61 @@ impl Watches {
             return false;
         }
         list[i].surely_spares_watched(s, o, &mut self.watched[i])
+    }
+
+    // Puts another total in place of the k-th one.
+    fn put_total(&mut self, k: usize, x: Total)
+        requires { k < length self.old.totals.items }
+        ensures { IsAdded k x self.old self.new }
+    {
+        self.totals[k] = x;
+    }
+
+    // The least value of the form, which is the i-th condition. It is added up once as long as
+    // nothing changes.
+    fn total<const K: usize>(&mut self, f: &Form, i: usize, s: &State<K>) -> i128
+        requires k { K ≤ MAX_DIMS }
+        requires fits { FitsIn (Cond.Lin f.now) s.now }
+        requires places { 0 < length self.old.totals.items }
+        ensures { AddsUp i f.now s.now result self.old self.new }
+    {
+        let k = i % self.totals.len();
+        let known = self.totals[k];
+        if self.clock >= LAST {
+            return least_value_of(f, s);
+        }
+        if known.condition == i && known.since == self.clock {
+            return known.value;
+        }
+        let value = least_value_of(f, s);
+        self.put_total(k, Total::of(i, value, self.clock));
+        value
+    }
+
+    /// What the i-th condition comes to with the object at a point, if it is a form that has one
+    /// coordinate of the object.
+    pub fn sole_term<const K: usize>(
+        &mut self,
+        list: &[AnyIndexical<K>],
+        i: usize,
+        s: &State<K>,
+        o: ObjId,
+    ) -> Option<SoleTerm<K>>
+        requires k { K ≤ MAX_DIMS }
+        requires fits { AllFit (map (λ x. x.cond) list.now) s.now }
+        requires object { o.0 < length s.now }
+        requires condition { i < length list.now }
+        requires hold { Hold (map (λ x. x.cond) list.now) s.now self.old }
+        ensures decides { IfSome result (λ x. (c : Cond)
+            → Decides (slice_index_or (map (λ x. x.cond) list.now) i c) s.now o.0 x) }
+        ensures hold { Hold (map (λ x. x.cond) list.now) s.now self.new }
+    {
+        match list[i].cond() {
+            Cond::Lin(f) => {
+                let total = self.total(f, i, s);
+                sole_of(f, total, s, o)
+            }
+            _ => None,
+        }
     }
 }

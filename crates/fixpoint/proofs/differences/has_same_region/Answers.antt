@@ -1,5 +1,5 @@
-use Rattle.std.proofs.Common.{◌<◌, ◌≤◌, ℕ, length, refl, arith}
-use Rattle.geo_conditions.specs.Reach.{State, nowhere, reach, IsState}
+use Rattle.std.proofs.Common.{refl, arith}
+use Rattle.geo_conditions.specs.Reach.{nowhere, reach}
 use Rattle.fixpoint.proofs.SameReach.{same_region}
 use Rattle.fixpoint.proofs.differences.has_same_region.Goals as goal
 

@@ -1,6 +1,5 @@
 use Rattle.std.proofs.Common.{◌≡◌, ◌<◌, ◌≤◌, ◌-◌, ℕ, Bool, false, List, length, map, get_or, ap, sym, ◌∙◌, subst, arith, rules, Vec, Global}
 use Rattle.indexical.specs.declared.any.AnyIndexical.{AnyIndexical}
-use Rattle.fixpoint.specs.declared.partners.Partners.{Partners}
 use Rattle.fixpoint.specs.Kept.{RetriesThose}
 use Rattle.fixpoint.specs.Links.{row}
 use Rattle.fixpoint.specs.Pairs.{HaveIn}

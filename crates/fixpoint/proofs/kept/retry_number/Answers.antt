@@ -1,10 +1,10 @@
-use Rattle.std.proofs.Common.{◌≡◌, ◌<◌, ◌-◌, List, length, map, get_or, ap, sym, ◌∙◌, subst, arith, Vec, Global}
+use Rattle.std.proofs.Common.{◌≡◌, ◌<◌, ◌-◌, List, length, map, get_or, ap, sym, ◌∙◌, subst, arith}
 use Rattle.std.proofs.lemmas.List.{length-map}
 use Rattle.smallvec.specs.SmallVec.{SmallVec}
 use Rattle.geo_conditions.specs.declared.cond.Cond.{Cond}
 use Rattle.geo_conditions.specs.declared.object.ObjId.{ObjId}
 use Rattle.indexical.specs.declared.any.AnyIndexical.{AnyIndexical}
-use Rattle.fixpoint.specs.Links.{NamedBy, row}
+use Rattle.fixpoint.specs.Links.{NamedBy}
 use Rattle.fixpoint.specs.Pairs.{names_at}
 use Rattle.fixpoint.proofs.Linking.{names_get}
 use Rattle.fixpoint.proofs.Watching.{those_numbered, those_spared}

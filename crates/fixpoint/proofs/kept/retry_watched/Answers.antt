@@ -4,7 +4,7 @@ use Rattle.geo_conditions.specs.declared.cond.Cond.{Cond}
 use Rattle.geo_conditions.specs.Conditions.{FitsIn}
 use Rattle.indexical.specs.declared.any.AnyIndexical.{AnyIndexical}
 use Rattle.object_pruning.specs.Kept.{retried}
-use Rattle.fixpoint.proofs.Standing.{retried_anywhere}
+use Rattle.fixpoint.proofs.Standing.{retried_anywhere, retried_sole}
 use Rattle.fixpoint.proofs.kept.retry_watched.Goals as goal
 
 pub retry-requires : goal.retry-requires
@@ -30,3 +30,8 @@ returns-clause-kept g c = λ d.
     let x = c.index-list-i.result in
     let at : get_or (map f c.args.list.now) c.args.i d ≡ x.cond = get_or-map f c.args.list.now c.args.i x d c.requires.condition ∙ ap f (sym c.index-list-i.is) in
     c.retry.ensures ∙ ap (λ (y : Cond). map (retried y c.args.s.now c.args.o.0) c.args.kept.now) (sym at)
+
+pub returns-in-Some-clause-kept : goal.returns-in-Some-clause-kept
+returns-in-Some-clause-kept g c = λ d.
+    let cs = map (λ (x : AnyIndexical g.row.K). x.cond) c.args.list.now in
+    c.retry_sole.ensures ∙ retried_sole (get_or cs c.args.i d) c.args.s.now c.args.o.0 c.in-Some.sole (c.in-Some.ensures.decides d) c.args.kept.now

@@ -1,4 +1,4 @@
-use Rattle.std.proofs.Common.{◌≡◌, ℕ, ◌<◌, ◌+◌, ◌-◌, length, map, get_or, ap, sym, ◌∙◌, subst, inl, inr, arith, Vec, Global}
+use Rattle.std.proofs.Common.{◌≡◌, ℕ, ◌<◌, ◌+◌, ◌-◌, length, map, get_or, ap, sym, ◌∙◌, subst, inl, inr, arith}
 use Rattle.std.proofs.lemmas.Bool.{cases_eq}
 use Rattle.std.proofs.lemmas.List.{length-map, get_or-map}
 use Rattle.smallvec.specs.SmallVec.{SmallVec}
@@ -8,7 +8,7 @@ use Rattle.geo_conditions.specs.Conditions.{FitsIn}
 use Rattle.indexical.specs.declared.any.AnyIndexical.{AnyIndexical}
 use Rattle.object_pruning.proofs.LivePicks.{at_number}
 use Rattle.object_pruning.specs.InRows.{IsInGroup}
-use Rattle.fixpoint.specs.Links.{NamedBy, row}
+use Rattle.fixpoint.specs.Links.{NamedBy}
 use Rattle.fixpoint.specs.Marks.{IsSquare}
 use Rattle.fixpoint.specs.Near.{Unhinders, UnhinderedBy}
 use Rattle.fixpoint.specs.Pairs.{names_at}

@@ -26,3 +26,6 @@ returns-in-Some-clause-hold g c =
     let pair = c.in-Some.pair in
     c.watch.ensures cs S (hold_noted cs S c.args.self.now c.note.new.self c.requires.hold c.note.ensures) (λ d _.
     subst (λ (y : Cond). RestsOn y S pair.first.0 pair.second.0) (sym (cond_read c.args.list.now c.args.i c.index-list-i.result x d c.requires.condition c.index-list-i.is c.cond.ensures)) c.in-Some.ensures.0)
+
+pub returns-in-None-clause-hold : goal.returns-in-None-clause-hold
+returns-in-None-clause-hold g c = hold_noted (map (λ (x : AnyIndexical g.row.K). x.cond) c.args.list.now) c.args.s.now c.args.self.now c.note-in-None.new.self c.requires.hold c.note-in-None.ensures
