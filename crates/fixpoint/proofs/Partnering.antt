@@ -162,14 +162,19 @@ module _ (named : List (SmallVec ObjId)) (o : ℕ) where
   NumbersBelow bs m n lists others = (start : List (Vec ℕ Global)) × (length start ≡ n) × ((u : ℕ) → row start u ≡ []) × PutsNumbers named o (InBelow bs m) start [] lists others
 
   pub numbers_group : (bs : List RowGroup) (m n : ℕ) (d : RowGroup) (mid new : List (Vec ℕ Global)) (more most : List ℕ) → m < length bs → NumbersBelow bs m n mid more → PutsNumbers named o (IsInGroup (get_or bs m d).group) mid more new most → NumbersBelow bs (m + 1) n new most
-  numbers_group bs m n d mid new more most h w p = (w.0, w.1, w.2, numbers_both (InBelow bs m) (IsInGroup (get_or bs m d).group) (InBelow bs (m + 1)) w.0 mid new [] more most
-    (λ j v. (v.0, v.1, omega (arith, v.2), v.3, v.4))
-    (λ j v. (m, get_or bs m d, omega arith, slice_get-get_or bs m d h, v))
-    (λ j v. elim (cases_eq v.0 m) [
-      | inl e ↦ inr (subst (λ (x : RowGroup). IsInGroup x.group j) (same_Some _ _ (sym v.3 ∙ ap (slice_get bs) e ∙ slice_get-get_or bs m d h)) v.4)
-      | inr ne ↦ inl (v.0, v.1, omega (arith, v.2, ne), v.3, v.4)
-    ])
-    w.3 p)
+  numbers_group bs m n d mid new more most h w p = (
+    w.0,
+    w.1,
+    w.2,
+    numbers_both (InBelow bs m) (IsInGroup (get_or bs m d).group) (InBelow bs (m + 1)) w.0 mid new [] more most
+        (λ j v. (v.0, v.1, omega (arith, v.2), v.3, v.4))
+        (λ j v. (m, get_or bs m d, omega arith, slice_get-get_or bs m d h, v))
+        (λ j v. elim (cases_eq v.0 m) [
+          | inl e ↦ inr (subst (λ (x : RowGroup). IsInGroup x.group j) (same_Some _ _ (sym v.3 ∙ ap (slice_get bs) e ∙ slice_get-get_or bs m d h)) v.4)
+          | inr ne ↦ inl (v.0, v.1, omega (arith, v.2, ne), v.3, v.4)
+        ])
+        w.3 p,
+  )
 
   pub numbers_groups : (bs : List RowGroup) (m n found : ℕ) (p : Partners) → length bs ≤ m → found ≤ n → (0 < length bs → found ≡ n) → NumbersBelow bs m found p.few.items p.many.items → ArePartners named o n (HaveIn bs) p
   numbers_groups bs m n found p h low all w = record {

@@ -140,6 +140,7 @@ stable_partners named o n bs p h = record {
   where
     decide_have : (gs : List RowGroup) (j : ℕ) → Decided (HaveIn gs j)
     decide_have gs j = decide_in (λ (x : RowGroup). IsInGroup x.group j) (λ x. in_group j x.group) gs
+
     decide_number : (numbers : List ℕ) (j : ℕ) → Decided (HasNumber numbers j)
     decide_number numbers j = elim (decide_in (λ (x : ℕ). x ≡ j) (λ x. decide_eq x j) numbers) [
       | inl w ↦ inl (w.0, w.2 ∙ ap Some w.3)
@@ -161,7 +162,8 @@ links_taken cs n l h = record {
   pairs = record {
     objects = ∥∥₁_elim h (hlevel props) (λ a. a.pairs.objects);
     each = λ o d b. stable_pairs cs o _ n (get_or l.pairs.items o d) (∥∥₁_map h (λ a. a.pairs.each o d b));
-  };  partners = record {
+  };
+  partners = record {
     objects = ∥∥₁_elim h (hlevel props) (λ a. a.partners.objects);
     each = λ o p d b. stable_partners l.named.items o n (get_or l.pairs.items o p).others.items (get_or l.partners.items o d) (∥∥₁_map h (λ a. a.partners.each o p d b));
   };
