@@ -16,3 +16,4 @@ pub mod SoleCoordinate
 pub mod ShapeLiterals
 pub mod NearBoxes
 pub mod SoleTerms
+pub mod NextNamed

@@ -28,6 +28,10 @@ IsSide up a = (up ≡ true → a <ℤ pos 0) × (up ≡ false → pos 0 ≤ℤ a
 pub side_of : (z a : ℤ) → z ≡ a → IsSide (lt_z z (pos 0)) a
 side_of z a e = (λ h. grind (arith, ints), λ h. grind (arith, ints))
 
+-- the price that the factor sets
+pub at_price : (up : Bool) (d price : ℕ) (z a : ℤ) (region b b' : Region) (purse purse' : ℕ) → price ≡ cost up z → z ≡ a → Widens up d price region b b' purse purse' → Widens up d (cost up a) region b b' purse purse'
+at_price up d price z a region b b' purse purse' e f w = subst (λ (p : ℕ). Widens up d p region b b' purse purse') (e ∙ ap (λ (x : ℤ). cost up x) f) w
+
 -- what the product loses where that end lies so many units outwards of x
 side_moved : (up : Bool) (a lo hi x : ℤ) (u : ℕ) → IsSide up a → (up ≡ true → hi ≡ x +ℤ pos u) → (up ≡ false → lo +ℤ pos u ≡ x) → least_product a lo hi +ℤ pos (cost up a * u) ≡ least_product a x x
 side_moved true (pos n) lo hi x u side e g = absurd (let h = side.0 refl in omega (arith, ints, h))

@@ -20,6 +20,12 @@ abbrev mutual
 abbrev pub MeetNone : (ℕ → Bool) → ℕ → ℕ → Type 0
 MeetNone test from end = (o : ℕ) → from ≤ o → o < end → test o ≡ false
 
+-- the number is that of the first object that meets the test, of those from `from` on and before `end`, and `end` where none of them meets it
+pub record IsNext (test : ℕ → Bool) (from end next : ℕ) : Type 0 where
+  pub inside : next ≤ end
+  pub meets : next < end → (from ≤ next) × (test next ≡ true)
+  pub none : MeetNone test from next
+
 -- u is the first object that meets the test, of those from `from` on; none where none meets it
 abbrev pub IsFirst : (ℕ → Bool) → ℕ → Option ObjId → Type 0
 IsFirst test from None = (o : ℕ) → from ≤ o → test o ≡ false

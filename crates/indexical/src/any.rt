@@ -18,6 +18,7 @@ ghost use Rattle.indexical.specs.Nearness.{IsRefutedNear};
 use crate::apart::ApartIndexical;
 use crate::bound::BoundIndexical;
 use crate::facing::{Facing, facing_of_tree};
+use crate::first_named::first_in_tree;
 use crate::forbidden::{ForbiddenPart, box_with, exactly};
 use crate::indexical::Indexical;
 use crate::nearness::Nearness;
@@ -214,20 +215,6 @@ fn first_single<const K: usize>(x: &AnyIndexical<K>, from: usize, end: usize) ->
         Some(bound) => bound.object_within(from, end),
         None => first_in_tree(&x.cond, from, end),
     }
-}
-
-/// The first object that the condition names, of those from `from` on and before `end`.
-fn first_in_tree(c: &Cond, from: usize, end: usize) -> Option<ObjId>
-    requires { end ≤ MAX_OBJECTS }
-    ensures { IsFirstBefore (λ o. names o c.now) from end result }
-{
-    for o in from..end {
-        let object = ObjId(o as u16);
-        if is_named(c, object) {
-            return Some(object);
-        }
-    }
-    None
 }
 
 /// The forbidden box of a condition that is not met by two boxes.

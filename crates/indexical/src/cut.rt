@@ -13,7 +13,7 @@ ghost use Rattle.indexical.specs.Sole.{IsSole};
 ghost use Rattle.indexical.specs.Widening.{BeginsAt};
 
 use crate::forbidden::ForbiddenPart;
-use crate::form::{factor_of, forbid_form, widen};
+use crate::form::{factor_of, forbid_form, price_for, widen_at};
 use crate::least::least_value_with;
 use crate::sole::SoleTerm;
 use crate::sole_making::sole_term;
@@ -81,9 +81,10 @@ fn cut_by_sole<const K: usize>(
         return;
     };
     let region = *b;
-    let high = factor_of(f, o, d) < 0;
+    let factor = factor_of(f, o, d);
+    let high = factor < 0;
     begin_at(b, d, high, c);
-    widen(f, o, d, high, &region, b, &mut purse);
+    widen_at(price_for(factor, high), d, high, &region, b, &mut purse);
 }
 
 /// The same for a form that has several coordinates of the object.

@@ -27,16 +27,23 @@ pub fn factor_of(f: &Form, o: ObjId, d: usize) -> i64
     0
 }
 
-/// How much the least value of the form falls where that end moves outwards by one.
-fn price_of(f: &Form, o: ObjId, d: usize, high: bool) -> u64
-    ensures { result ≡ cost high (factor_at f.now.terms o.0 d) }
+/// How much the least value of a form falls where an end of a coordinate with that factor moves
+/// outwards by one.
+pub fn price_for(factor: i64, high: bool) -> u64
+    ensures { result ≡ cost high factor }
 {
-    let factor = factor_of(f, o, d);
     if high == (factor < 0) {
         factor.unsigned_abs()
     } else {
         0
     }
+}
+
+/// The same for that coordinate of an object.
+fn price_of(f: &Form, o: ObjId, d: usize, high: bool) -> u64
+    ensures { result ≡ cost high (factor_at f.now.terms o.0 d) }
+{
+    price_for(factor_of(f, o, d), high)
 }
 
 /// Buys units, at most so many, as long as the purse pays for them.
@@ -47,6 +54,11 @@ fn buy(purse: &mut u128, price: u64, most: u64) -> u64
 {
     if price == 0 {
         return most;
+    }
+    if price == 1 {
+        let units = (*purse).min(u128::from(most));
+        *purse -= units;
+        return units as u64;
     }
     let price = u128::from(price);
     let units = (*purse / price).min(u128::from(most));
@@ -79,8 +91,35 @@ fn down_by(end: i64, units: u64, limit: i64) -> i64
 }
 
 /// Moves one end of the box in the dimension d outwards, towards that of the region, as far as the
-/// purse pays for it.
-pub fn widen<const K: usize>(
+/// purse pays that price for each unit.
+pub fn widen_at<const K: usize>(
+    price: u64,
+    d: usize,
+    high: bool,
+    region: &KBox<K>,
+    b: &mut KBox<K>,
+    purse: &mut u128,
+)
+    requires dimension { d < K }
+    requires inside { outer high (region_of b.old) d ≤ℤ outer high (region_of region.now) d }
+    ensures { Widens high d price (region_of region.now)
+        (region_of b.old) (region_of b.new) purse.old purse.new }
+{
+    if high {
+        let end = b.hi.get(d);
+        let limit = region.hi.get(d);
+        let units = buy(purse, price, distance(end, limit));
+        b.hi.set(d, up_by(end, units, limit));
+    } else {
+        let end = b.lo.get(d);
+        let limit = region.lo.get(d);
+        let units = buy(purse, price, distance(limit, end));
+        b.lo.set(d, down_by(end, units, limit));
+    }
+}
+
+/// The same at the price that the form sets.
+fn widen<const K: usize>(
     f: &Form,
     o: ObjId,
     d: usize,
@@ -94,18 +133,7 @@ pub fn widen<const K: usize>(
     ensures { Widens high d (cost high (factor_at f.now.terms o.0 d)) (region_of region.now)
         (region_of b.old) (region_of b.new) purse.old purse.new }
 {
-    let price = price_of(f, o, d, high);
-    if high {
-        let end = b.hi.get(d);
-        let limit = region.hi.get(d);
-        let units = buy(purse, price, distance(end, limit));
-        b.hi.set(d, up_by(end, units, limit));
-    } else {
-        let end = b.lo.get(d);
-        let limit = region.lo.get(d);
-        let units = buy(purse, price, distance(limit, end));
-        b.lo.set(d, down_by(end, units, limit));
-    }
+    widen_at(price_of(f, o, d, high), d, high, region, b, purse);
 }
 
 /// Moves each end of the box on one side outwards, the least significant dimension first.

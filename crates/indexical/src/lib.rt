@@ -8,6 +8,7 @@ mod bound;
 mod counted;
 mod cut;
 mod facing;
+mod first_named;
 mod forbidden;
 mod form;
 mod indexical;
