@@ -2,31 +2,27 @@
 use Rattle.std.proofs.Common.{◌≡◌, ℕ, zero, suc, ◌+◌, ◌<◌, ◌≤◌, get_or, drop, Bool, true, false, ◌&&◌, cond, List, [], ◌∷◌, ◌++◌, length, map, pos, sym, ap, ◌∙◌, refl, arith, subst}
 use Rattle.std.specs.Prelude.{None, Some, Result, Ok, Err, MatchResult, slice_index_or, ⊤}
 use Rattle.std.specs.List.{range_with_len}
-use Rattle.std.proofs.lemmas.List.{drop_more, length-map}
+use Rattle.std.proofs.lemmas.List.{drop_more}
 use Rattle.std.proofs.lemmas.List.FromFn.{length-range_with_len, get_or-range_with_len}
 use Rattle.std.proofs.Math.ListN.{drop_of_length-le}
 use Rattle.geo_conditions.specs.declared.cond.Cond.{Cond}
 use Rattle.geo_conditions.specs.declared.object.ObjId.{ObjId}
-use Rattle.rule_syntax.specs.declared.tree.QuantKind.{QuantKind}
 use Rattle.problem_data.specs.Problem.{BoxData, ProblemData}
 use Rattle.problem_data.specs.Places.{absent_place}
 use Rattle.problem_data.specs.Tuple.{object_of}
 use Rattle.problem_data.specs.Value.{Thing, Number, Part}
-use Rattle.rule_expand.specs.declared.plain.Subject.TheVariants as subjects
-use Rattle.rule_expand.specs.Plain.{PlainCollTree, PlainFormulaTree, quantified}
-use Rattle.rule_expand.specs.PlainTruth.{PlainEnv, set_variable}
 use Rattle.rule_expand.specs.PlainView.{plain_formula_view, plain_formulas_view}
 use Rattle.rule_expand.specs.Counts.{nodes, nodes_in}
 use Rattle.rule_expand.specs.declared.plain.PlainFormula.{PlainFormula}
 use Rattle.linear_conditions.specs.CondTree.{CondTree, shape_is, cond_view}
 use Rattle.linear_conditions.specs.Fixings.{Fixing}
-use Rattle.linear_conditions.specs.Counts.{Counts, Outcome, Done, and_then, within_limits, one_leaf, visit}
+use Rattle.linear_conditions.specs.Counts.{Counts, Outcome, Done, and_then, within_limits, one_leaf}
 use Rattle.linear_conditions.specs.Faults.{IsFault}
 use Rattle.linear_conditions.specs.declared.fault.GroundFault.{GroundFault}
 use Rattle.linear_conditions.specs.declared.fault.GroundFault.TheVariants.{Memory}
 use Rattle.rule_ground.specs.declared.quantifiers.Manner.{Manner}
 use Rattle.rule_ground.specs.Answers.{Gives, Appends}
-use Rattle.rule_ground.specs.Grounding.{absent_truth, add_absence, Element, whole, alone, ground, needs, manner, body_sign, quantifier_node, things_of, element_of, elements_of, ground_elements}
+use Rattle.rule_ground.specs.Grounding.{absent_truth, add_absence, Element, whole, alone, element_of}
 use Rattle.rule_ground.proofs.Behind.{then-done, then-made, then-fault, alone-fault, free, both_ways, appended}
 
 -- a result that is made of another one
@@ -53,29 +49,6 @@ operand-nodes (x ∷ xs) (suc i) d h = omega (arith, operand-nodes xs i d (omega
 -- an operand is no larger than all
 pub operand-size : (items : List PlainFormula) (i : ℕ) (x : PlainFormula) → i < length items → x ≡ get_or items i x → nodes (plain_formula_view x) ≤ nodes_in (plain_formulas_view items)
 operand-size items i x h e = subst (λ y. nodes (plain_formula_view y) ≤ nodes_in (plain_formulas_view items)) (sym e) (operand-nodes items i x h)
-
-module _ (p : ProblemData) (kind : QuantKind) (v : ℕ) (coll : PlainCollTree) (f : PlainFormulaTree) (sign : Bool) (env : PlainEnv) (fix : List Fixing) (k k1 : Counts) (s asked : Bool) (m : Manner) (ts : List Thing)
-    (counted : visit k ≡ Done k1 k1) (es : s ≡ body_sign kind sign) (em : m ≡ manner kind sign) (ea : map (element_of p asked fix) ts ≡ map (element_of p (needs (subjects.Variable v) f) fix) ts) (et : ts ≡ things_of p coll env fix) where
-  same-elements : ground_elements p (λ x more j. ground p f (body_sign kind sign) (set_variable v x env) more j) (manner kind sign) fix (elements_of p (needs (subjects.Variable v) f) coll env fix) k1
-      ≡ ground_elements p (λ x more j. ground p f s (set_variable v x env) more j) m fix (map (element_of p asked fix) ts) k1
-  same-elements =
-      (λ i. ground_elements p (λ x more j. ground p f (sym es i) (set_variable v x env) more j) (sym em i) fix (map (element_of p (needs (subjects.Variable v) f) fix) (sym et i)) k1)
-      ∙ ap (λ xs. ground_elements p (λ x more j. ground p f s (set_variable v x env) more j) m fix xs k1) (sym ea)
-
-  -- a quantifier from the children of its elements
-  pub quantified-made : (j : Counts) (n : ℕ) (cs : List CondTree) (r : Result Cond GroundFault) → n ≡ length ts →
-      ground_elements p (λ x more i. ground p f s (set_variable v x env) more i) m fix (map (element_of p asked fix) ts) k1 ≡ Done cs j →
-      MatchResult r (λ c. cond_view c ≡ quantifier_node kind sign n cs) (λ e. e ≡ Memory) → Gives (ground p (quantified kind v coll f) sign env fix k) j r
-  quantified-made j n cs r en h q =
-      let xs = elements_of p (needs (subjects.Variable v) f) coll env fix in
-      let l : n ≡ length xs = en ∙ ap length et ∙ sym (length-map (things_of p coll env fix) (element_of p (needs (subjects.Variable v) f) fix)) in
-      step-gives (visit k) _ k1 j r counted
-      (gives-made (List CondTree) _ (quantifier_node kind sign (length xs)) cs j r (same-elements ∙ h) (subst (λ w. MatchResult r (λ c. cond_view c ≡ quantifier_node kind sign w cs) (λ e. e ≡ Memory)) l q))
-
-  pub quantified-fault : (e : GroundFault) → IsFault (List CondTree) (ground_elements p (λ x more i. ground p f s (set_variable v x env) more i) m fix (map (element_of p asked fix) ts) k1) e →
-      IsFault CondTree (ground p (quantified kind v coll f) sign env fix k) e
-  quantified-fault e h =
-      step-fault (visit k) _ k1 e counted (then-fault (List CondTree) CondTree _ _ e (subst (λ o. IsFault (List CondTree) o e) (sym same-elements) h))
 
 -- boxes are whole, whether shapes are asked for or not
 pub boxes-whole : (p : ProblemData) (fix : List Fixing) (a b : Bool) (bs : List BoxData) → map (element_of p a fix) (map Part bs) ≡ map (element_of p b fix) (map Part bs)

@@ -95,7 +95,7 @@ fault-behind cs (Done ds k) Overflow h = cc
 fault-behind cs (Done ds k) TooMany h = cc
 fault-behind cs (Done ds k) Memory h = tt
 
-go_on : (cs bs : List CondTree) (o : Outcome (List CondTree)) → behind cs (and_then (List CondTree) (List CondTree) o (λ ds i. Done (bs ++ ds) i)) ≡ behind (cs ++ bs) o
+pub go_on : (cs bs : List CondTree) (o : Outcome (List CondTree)) → behind cs (and_then (List CondTree) (List CondTree) o (λ ds i. Done (bs ++ ds) i)) ≡ behind (cs ++ bs) o
 unfolding behind and_then
 go_on cs bs (Fault w) = refl
 go_on cs bs (Done ds i) = ap (λ l. Done l i) (sym (append_assoc cs bs ds))

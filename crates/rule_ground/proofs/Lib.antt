@@ -18,9 +18,12 @@ pub mod Needed
 pub mod Said
 pub mod Behind
 pub mod Arms
+pub mod Busy
+pub mod Quantified
 pub mod Chains
 pub mod TellSteps
 pub mod Nodes
+pub mod RowSteps
 pub mod RuleSteps
 pub mod Meaning
 pub mod Calm

@@ -125,6 +125,13 @@ is_counted One = false
 is_counted Holding = true
 is_counted Failing = true
 
+-- whether a child that holds, or does not, is idle: it changes nothing of what the others say
+abbrev pub is_idle : Manner → Bool → Bool
+is_idle All holds = holds
+is_idle One holds = not holds
+is_idle Holding holds = not holds
+is_idle Failing holds = not holds
+
 -- the sign of the body: that at most so many hold is said of those that do not
 abbrev pub body_sign : QuantKind → Bool → Bool
 body_sign (AtMost n) sign = not sign

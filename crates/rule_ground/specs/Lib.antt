@@ -5,6 +5,7 @@ pub mod Meant
 pub mod Grounding
 pub mod Order
 pub mod Own
+pub mod Rows
 pub mod Rules
 pub mod Shapes
 pub mod Start

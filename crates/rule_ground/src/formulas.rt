@@ -10,8 +10,8 @@ ghost use Rattle.linear_conditions.specs.Views.{fixings_view};
 ghost use Rattle.linear_conditions.specs.declared.fault.GroundFault.TheVariants.{Memory};
 ghost use Rattle.rule_expand.specs.Plain as plain;
 ghost use Rattle.rule_expand.specs.PlainView.{plain_coll_view, plain_formula_view, plain_formulas_view};
-ghost use Rattle.rule_ground.specs.Answers.{Appends, Gives, GivesAll, body_at, element_view};
-ghost use Rattle.rule_ground.specs.Grounding.{element_of, ground as grounded, ground_element, ground_elements, ground_group, ground_operands, ground_optional, ground_place, ground_places, ground_split, ground_whole, in_turn};
+ghost use Rattle.rule_ground.specs.Answers.{Appends, AppendsBusy, Gives, GivesAll, GivesBusy, IsRow, body_at, element_view};
+ghost use Rattle.rule_ground.specs.Grounding.{alone, element_of, ground as grounded, ground_element, ground_elements, ground_group, ground_operands, ground_optional, ground_place, ground_places, ground_split, ground_whole, in_turn};
 ghost use Rattle.rule_ground.specs.Shapes.{shape_places};
 ghost use Rattle.rule_values.specs.Elements.{elements_view};
 ghost use Rattle.rule_values.specs.View.{env_view, thing_view};
@@ -19,8 +19,9 @@ ghost use Rattle.rule_values.specs.View.{env_view, thing_view};
 use crate::elements::{Element, asks_shapes, element_of, shape_count, things_of};
 use crate::optional::{absent_place, add_absence, ground_gone, optional_child};
 use crate::quantifiers::{
-    Manner, body_sign, is_counted, joined_two, manner_of, quantifier_node, shape_child,
+    Manner, body_sign, is_counted, is_idle, joined_two, manner_of, quantifier_node, shape_child,
 };
+use crate::rows::row_of;
 use crate::signs::compared;
 use crate::told::{Told, told_of};
 use geo_conditions::{Cond, ObjId};
@@ -28,7 +29,7 @@ use linear_conditions::compare::compare;
 use linear_conditions::counter::Counter;
 use linear_conditions::fault::GroundFault;
 use linear_conditions::fixings::Fixings;
-use linear_conditions::fold::{certain, decides, joined, joined_one as alone};
+use linear_conditions::fold::{certain, decides, joined, joined_one as only};
 use problem_data::problem::Problem;
 use rule_expand::plain::{PlainColl, PlainFormula, Subject};
 use rule_syntax::tree::{QuantKind, Rel};
@@ -87,16 +88,26 @@ fn ground_certain(alloc: Global, holds: bool, counter: &mut Counter) -> Result<C
     }
 }
 
-// The visits of a formula that is told, and its condition, which is certain.
-fn ground_told(alloc: Global, told: Told, counter: &mut Counter) -> Result<Cond, GroundFault>
-    ensures { Gives
-        (and_then Counts CondTree (visits told.visits counter.old)
-        (λ k same. Done (certain told.holds) k)) counter.new result }
+// Appends the child that is told, behind its visits, unless it is idle.
+fn add_told(
+    alloc: Global,
+    manner: Manner,
+    told: Told,
+    counter: &mut Counter,
+    children: &mut Vec<Cond>,
+) -> Result<(), GroundFault>
+    ensures { AppendsBusy manner
+        (alone (and_then Counts CondTree (visits told.visits counter.old)
+        (λ k same. Done (certain told.holds) k))) children.old.items children.new.items counter.new
+        result }
 {
-    match counter.visit_often(told.visits) {
-        Ok(()) => Ok(certain(alloc, told.holds)),
-        Err(e) => Err(e),
+    if let Err(e) = counter.visit_often(told.visits) {
+        return Err(e);
     }
+    if is_idle(manner, told.holds) {
+        return Ok(());
+    }
+    add_cond(children, certain(alloc, told.holds))
 }
 
 /// All or one of a single operand.
@@ -104,7 +115,7 @@ pub fn joined_one(alloc: Global, all: bool, part: Cond) -> Result<Cond, GroundFa
     ensures { MatchResult result (λ c. cond_view c ≡ joined all (cond_view part ∷ [])) (λ e. e
         ≡ Memory) }
 {
-    Ok(alone(alloc, part))
+    Ok(only(alloc, part))
 }
 
 /// The condition of a formula under plus (true) or minus. `fixings` are the objects whose shapes are fixed.
@@ -320,7 +331,7 @@ fn ground_quantified(
     }
 }
 
-// The children of all elements.
+// The children of all elements, but for idle ones.
 #[cycle(ground)]
 fn ground_elements(
     alloc: Global,
@@ -332,11 +343,19 @@ fn ground_elements(
     fixings: &Fixings,
     counter: &mut Counter,
 ) -> Result<Vec<Cond>, GroundFault>
-    ensures { GivesAll (ground_elements problem.now (body_at problem.now site.now) manner
+    ensures { GivesBusy manner (ground_elements problem.now (body_at problem.now site.now) manner
         (fixings_view fixings.now)
         (map (element_of problem.now asked (fixings_view fixings.now))
         (elements_view things.now)) counter.old) counter.new result }
 {
+    let row = row_of(
+        problem,
+        &*site.formula,
+        site.sign,
+        site.variable,
+        &*site.env,
+        &*fixings,
+    );
     let mut children = Vec::new(alloc);
     for i in 0..things.len() {
         let element = element_of(problem, asked, &*fixings, things.at(i));
@@ -345,6 +364,7 @@ fn ground_elements(
             problem,
             &*site,
             manner,
+            row,
             element,
             &*fixings,
             counter,
@@ -363,21 +383,22 @@ fn ground_element(
     problem: &Problem,
     site: &Site,
     manner: Manner,
+    row: Option<Told>,
     element: Element,
     fixings: &Fixings,
     counter: &mut Counter,
     children: &mut Vec<Cond>,
 ) -> Result<(), GroundFault>
-    ensures { Appends
+    requires row { IsRow problem.now site.now (fixings_view fixings.now) row }
+    ensures { AppendsBusy manner
         (ground_element problem.now (body_at problem.now site.now) manner (fixings_view fixings.now)
         (element_view element.entry) counter.old) children.old.items children.new.items counter.new
         result }
 {
     match element {
-        Element::Whole(thing) => {
-            let child = ground_whole(alloc, problem, &*site, thing, &*fixings, counter);
-            add_child(children, child)
-        }
+        Element::Whole(thing) => ground_whole(
+            alloc, problem, &*site, manner, row, thing, &*fixings, counter, children,
+        ),
         Element::Split(object) => ground_split(
             alloc, problem, &*site, manner, object, &*fixings, counter, children,
         ),
@@ -389,35 +410,46 @@ fn ground_element(
     }
 }
 
-// The child of an element that does not split: its visit, then the body.
+// Appends the child of an element that does not split: its visit, then the body.
 #[cycle(ground)]
 fn ground_whole(
     alloc: Global,
     problem: &Problem,
     site: &Site,
+    manner: Manner,
+    row: Option<Told>,
     thing: Thing,
     fixings: &Fixings,
     counter: &mut Counter,
-) -> Result<Cond, GroundFault>
-    ensures { Gives
-        (ground_whole (body_at problem.now site.now) (fixings_view fixings.now)
-        (thing_view thing.entry) counter.old) counter.new result }
+    children: &mut Vec<Cond>,
+) -> Result<(), GroundFault>
+    requires row { IsRow problem.now site.now (fixings_view fixings.now) row }
+    ensures { AppendsBusy manner
+        (alone (ground_whole (body_at problem.now site.now) (fixings_view fixings.now)
+        (thing_view thing.entry) counter.old)) children.old.items children.new.items counter.new
+        result }
 {
     if let Err(e) = counter.visit() {
         return Err(e);
     }
+    if let Some(told) = row {
+        return add_told(alloc, manner, told, counter, children);
+    }
     let env = Env::More(&*site.env, site.variable, thing);
     match told_of(problem, &*site.formula, site.sign, &env, &*fixings) {
-        Some(told) => ground_told(alloc, told, counter),
-        None => ground(
-            alloc,
-            problem,
-            &*site.formula,
-            site.sign,
-            &env,
-            &*fixings,
-            counter,
-        ),
+        Some(told) => add_told(alloc, manner, told, counter, children),
+        None => {
+            let child = ground(
+                alloc,
+                problem,
+                &*site.formula,
+                site.sign,
+                &env,
+                &*fixings,
+                counter,
+            );
+            add_child(children, child)
+        }
     }
 }
 

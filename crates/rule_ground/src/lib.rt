@@ -15,6 +15,7 @@ mod needs;
 mod optional;
 mod own;
 pub mod quantifiers;
+mod rows;
 pub mod shapes;
 mod signs;
 mod told;

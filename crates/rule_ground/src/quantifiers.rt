@@ -4,7 +4,7 @@ ghost use Rattle.std.specs.Prelude.{◌≡◌, ◌<◌, ◌∷◌, ◌^◌, ◌-
 ghost use Rattle.linear_conditions.specs.CondTree.{cond_view};
 ghost use Rattle.linear_conditions.specs.Folding.{joined};
 ghost use Rattle.linear_conditions.specs.declared.fault.GroundFault.TheVariants.{Memory};
-ghost use Rattle.rule_ground.specs.Grounding.{body_sign, is_counted, manner, quantifier_node, shape_child};
+ghost use Rattle.rule_ground.specs.Grounding.{body_sign, is_counted, is_idle, manner, quantifier_node, shape_child};
 
 use geo_conditions::{Cond, ObjId};
 use linear_conditions::fault::GroundFault;
@@ -58,6 +58,18 @@ pub fn is_counted(manner: Manner) -> bool
         Manner::One => false,
         Manner::Holding => true,
         Manner::Failing => true,
+    }
+}
+
+/// Whether a child that holds, or does not, is idle: it changes nothing of what the others say.
+pub fn is_idle(manner: Manner, holds: bool) -> bool
+    ensures { result ≡ is_idle manner holds }
+{
+    match manner {
+        Manner::All => holds,
+        Manner::One => !holds,
+        Manner::Holding => !holds,
+        Manner::Failing => !holds,
     }
 }
 

@@ -14,11 +14,13 @@ use Rattle.rule_expand.specs.Plain.{implication}
 use Rattle.rule_expand.specs.PlainView.{plain_coll_view, plain_formula_view, plain_formulas_view}
 use Rattle.rule_values.specs.Elements.{elements_view}
 use Rattle.rule_values.specs.View.{env_view, thing_view}
-use Rattle.rule_ground.specs.Answers.{behind, Appends, Gives, body_at, element_view}
-use Rattle.rule_ground.specs.Grounding.{Element, element_of, ground as grounded, alone, in_turn, add_absence, ground_element, ground_elements, ground_gone, ground_group, ground_operands, ground_optional, ground_place, ground_places, ground_whole, optional_child, shape_child}
+use Rattle.rule_ground.specs.Answers.{behind, busy, Appends, AppendsBusy, Gives, IsRow, body_at, element_view}
+use Rattle.rule_ground.specs.Grounding.{Element, element_of, ground as grounded, alone, in_turn, add_absence, ground_element, ground_elements, ground_gone, ground_group, ground_operands, ground_optional, ground_place, ground_places, ground_split, ground_whole, optional_child, shape_child}
 use Rattle.rule_ground.specs.Shapes.{shape_places}
-use Rattle.rule_ground.proofs.Behind.{then-fault, behind-init, fault-behind, alone-fault, appended, turn-stop, turn-done, turn-fault, turn-late, walk-init, walk-stop, walk-step, walk-fault, walk-end, gather-walk, gather-failed, gather-over, both_ways, free}
-use Rattle.rule_ground.proofs.Arms.{gives-made, step-gives, step-fault, operand-size, quantified-made, quantified-fault, elements-at, elements-over, place-at, places-over, appends-child, gathered, gathered-fault}
+use Rattle.rule_ground.proofs.Behind.{then-done, then-fault, behind-init, fault-behind, alone-fault, appended, turn-stop, turn-done, turn-fault, turn-late, walk-init, walk-stop, walk-step, walk-fault, walk-end, gather-walk, gather-failed, gather-over, both_ways, free}
+use Rattle.rule_ground.proofs.Arms.{gives-made, step-gives, step-fault, operand-size, elements-at, elements-over, place-at, places-over, appends-child, gathered, gathered-fault}
+use Rattle.rule_ground.proofs.Busy.{busied, busy-failed, busy-over, busy-walk}
+use Rattle.rule_ground.proofs.Quantified.{quantified-made, quantified-fault}
 use Rattle.rule_ground.proofs.Chains.{env-more, fixings-more, view-implies}
 use Rattle.linear_conditions.specs.declared.fixings.Fixings.TheVariants as chain
 use Rattle.rule_values.specs.declared.env.Env.TheVariants as envs
@@ -59,8 +61,7 @@ ground_element-returns-in-Whole t c =
     let fix = fixings_view c.args.fixings.now in
     let e : ground_element c.args.problem.now body c.args.manner fix (element_view c.args.element) c.args.counter.now ≡ alone (ground_whole body fix (thing_view c.in-Whole.thing) c.args.counter.now) =
     ap (λ x. ground_element c.args.problem.now body c.args.manner fix (element_view x) c.args.counter.now) c.in-Whole.is in
-    subst (λ u. Appends u c.args.children.now.items c.add_child.new.parts.items c.ground_whole-child.new.counter c.add_child.result) (sym e)
-    (appends-child c.args.children.now.items c.add_child.new.parts.items _ c.ground_whole-child.new.counter c.ground_whole-child.result c.add_child.result c.ground_whole-child.ensures c.add_child.ensures)
+    subst (λ u. AppendsBusy c.args.manner u c.args.children.now.items c.ground_whole.new.children.items c.ground_whole.new.counter c.ground_whole.result) (sym e) c.ground_whole.ensures
 
 pub ground_element-returns-in-Optional : goal.ground_element-returns-in-Optional
 ground_element-returns-in-Optional t c =
@@ -68,8 +69,8 @@ ground_element-returns-in-Optional t c =
     let fix = fixings_view c.args.fixings.now in
     let e : ground_element c.args.problem.now body c.args.manner fix (element_view c.args.element) c.args.counter.now ≡ alone (ground_optional c.args.problem.now body c.args.manner fix c.in-Optional.object.0 c.args.counter.now) =
     ap (λ x. ground_element c.args.problem.now body c.args.manner fix (element_view x) c.args.counter.now) c.in-Optional.is in
-    subst (λ u. Appends u c.args.children.now.items c.add_child-in-Optional.new.parts.items c.ground_optional-child.new.counter c.add_child-in-Optional.result) (sym e)
-    (appends-child c.args.children.now.items c.add_child-in-Optional.new.parts.items _ c.ground_optional-child.new.counter c.ground_optional-child.result c.add_child-in-Optional.result c.ground_optional-child.ensures c.add_child-in-Optional.ensures)
+    subst (λ u. AppendsBusy c.args.manner u c.args.children.now.items c.add_child.new.parts.items c.ground_optional-child.new.counter c.add_child.result) (sym e)
+    (busied c.args.manner c.args.children.now.items c.add_child.new.parts.items _ c.ground_optional-child.new.counter c.add_child.result (appends-child c.args.children.now.items c.add_child.new.parts.items _ c.ground_optional-child.new.counter c.ground_optional-child.result c.add_child.result c.ground_optional-child.ensures c.add_child.ensures))
 
 pub ground_element-returns-in-Gone : goal.ground_element-returns-in-Gone
 ground_element-returns-in-Gone t c =
@@ -77,15 +78,24 @@ ground_element-returns-in-Gone t c =
     let fix = fixings_view c.args.fixings.now in
     let e : ground_element c.args.problem.now body c.args.manner fix (element_view c.args.element) c.args.counter.now ≡ alone (ground_gone c.args.manner c.args.counter.now) =
     ap (λ x. ground_element c.args.problem.now body c.args.manner fix (element_view x) c.args.counter.now) c.in-Gone.is in
-    subst (λ u. Appends u c.args.children.now.items c.add_child-in-Gone.new.parts.items c.ground_gone.new.counter c.add_child-in-Gone.result) (sym e)
-    (appends-child c.args.children.now.items c.add_child-in-Gone.new.parts.items _ c.ground_gone.new.counter c.ground_gone.result c.add_child-in-Gone.result c.ground_gone.ensures c.add_child-in-Gone.ensures)
+    subst (λ u. AppendsBusy c.args.manner u c.args.children.now.items c.add_child-in-Gone.new.parts.items c.ground_gone.new.counter c.add_child-in-Gone.result) (sym e)
+    (busied c.args.manner c.args.children.now.items c.add_child-in-Gone.new.parts.items _ c.ground_gone.new.counter c.add_child-in-Gone.result (appends-child c.args.children.now.items c.add_child-in-Gone.new.parts.items _ c.ground_gone.new.counter c.ground_gone.result c.add_child-in-Gone.result c.ground_gone.ensures c.add_child-in-Gone.ensures))
+
+pub ground_element-returns-in-Split : goal.ground_element-returns-in-Split
+ground_element-returns-in-Split t c =
+    let body = body_at c.args.problem.now c.args.site.now in
+    let fix = fixings_view c.args.fixings.now in
+    let e : ground_element c.args.problem.now body c.args.manner fix (element_view c.args.element) c.args.counter.now ≡ ground_split c.args.problem.now body c.args.manner fix c.in-Split.object.0 c.args.counter.now =
+    ap (λ x. ground_element c.args.problem.now body c.args.manner fix (element_view x) c.args.counter.now) c.in-Split.is in
+    subst (λ u. AppendsBusy c.args.manner u c.args.children.now.items c.ground_split.new.children.items c.ground_split.new.counter c.ground_split.result) (sym e)
+    (busied c.args.manner c.args.children.now.items c.ground_split.new.children.items _ c.ground_split.new.counter c.ground_split.result c.ground_split.ensures)
 
 pub ground_elements-loop-i-init : goal.ground_elements-loop-i-init
-ground_elements-loop-i-init t c = walk-init c.args.problem.now true true [] [] _ c.new-children.result.items c.new-children.ensures.items
+ground_elements-loop-i-init t c = ap (busy c.args.manner) (walk-init c.args.problem.now true true [] [] _ c.new-children.result.items c.new-children.ensures.items)
 
 pub ground_elements-returns-in-Err : goal.ground_elements-returns-in-Err
 ground_elements-returns-in-Err t c =
-    gather-failed Element (ground_element c.args.problem.now (body_at c.args.problem.now c.args.site.now) c.args.manner (fixings_view c.args.fixings.now))
+    busy-failed Element c.args.manner (ground_element c.args.problem.now (body_at c.args.problem.now c.args.site.now) c.args.manner (fixings_view c.args.fixings.now))
     (ground_elements c.args.problem.now (body_at c.args.problem.now c.args.site.now) c.args.manner (fixings_view c.args.fixings.now) (map (element_of c.args.problem.now c.args.asked (fixings_view c.args.fixings.now)) (elements_view c.args.things.now)) c.args.counter.now)
     _ _ (element_view c.element_of-element.result) c.loop-i.counter c.loop-i.children.items c.in-Err.e c.loop-i.invariant
     (elements-at (element_of c.args.problem.now c.args.asked (fixings_view c.args.fixings.now)) (elements_view c.args.things.now) c.loop-i.i (thing_view c.at.result) (element_view c.element_of-element.result) (omega (arith, c.loop-i-test.true, c.len-i-end.ensures)) c.at.ensures c.element_of-element.ensures)
@@ -93,7 +103,7 @@ ground_elements-returns-in-Err t c =
 
 pub ground_elements-loop-i-preserved : goal.ground_elements-loop-i-preserved
 ground_elements-loop-i-preserved t c =
-    gather-walk Element (ground_element c.args.problem.now (body_at c.args.problem.now c.args.site.now) c.args.manner (fixings_view c.args.fixings.now))
+    busy-walk Element c.args.manner (ground_element c.args.problem.now (body_at c.args.problem.now c.args.site.now) c.args.manner (fixings_view c.args.fixings.now))
     (ground_elements c.args.problem.now (body_at c.args.problem.now c.args.site.now) c.args.manner (fixings_view c.args.fixings.now) (map (element_of c.args.problem.now c.args.asked (fixings_view c.args.fixings.now)) (elements_view c.args.things.now)) c.args.counter.now)
     _ _ (element_view c.element_of-element.result) c.loop-i.counter c.ground_element.new.counter c.loop-i.children.items c.ground_element.new.children.items c.loop-i.invariant
     (elements-at (element_of c.args.problem.now c.args.asked (fixings_view c.args.fixings.now)) (elements_view c.args.things.now) c.loop-i.i (thing_view c.at.result) (element_view c.element_of-element.result) (omega (arith, c.loop-i-test.true, c.len-i-end.ensures)) c.at.ensures c.element_of-element.ensures)
@@ -101,7 +111,7 @@ ground_elements-loop-i-preserved t c =
 
 pub ground_elements-returns : goal.ground_elements-returns
 ground_elements-returns t c =
-    gather-over Element (ground_element c.args.problem.now (body_at c.args.problem.now c.args.site.now) c.args.manner (fixings_view c.args.fixings.now))
+    busy-over Element c.args.manner (ground_element c.args.problem.now (body_at c.args.problem.now c.args.site.now) c.args.manner (fixings_view c.args.fixings.now))
     (ground_elements c.args.problem.now (body_at c.args.problem.now c.args.site.now) c.args.manner (fixings_view c.args.fixings.now) (map (element_of c.args.problem.now c.args.asked (fixings_view c.args.fixings.now)) (elements_view c.args.things.now)) c.args.counter.now)
     _ c.loop-i.counter c.loop-i.children.items c.loop-i.invariant
     (elements-over (element_of c.args.problem.now c.args.asked (fixings_view c.args.fixings.now)) (elements_view c.args.things.now) c.loop-i.i (omega (arith, c.loop-i-test.false, c.len-i-end.ensures)))
@@ -322,17 +332,29 @@ ground_split-returns-then-is_counted t c =
     (appends-child c.args.children.now.items c.add_child.new.parts.items group c.ground_group-child.new.counter c.ground_group-child.result c.add_child.result c.ground_group-child.ensures c.add_child.ensures)
 
 pub ground_whole-returns-in-Err : goal.ground_whole-returns-in-Err
-ground_whole-returns-in-Err t c = then-fault Counts CondTree (visit c.args.counter.now) _ c.in-Err.e (past-fault (visit c.args.counter.now) c.in-Err.e c.in-Err.ensures)
+ground_whole-returns-in-Err t c = alone-fault _ c.in-Err.e (then-fault Counts CondTree (visit c.args.counter.now) _ c.in-Err.e (past-fault (visit c.args.counter.now) c.in-Err.e c.in-Err.ensures))
 
 pub ground_whole-returns-in-None : goal.ground_whole-returns-in-None
 ground_whole-returns-in-None t c =
     let f = plain_formula_view c.args.site.now.formula.now in
-    step-gives (visit c.args.counter.now) _ c.visit.new.self c.ground.new.counter c.ground.result c.in_default.ensures
-    (subst (λ e. Gives (grounded c.args.problem.now f c.args.site.now.sign e (fixings_view c.args.fixings.now) c.visit.new.self) c.ground.new.counter c.ground.result) (env-more c.args.site.now.env c.args.site.now.variable c.args.thing) c.ground.ensures)
+    let g = step-gives (visit c.args.counter.now) _ c.visit.new.self c.ground-child.new.counter c.ground-child.result c.in_default.ensures
+    (subst (λ e. Gives (grounded c.args.problem.now f c.args.site.now.sign e (fixings_view c.args.fixings.now) c.visit.new.self) c.ground-child.new.counter c.ground-child.result) (env-more c.args.site.now.env c.args.site.now.variable c.args.thing) c.ground-child.ensures) in
+    busied c.args.manner c.args.children.now.items c.add_child.new.parts.items _ c.ground-child.new.counter c.add_child.result
+    (appends-child c.args.children.now.items c.add_child.new.parts.items _ c.ground-child.new.counter c.ground-child.result c.add_child.result g c.add_child.ensures)
 
 pub ground_whole-returns-in-Some : goal.ground_whole-returns-in-Some
 ground_whole-returns-in-Some t c =
+    let certain = subst (IsRow c.args.problem.now c.args.site.now (fixings_view c.args.fixings.now)) c.in-Some.is c.requires.row in
+    subst (λ o. AppendsBusy c.args.manner (alone o) c.args.children.now.items c.add_told.new.children.items c.add_told.new.counter c.add_told.result)
+    (sym (then-done Counts CondTree (visit c.args.counter.now) _ c.visit.new.self c.visit.new.self c.in_default.ensures
+    ∙ (certain (thing_view c.args.thing)).gives c.visit.new.self))
+    c.add_told.ensures
+
+pub ground_whole-returns-in-Some-told_of : goal.ground_whole-returns-in-Some-told_of
+ground_whole-returns-in-Some-told_of t c =
     let f = plain_formula_view c.args.site.now.formula.now in
-    step-gives (visit c.args.counter.now) _ c.visit.new.self c.ground_told.new.counter c.ground_told.result c.in_default.ensures
-    (subst (λ e. Gives (grounded c.args.problem.now f c.args.site.now.sign e (fixings_view c.args.fixings.now) c.visit.new.self) c.ground_told.new.counter c.ground_told.result) (env-more c.args.site.now.env c.args.site.now.variable c.args.thing)
-    (subst (λ o. Gives o c.ground_told.new.counter c.ground_told.result) (sym (c.in-Some.ensures.gives c.visit.new.self)) c.ground_told.ensures))
+    subst (λ o. AppendsBusy c.args.manner (alone o) c.args.children.now.items c.add_told-in-Some-told_of.new.children.items c.add_told-in-Some-told_of.new.counter c.add_told-in-Some-told_of.result)
+    (sym (then-done Counts CondTree (visit c.args.counter.now) _ c.visit.new.self c.visit.new.self c.in_default.ensures
+    ∙ ap (λ e. grounded c.args.problem.now f c.args.site.now.sign e (fixings_view c.args.fixings.now) c.visit.new.self) (sym (env-more c.args.site.now.env c.args.site.now.variable c.args.thing))
+    ∙ c.in-Some-told_of.ensures.gives c.visit.new.self))
+    c.add_told-in-Some-told_of.ensures

@@ -5,7 +5,7 @@ use Rattle.linear_conditions.specs.CondTree.{cond_view}
 use Rattle.linear_conditions.specs.Views.{fixings_view}
 use Rattle.rule_values.specs.Elements.{elements_view}
 use Rattle.rule_values.specs.View.{env_view}
-use Rattle.rule_ground.specs.Answers.{behind, body_at}
+use Rattle.rule_ground.specs.Answers.{behind, body_at, busy}
 use Rattle.rule_ground.specs.Grounding.{alone, element_of, gather, ground_element, ground_elements, ground_operands, ground_place, ground_places}
 use Rattle.rule_ground.specs.Shapes.{shape_places}
 use Rattle.rule_ground.proofs.formulas.+ground.Given as goal
@@ -62,8 +62,8 @@ invariant-ground_operands-loop-f l =
 
 abbrev pub invariant-ground_elements-loop-i : goal.invariant-ground_elements-loop-i
 invariant-ground_elements-loop-i l =
-    ground_elements l.problem (body_at l.problem l.site) l.manner (fixings_view l.fixings) (map (element_of l.problem l.asked (fixings_view l.fixings)) (elements_view l.things)) l.fn.counter
-    ≡ behind (map cond_view l.children.items) (gather (ground_element l.problem (body_at l.problem l.site) l.manner (fixings_view l.fixings)) (map (element_of l.problem l.asked (fixings_view l.fixings)) (drop l.i (elements_view l.things))) l.counter)
+    busy l.manner (ground_elements l.problem (body_at l.problem l.site) l.manner (fixings_view l.fixings) (map (element_of l.problem l.asked (fixings_view l.fixings)) (elements_view l.things)) l.fn.counter)
+    ≡ busy l.manner (behind (map cond_view l.children.items) (gather (ground_element l.problem (body_at l.problem l.site) l.manner (fixings_view l.fixings)) (map (element_of l.problem l.asked (fixings_view l.fixings)) (drop l.i (elements_view l.things))) l.counter))
 
 abbrev pub invariant-ground_places-loop-before : goal.invariant-ground_places-loop-before
 invariant-ground_places-loop-before l =
