@@ -3,7 +3,7 @@ use Rattle.std.proofs.Common.{◌≡◌, ◌⊎◌, ℕ, zero, suc, ◌+◌, ◌
 use borrow.Author.Tests.{le-leb, lt-leb}
 use Rattle.std.specs.Prelude.{slice_get, slice_index}
 use Rattle.std.proofs.lemmas.Bool.{cases_Bool, cases_lt, false≢true}
-use Rattle.std.proofs.lemmas.List.{length-append, get_or_append_left, get_or-append_right, get_or-replicate, length-replicate}
+use Rattle.std.proofs.lemmas.List.{length-append, append-nil, get_or_append_left, get_or-append_right, get_or-replicate, length-replicate}
 use Rattle.std.proofs.lemmas.List.{get_or_past}
 use Rattle.std.proofs.lemmas.Option.{slice_get_within}
 use Rattle.std.proofs.lemmas.List.Elements.{All-append, All-cons, All-nil, All-get_or}
@@ -37,6 +37,25 @@ apart_nothing = record {
   behind = λ k S e. absurd (none_refutes k S e);
   enough = λ S f r. f;
   fit = λ S f. (f, f);
+  bare = λ k c e b. e;
+}
+
+nones_whole : (cs : List Cond) → wholes_of (replicate (length cs) None) cs ≡ cs
+nones_whole [] = refl
+nones_whole (c ∷ cs) = ap (λ (ds : List Cond). c ∷ ds) (nones_whole cs)
+
+-- of conditions that stay whole nothing is taken apart
+pub apart_nowhere : (cs : List Cond) → IsApart cs cs [] (replicate (length cs) None) []
+apart_nowhere cs = record {
+  long = refl;
+  wide = length-replicate (length cs) None;
+  back = nones_whole cs;
+  many = refl;
+  listed = λ k h. absurd (omega (arith, h));
+  front = λ k S e. e;
+  behind = λ k S e. absurd (none_refutes k S e);
+  enough = λ S f r. f;
+  fit = λ S f. (f, All-nil (λ c. FitsIn c S));
   bare = λ k c e b. e;
 }
 
@@ -269,3 +288,15 @@ module _ (cs fronts rest : List Cond) (ws : List (Option Cond)) (r : Renumbering
           | inr g ↦ absurd (omega (arith, there, g.0, a.long))
         ];
   }
+
+-- ---- a list of which nothing is taken apart
+
+module _ (cs : List Cond) (r : Renumbering) (same : r.same ≡ length cs) (none : r.others.items ≡ []) where
+  nothing_apart : IsApart cs cs [] (replicate (length cs) None) r.others.items
+  nothing_apart = subst (λ (ns : List ℕ). IsApart cs cs [] (replicate (length cs) None) ns) (sym none) (apart_nowhere cs)
+
+  pub whole_all : IsTakenApart cs cs r
+  whole_all = subst (λ (ps : List Cond). IsTakenApart cs ps r) (append-nil cs) (apart_all cs cs [] (replicate (length cs) None) r nothing_apart same)
+
+pub whole_back : (cs : List Cond) (ws : List (Option Cond)) (n : ℕ) → ws ≡ replicate n None → n ≡ length cs → wholes_of ws cs ≡ cs
+whole_back cs ws n e same = ap (λ (vs : List (Option Cond)). wholes_of vs cs) (e ∙ ap (λ (m : ℕ). replicate m None) same) ∙ nones_whole cs

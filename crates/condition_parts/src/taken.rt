@@ -170,6 +170,64 @@ fn made_of<const K: usize>(
     Ok(made)
 }
 
+// Whether the condition is to be taken apart: it has several parts, or one that two boxes meet.
+fn is_to_take<const K: usize>(alloc: Global, x: &AnyIndexical<K>) -> Result<bool, AllocError> {
+    match parts_to_take(alloc, x)? {
+        Some(parts) => {
+            let Parts { first, others } = parts;
+            let first: AnyIndexical<K> = AnyIndexical::from_cond(first);
+            Ok(!others.is_empty() || first.has_boxes())
+        }
+        None => Ok(false),
+    }
+}
+
+// Whether none of the conditions is to be taken apart.
+fn stay_whole<const K: usize>(alloc: Global, list: &[AnyIndexical<K>]) -> Result<bool, AllocError> {
+    for x in list {
+        if is_to_take(alloc, x)? {
+            return Ok(false);
+        }
+    }
+    Ok(true)
+}
+
+// That many conditions of which none was taken apart.
+fn no_wholes(alloc: Global, count: usize) -> Result<Vec<Option<Cond>>, AllocError>
+    ensures { IfOk result (λ v. v.items ≡ replicate count None) }
+{
+    let mut wholes = Vec::with_capacity(alloc, count)?;
+    for _ in 0..count {
+        wholes.push(None)?;
+    }
+    Ok(wholes)
+}
+
+// The list as it is, with nothing taken apart.
+fn left_whole<const K: usize>(
+    alloc: Global,
+    list: Vec<AnyIndexical<K>>,
+) -> Result<TakenApart<K>, AllocError>
+    requires { length list.items ≤ 1000000000 }
+    ensures apart { IfOk result (λ t. IsTakenApart (map (λ x. x.cond) list.entry.items)
+        (map (λ x. x.cond) t.list.items) t.numbers) }
+    ensures back { IfOk result (λ t. wholes_of t.wholes.items (map (λ x. x.cond) t.list.items)
+        ≡ map (λ x. x.cond) list.entry.items) }
+    ensures few { IfOk result (λ t. length t.list.items ≤ 1000000000) }
+{
+    let count = list.len();
+    let wholes = no_wholes(alloc, count)?;
+    let numbers = Renumbering {
+        same: count as u32,
+        others: Vec::new(alloc),
+    };
+    Ok(TakenApart {
+        list,
+        wholes,
+        numbers,
+    })
+}
+
 /// Takes conditions apart that ask for several things at once: an object has another shape than some, or else all of some things
 /// hold. Each part keeps the number of its condition in the record. A condition with parts that are more than literals stays whole.
 pub fn take_apart<const K: usize>(
@@ -183,6 +241,9 @@ pub fn take_apart<const K: usize>(
         ≡ map (λ x. x.cond) list.entry.items) }
     ensures few { IfOk result (λ t. length t.list.items ≤ 1000000000) }
 {
+    if stay_whole(alloc, &list)? {
+        return left_whole(alloc, list);
+    }
     let count = list.len();
     let Made {
         fronts,
