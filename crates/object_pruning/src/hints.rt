@@ -56,7 +56,7 @@ fn hint_of_place<const K: usize, I: Indexical<K>>(
     ensures { IfSome result (λ q. (q.place ≡ place)
         × CanBe (picked (map I.cond list.now) picks.now) s.now o.0 q.place q.point.coordinates) }
 {
-    let q = kept_in(hints, place_slot(place))?;
+    let q = kept_in(hints, place_slot::<K>(place))?;
     if q.place == place && can_be(s, o, &q, list, picks, rows) {
         Some(q)
     } else {
@@ -121,7 +121,7 @@ pub fn knows_place<const K: usize, I: Indexical<K>>(
     }
     match hint_of_place(s, o, place, list, picks, rows, hints) {
         Some(q) => {
-            keep(kept, place_slot(place), &q);
+            keep(kept, place_slot::<K>(place), &q);
             true
         }
         None => false,

@@ -20,8 +20,8 @@ pub struct Placed<const K: usize> {
     pub point: Point<K>,
 }
 
-/// How many supports are kept of an object: one for each place, and one for each end of each
-/// interval.
+/// How many supports are kept of an object at most: one for each end of each interval, and behind
+/// them one for each place. There may be fewer slots, and then none for the last places.
 pub fn slots<const K: usize>() -> usize
     requires { K ≤ MAX_DIMS }
     ensures { result ≡ 16 + 2 * K }
@@ -30,18 +30,19 @@ pub fn slots<const K: usize>() -> usize
 }
 
 /// The slot of a place.
-pub fn place_slot(place: u8) -> usize
-    ensures { result ≡ place - 1 }
+pub fn place_slot<const K: usize>(place: u8) -> usize
+    requires { K ≤ MAX_DIMS }
+    ensures { result ≡ 2 * K + (place - 1) }
 {
-    usize::from(place).saturating_sub(1)
+    2 * K + usize::from(place).saturating_sub(1)
 }
 
 /// The slot of an end of an interval: of the low end, where it is upwards.
 pub fn end_slot(d: usize, up: bool) -> usize
     requires { d < MAX_DIMS }
-    ensures { result ≡ 16 + 2 * d + (if up then 0 else 1) }
+    ensures { result ≡ 2 * d + (if up then 0 else 1) }
 {
-    if up { 16 + 2 * d } else { 17 + 2 * d }
+    if up { 2 * d } else { 2 * d + 1 }
 }
 
 /// Keeps the support in a slot, where there is one.
@@ -196,7 +197,7 @@ pub fn place_stands<const K: usize>(
     ensures { IsTrue result → (cs : List Cond) → AllSupport cs s.now o.0 kept.now
         → (p : List ℤ) × CanBe cs s.now o.0 place p }
 {
-    match kept_at(s, o, kept, place_slot(place)) {
+    match kept_at(s, o, kept, place_slot::<K>(place)) {
         Some(q) => q.place == place,
         None => false,
     }
@@ -261,7 +262,8 @@ pub fn end_stands<const K: usize>(
     if is_kept_there(s, o, d, there, kept, end_slot(d, up)) {
         return true;
     }
-    for slot in 0..kept.len() {
+    for before in 0..kept.len() {
+        let slot = kept.len() - 1 - before;
         if is_kept_there(s, o, d, there, kept, slot) {
             return true;
         }

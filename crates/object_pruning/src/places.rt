@@ -33,6 +33,10 @@ pub fn last_place<const K: usize>(s: &State<K>, o: ObjId) -> u8
     ensures last { (place : ℕ) → has s.now o.0 place ≡ true → place ≤ result }
 {
     let places = s.places(o);
+    let sole = s.sole_place(o);
+    if sole != 0 {
+        return sole;
+    }
     let mut last = 0u8;
     for before in 0..16u8 {
         if places.has(before + 1) {
@@ -121,7 +125,12 @@ fn has_point<const K: usize, I: Indexical<K>, R: Recorder>(
     }
     match sought_point(s, o, place, list, picks, rows, rec)? {
         Some(point) => {
-            keep_found(kept, hints, place_slot(place), &Placed { place, point });
+            keep_found(
+                kept,
+                hints,
+                place_slot::<K>(place),
+                &Placed { place, point },
+            );
             Ok(true)
         }
         None => Ok(false),

@@ -9,5 +9,5 @@ returns-then-is_kept_there g c = λ t cs all.
 
 pub returns-then-is_kept_there-2 : goal.returns-then-is_kept_there-2
 returns-then-is_kept_there-2 g c = λ t cs all.
-    let w = c.is_kept_there-in-loop-slot.ensures c.if-is_kept_there-2.true cs all in
+    let w = c.is_kept_there-in-loop-before.ensures c.if-is_kept_there-2.true cs all in
     (w.0, w.1, w.2, w.3 ∙ kept64 c.end_of-there.result c.end_of-there.type_inv ∙ c.end_of-there.ensures)
