@@ -1,6 +1,6 @@
 //! Points that are kept of the objects, and asked again where something changed.
 
-ghost use Rattle.std.specs.Prelude.{◌≡◌, ◌≢◌, ℕ, ◌+◌, ◌-◌, ◌<◌, ◌≤◌, Bool, true, false, List, None, Some, length, map, slice_get, slice_index_or, IfOk, IsTrue, MatchOption};
+ghost use Rattle.std.specs.Prelude.{◌≡◌, ◌≢◌, ℕ, ◌+◌, ◌-◌, ◌*◌, ◌<◌, ◌≤◌, Bool, true, false, List, None, Some, length, map, slice_get, slice_index_or, IfOk, IsTrue, MatchOption};
 ghost use Rattle.std.specs.List.{All, list_any};
 ghost use Rattle.geo_conditions.specs.declared.cond.Cond.{Cond};
 ghost use Rattle.geo_conditions.specs.Conditions.{AllFit};
@@ -21,36 +21,59 @@ use crate::links::Links;
 use crate::marks::Marks;
 use crate::pairs::{Pairs, RowGroup};
 use geo_base::MAX_DIMS;
-use geo_conditions::{ObjId, State};
+use geo_conditions::{MAX_SHAPES, ObjId, State};
 use indexical::{AnyIndexical, SoleTerm};
-use object_pruning::{Group, Placed, are_possible, is_same_point, retry, slots};
+use object_pruning::{Group, Placed, Rows, are_possible, is_same_point, retry, slots};
 use std::alloc::{AllocError, Global};
 use watches::Watches;
 
-/// The slots of an object, with nothing kept. The answer is an error where memory is short.
-pub fn blank_slots<const K: usize>(alloc: Global) -> Result<Vec<Option<Placed<K>>>, AllocError>
+// The last place that a condition asks for; the first one where none does.
+fn last_asked(rows: &Rows) -> usize
+    ensures { (1 ≤ result) × (result ≤ MAX_SHAPES) }
+{
+    let mut last = 1;
+    for before in 1..MAX_SHAPES {
+        if !rows.row(before + 1).is_empty() {
+            last = before + 1;
+        }
+    }
+    last
+}
+
+// How many slots an object has: as far as that place, since those of the places come last.
+fn slots_asked<const K: usize>(rows: &Rows) -> usize
     requires { K ≤ MAX_DIMS }
+    ensures { 2 * K < result }
+{
+    slots::<K>() - MAX_SHAPES + last_asked(rows)
+}
+
+/// That many slots, with nothing kept. The answer is an error where memory is short.
+pub fn blank_slots<const K: usize>(
+    alloc: Global,
+    count: usize,
+) -> Result<Vec<Option<Placed<K>>>, AllocError>
     ensures { IfOk result (λ v. (i : ℕ) → slice_index_or v.items i None ≡ None) }
 {
     let mut blank = Vec::new(alloc);
-    for _ in 0..slots::<K>() {
+    for _ in 0..count {
         blank.push(None)?;
     }
     Ok(blank)
 }
 
-/// The slots of that number of objects, with nothing kept. The answer is an error where memory is
-/// short.
+/// The slots of each object, with nothing kept. The answer is an error where memory is short.
 pub fn all_blank<const K: usize>(
     alloc: Global,
-    objects: usize,
+    rows: &[Rows],
 ) -> Result<Vec<Vec<Option<Placed<K>>>>, AllocError>
     requires { K ≤ MAX_DIMS }
-    ensures { IfOk result (λ v. (length v.items ≡ objects) × IsBlank v.items) }
+    ensures { IfOk result (λ v. (length v.items ≡ length rows.now) × IsBlank v.items) }
 {
     let mut kept = Vec::new(alloc);
-    for _ in 0..objects {
-        kept.push(blank_slots(alloc)?)?;
+    for o in 0..rows.len() {
+        let count = slots_asked::<K>(&rows[o]);
+        kept.push(blank_slots(alloc, count)?)?;
     }
     Ok(kept)
 }

@@ -31,7 +31,7 @@ use geo_base::{KBox, MAX_DIMS, Point};
 use geo_conditions::{MAX_OBJECTS, ObjId, State};
 use geo_state::{Propagate, Settled, Trailed};
 use indexical::AnyIndexical;
-use object_pruning::{Placed, Pruned, prune_kept};
+use object_pruning::{Placed, Pruned, prune_kept, slots};
 use std::alloc::{AllocError, Global};
 use watches::Watches;
 
@@ -321,8 +321,8 @@ impl<const K: usize> QueueFixpoint<K> {
         let queued = Vec::from_elem(alloc, true, objects)?;
         let dirty = no_marks(alloc, objects)?;
         let watches = Watches::start(alloc, list.len(), objects)?;
-        let kept = all_blank(alloc, objects)?;
-        let hints = blank_slots(alloc)?;
+        let kept = all_blank(alloc, &links.rows)?;
+        let hints = blank_slots(alloc, slots::<K>())?;
         Ok(QueueFixpoint {
             list,
             links,

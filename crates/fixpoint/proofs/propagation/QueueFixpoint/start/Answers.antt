@@ -20,11 +20,12 @@ invariant_of-result g c =
     let all : q.items ≡ replicate n true = c.in_ok-queued.ensures.items_if_clones_equal (λ y k. search rules) in
     let long : length q.items ≡ n = omega (arith, c.in_ok-queued.ensures.len, q.ok.0) in
     let linked : AreLinks cs (length q.items) l = subst (λ (m : ℕ). AreLinks cs m l) (sym long) (subst (λ (xs : List (AnyIndexical g.row.K)). AreLinks (map f xs) n l) c.deref.ensures.value c.in_ok-links.ensures) in
+    let rows_long = c.in_ok-links.ensures.rows.objects in
     let fine : RestFine cs last q.items = λ o h e. absurd (false≢true (sym e ∙ ap (λ (b : List Bool). get_or b o false) all ∙ get_or-replicate n o true false (omega (arith, h, c.in_ok-last.ensures)))) in
     record {
       dims = c.requires.k;
       linked = ∣ linked ∣₁;
-      objects = (c.in_ok-last.ensures ∙ sym long, c.in_ok-kept.ensures.0 ∙ sym long);
+      objects = (c.in_ok-last.ensures ∙ sym long, c.in_ok-kept.ensures.0 ∙ ap length c.deref-2.ensures.value ∙ rows_long ∙ sym long);
       fine = ∣ fine ∣₁;
       square = subst (λ (m : ℕ). IsSquare m c.in_ok-dirty.dirty.items) (sym long) c.in_ok-dirty.ensures;
       watching = c.in_ok-watches.ensures cs last (omega (arith, length-map c.args.list.items f, c.len.ensures, c.args.list.ok.0)) c.in_ok-last.ensures;
