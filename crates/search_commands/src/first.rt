@@ -15,6 +15,7 @@ use command_reply::{Accepted, Deciding, TextReply, refuse, take_problem};
 use geo_chan::Source;
 use layout_search::{Outcome, Searched, search_first};
 use std::alloc::{AllocError, Global};
+use std::mem::forget;
 
 /// The command `first`.
 #[derive(Clone, Copy)]
@@ -58,6 +59,8 @@ fn first_of(alloc: Global, accepted: Accepted, most: u64) -> Result<SearchReply,
     match outcome {
         Outcome::Found(layout) => {
             let block = headed(alloc, &problem, &[], &layout, Status::Answered)?;
+            // The program ends with its reply, so the conditions are not given back one by one.
+            forget(conditions);
             Ok(SearchReply::Text(block))
         }
         Outcome::Nothing(log) => {
