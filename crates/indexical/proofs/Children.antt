@@ -81,6 +81,19 @@ refuted_at_least n children T h = at_least_is n children T ∙ grind (arith, int
 pub possible_at_least : (n : ℤ) (children : Conds) (T : State) → n ≤ℤ pos (many_possible T children.items.items) → possible (AtLeast n children) T ≡ true
 possible_at_least n children T h = at_least_is n children T ∙ grind (arith, ints)
 
+-- one that is possible counts
+pub one_enough : (T : State) (xs : List Cond) (i : ℕ) (x : Cond) → i < length xs → possible (get_or xs i x) T ≡ true → 1 ≤ many_possible T xs
+one_enough T [] i x h e = absurd (omega arith)
+one_enough T (y ∷ xs) zero x h e = let c = counted_true (possible y T) e in omega (arith, c)
+one_enough T (y ∷ xs) (suc i) x h e = let r = one_enough T xs i x (omega arith) e in omega (arith, r)
+
+-- where one is enough, one does
+pub possible_by_one : (c : Cond) (n : ℤ) (children : Conds) (xs : List Cond) (T : State) (i : ℕ) (x : Cond) → c ≡ AtLeast n children → xs ≡ children.items.items → n ≤ℤ pos 1 → i < length xs → x ≡ get_or xs i x → possible x T ≡ true → possible c T ≡ true
+possible_by_one c n children xs T i x is same one h e p =
+    let enough : 1 ≤ many_possible T xs = one_enough T xs i x h (subst (λ (y : Cond). possible y T ≡ true) e p) in
+    let most : n ≤ℤ pos (many_possible T xs) = grind (arith, ints) in
+    subst (λ (k : Cond). possible k T ≡ true) (sym is) (possible_at_least n children T (subst (λ (ys : List Cond). n ≤ℤ pos (many_possible T ys)) same most))
+
 pub few_of_refuted : (n : ℤ) (children : Conds) (T : State) → IsRefuted (AtLeast n children) T → pos (many_possible T children.items.items) <ℤ n
 few_of_refuted n children T r =
     let e : le_z n (pos (many_possible T children.items.items)) ≡ false = sym (at_least_is n children T) ∙ r in

@@ -17,3 +17,4 @@ pub mod ShapeLiterals
 pub mod NearBoxes
 pub mod SoleTerms
 pub mod NextNamed
+pub mod MarkedNames

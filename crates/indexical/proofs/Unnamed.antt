@@ -76,6 +76,9 @@ spare_enough c n children xs S o s i sparing is same enough f p =
     subst (λ (x : Cond). possible x T ≡ true) (sym is) (possible_at_least n children T (omega (arith, ints, least, many, few, enough)))
 
 -- where one is enough, one does
+pub spare_there_by_one : (c : Cond) (n : ℤ) (children : Conds) (xs : List Cond) (S : State) (o s i : ℕ) (x : Cond) → c ≡ AtLeast n children → xs ≡ children.items.items → n ≤ℤ pos 1 → i < length xs → x ≡ get_or xs i x → Spares x S o s → Spares c S o s
+spare_there_by_one c n children xs S o s i x is same one h e spares =
+    spare_enough c n children xs S o s (i + 1) 1 is same one (spare_more xs S o s i 0 x h (λ p. omega arith) (subst (λ (y : Cond). Spares y S o s) e spares))
+
 pub spare_by_one : (c : Cond) (n : ℤ) (children : Conds) (xs : List Cond) (S : State) (o i : ℕ) (x : Cond) → c ≡ AtLeast n children → xs ≡ children.items.items → n ≤ℤ pos 1 → i < length xs → x ≡ get_or xs i x → SparesAnywhere x S o → SparesAnywhere c S o
-spare_by_one c n children xs S o i x is same one h e spares s =
-    spare_enough c n children xs S o s (i + 1) 1 is same one (spare_more xs S o s i 0 x h (λ p. omega arith) (subst (λ (y : Cond). Spares y S o s) e (spares s)))
+spare_by_one c n children xs S o i x is same one h e spares s = spare_there_by_one c n children xs S o s i x is same one h e (spares s)

@@ -1,5 +1,5 @@
 -- The objects that a condition names.
-use Rattle.std.specs.Prelude.{◌≡◌, ◌==◌, ◌||◌, ℕ, ◌<◌, ◌≤◌, Bool, true, false, Option, None, Some}
+use Rattle.std.specs.Prelude.{◌≡◌, ◌==◌, ◌||◌, ℕ, ◌<◌, ◌≤◌, Bool, true, false, List, length, slice_index_or, Option, None, Some}
 use Rattle.std.specs.List.{list_any}
 use Rattle.geo_conditions.specs.declared.object.ObjId.{ObjId}
 use Rattle.geo_conditions.specs.declared.cond.Cond.{Cond, Lin, Shape, NotShape, AtLeast', Row_of-Cond, end_of-Cond, more_of-Cond}
@@ -35,3 +35,8 @@ IsFirst test from (Some u) = (from ≤ u.0) × (test u.0 ≡ true) × MeetNone t
 abbrev pub IsFirstBefore : (ℕ → Bool) → ℕ → ℕ → Option ObjId → Type 0
 IsFirstBefore test from end None = MeetNone test from end
 IsFirstBefore test from end (Some u) = (u.0 < end) × (from ≤ u.0) × (test u.0 ≡ true) × MeetNone test from u.0
+
+-- the marks of the objects that meet the test are set, and the others stay
+pub record MarksThose (test : ℕ → Bool) (old new : List Bool) : Type 0 where
+  pub same : length new ≡ length old
+  pub each : (o : ℕ) → o < length old → slice_index_or new o false ≡ (test o || slice_index_or old o false)

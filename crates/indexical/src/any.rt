@@ -12,7 +12,7 @@ ghost use Rattle.indexical.specs.Bound.{SaysBound};
 ghost use Rattle.indexical.specs.Faces.{Faces};
 ghost use Rattle.indexical.specs.Forbidden.{Forbids, IsForbiddenBox};
 ghost use Rattle.indexical.specs.Free.{LeavesFree, SparesAnywhere};
-ghost use Rattle.indexical.specs.Names.{IsFirstBefore, names};
+ghost use Rattle.indexical.specs.Names.{IsFirstBefore, MarksThose, names};
 ghost use Rattle.indexical.specs.Nearness.{IsRefutedNear};
 
 use crate::apart::ApartIndexical;
@@ -21,16 +21,18 @@ use crate::facing::{Facing, facing_of_tree};
 use crate::first_named::first_in_tree;
 use crate::forbidden::{ForbiddenPart, box_with, exactly};
 use crate::indexical::Indexical;
+use crate::named_marks::mark_tree;
 use crate::nearness::Nearness;
 use crate::point::tree_possible_at;
 use crate::single_bound::bound_of;
 use crate::spared::is_named;
 use crate::tree::{forbid_tree, tree_part};
 use crate::two_boxes::two_boxes;
-use crate::unspared::unspared_object;
+use crate::unspared::{has_many_parts, unspared_object};
 use crate::watched::{Watched, tree_spares_watched};
 use geo_base::{KBox, MAX_DIMS, Point, Steps, Way};
 use geo_conditions::{Cond, MAX_OBJECTS, ObjId, State, refuted};
+use std::cell::Cell;
 use std::sync::ledger::Ledger;
 
 /// A condition of any kind. One that says that two boxes do not overlap is met by its boxes, one on a single coordinate of an
@@ -41,6 +43,8 @@ pub struct AnyIndexical<const K: usize> {
     bound: Option<BoundIndexical<K>>,
     // an object that the condition spares on no state, as far as one was found
     unspared: Option<ObjId>,
+    // the index of a part that spared an object last, which is asked before it is trusted
+    spared_by: Cell<u16>,
     ghost bounds: { ForSome bound (λ x. SaysBound x cond) },
     ghost says: { ForSome boxes (λ x. SaysApart x.first x.second x.short cond) },
 }
@@ -53,6 +57,7 @@ impl<const K: usize> Drop for AnyIndexical<K> {
             boxes: _boxes,
             bound: _bound,
             unspared: _unspared,
+            spared_by: _spared_by,
         } = self;
     }
 }
@@ -62,14 +67,15 @@ impl<const K: usize> AnyIndexical<K> {
     pub fn from_cond(c: Cond) -> AnyIndexical<K>
         ensures { result.cond ≡ c }
     {
-        let boxes = two_boxes(&c);
-        let bound = bound_of(&c);
-        let unspared = unspared_object(&c);
-        AnyIndexical {
-            cond: c,
-            boxes,
-            bound,
-            unspared,
+        match two_boxes(&c) {
+            Some(boxes) => AnyIndexical {
+                cond: c,
+                boxes: Some(boxes),
+                bound: None,
+                unspared: None,
+                spared_by: Cell::new(0),
+            },
+            None => single_of(c),
         }
     }
 
@@ -89,6 +95,7 @@ impl<const K: usize> AnyIndexical<K> {
             boxes: _boxes,
             bound: _bound,
             unspared: _unspared,
+            spared_by: _spared_by,
         } = self;
         cond
     }
@@ -126,6 +133,18 @@ impl<const K: usize> AnyIndexical<K> {
             }
             None => first_single(self, from, end),
         }
+    }
+
+    /// Whether the condition has many parts, so that it takes less to mark all objects that it names than to find one after another.
+    pub fn has_many_parts(&self) -> bool {
+        !self.has_boxes() && has_many_parts(&self.cond)
+    }
+
+    /// Marks the objects that the condition names, as far as there are marks for them.
+    pub fn mark_named(&self, marks: &mut [bool])
+        ensures { MarksThose (λ o. names o self.now.cond) marks.old marks.new }
+    {
+        mark_tree(&self.cond, marks);
     }
 
     /// Whether the object u, as the state has it, surely leaves the others free: the condition is
@@ -183,6 +202,21 @@ impl<const K: usize> AnyIndexical<K> {
         ensures { result ≡ not (possible self.now.cond s.now) }
     {
         refuted(&self.cond, s)
+    }
+}
+
+/// The indexical of a condition that is not met by two boxes.
+fn single_of<const K: usize>(c: Cond) -> AnyIndexical<K>
+    ensures { result.cond ≡ c }
+{
+    let bound = bound_of(&c);
+    let unspared = unspared_object(&c);
+    AnyIndexical {
+        cond: c,
+        boxes: None,
+        bound,
+        unspared,
+        spared_by: Cell::new(0),
     }
 }
 
@@ -319,7 +353,7 @@ fn single_part<const K: usize>(
     match bound_on(x, o) {
         Some(bound) => exactly(bound.broken_part(place, region)),
         None if is_unspared(x, o) => ForbiddenPart::Unknown,
-        None => tree_part(&x.cond, s, o, place, region),
+        None => tree_part(&x.cond, s, o, place, region, &x.spared_by),
     }
 }
 

@@ -11,11 +11,13 @@ ghost use Rattle.indexical.specs.Forbidden.{Forbids, IsForbiddenBox};
 use crate::cut::{cut_form, form_part};
 use crate::forbidden::ForbiddenPart;
 use crate::indexical::Indexical;
+use crate::late::is_found_possible;
 use crate::point::tree_possible_at;
 use crate::shape_literals::shape_refuted;
-use crate::spared::tree_spares;
+use crate::spared_by::tree_spares_by;
 use geo_base::{KBox, MAX_DIMS, Point, Steps, Way};
 use geo_conditions::{Cond, Conds, ObjId, State};
+use std::cell::Cell;
 use std::sync::ledger::Ledger;
 
 /// A condition as the tree that it is.
@@ -211,7 +213,7 @@ fn cut_tree<const K: usize>(
     }
 }
 
-/// The forbidden box of a condition.
+/// The forbidden box of a condition. Where one of its last parts shows that it is possible, nothing is cut.
 pub fn forbid_tree<const K: usize>(
     cond: &Cond,
     s: &State<K>,
@@ -229,6 +231,9 @@ pub fn forbid_tree<const K: usize>(
         (λ b. IsForbiddenBox K cond.now s.now o.0 place c.now.coordinates
         (region_of region.now) (region_of b)) }
 {
+    if is_found_possible(cond, s, o, place, &KBox::new(*c, *c)) {
+        return None;
+    }
     let mut b = *region;
     if cut_tree(cond, s, o, place, c, way, &mut b) {
         Some(b)
@@ -237,13 +242,15 @@ pub fn forbid_tree<const K: usize>(
     }
 }
 
-/// What a condition forbids of the region with the object at that place: nothing where it surely spares it there.
+/// What a condition forbids of the region with the object at that place: nothing where it surely spares it there. The part that spared
+/// an object last is asked first.
 pub fn tree_part<const K: usize>(
     cond: &Cond,
     s: &State<K>,
     o: ObjId,
     place: u8,
     region: &KBox<K>,
+    last: &Cell<u16>,
 ) -> ForbiddenPart<K>
     requires k { K ≤ MAX_DIMS }
     requires fits { FitsIn cond.now s.now }
@@ -252,7 +259,7 @@ pub fn tree_part<const K: usize>(
 {
     match cond {
         Cond::Lin(f) => form_part(f, s, o, place, region),
-        _ if tree_spares(cond, s, o, place) => ForbiddenPart::Nothing,
+        _ if tree_spares_by(cond, s, o, place, last) => ForbiddenPart::Nothing,
         _ => ForbiddenPart::Unknown,
     }
 }
@@ -285,6 +292,6 @@ impl<const K: usize> Indexical<K> for TreeIndexical {
         place: u8,
         region: &KBox<K>,
     ) -> ForbiddenPart<K> {
-        tree_part(&self.cond, s, o, place, region)
+        tree_part(&self.cond, s, o, place, region, &Cell::new(0))
     }
 }

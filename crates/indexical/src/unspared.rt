@@ -6,7 +6,7 @@ use crate::watched::may_spare;
 use geo_conditions::{Cond, ObjId};
 
 /// Whether many parts have to be looked at.
-fn has_many_parts(c: &Cond) -> bool {
+pub fn has_many_parts(c: &Cond) -> bool {
     match c {
         Cond::AtLeast(_, children) => {
             if children.len() >= MANY_PARTS {

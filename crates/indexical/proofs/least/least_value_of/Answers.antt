@@ -5,7 +5,7 @@ use Rattle.std.proofs.lemmas.Int.{ints}
 use Rattle.std.proofs.lemmas.List.{drop_all}
 use Rattle.geo_base.specs.declared.TheConstants.{MAX_DIMS}
 use Rattle.geo_conditions.specs.declared.object.TheConstants.{MAX_OBJECTS}
-use Rattle.geo_conditions.specs.Conditions.{least_term, least_value, sum_of}
+use Rattle.geo_conditions.specs.Conditions.{least_term, sum_of}
 use Rattle.geo_conditions.proofs.Few.{few_terms}
 use Rattle.indexical.proofs.SoleTerms.{sum_within}
 use Rattle.geo_conditions.proofs.Products.{step_value, step_bound, step_fits}

@@ -1,0 +1,6 @@
+use Rattle.std.specs.List.{All}
+use Rattle.geo_conditions.specs.Conditions.{FitsIn}
+use Rattle.indexical.proofs.late.+is_found_possible.Given as goal
+
+abbrev pub invariant-loop-child : goal.invariant-loop-child
+invariant-loop-child g l = All (λ x. FitsIn x l.s) l.child-items
