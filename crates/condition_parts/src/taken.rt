@@ -185,7 +185,8 @@ fn is_to_take<const K: usize>(alloc: Global, x: &AnyIndexical<K>) -> Result<bool
 // Whether none of the conditions is to be taken apart.
 fn stay_whole<const K: usize>(alloc: Global, list: &[AnyIndexical<K>]) -> Result<bool, AllocError> {
     for x in list {
-        if is_to_take(alloc, x)? {
+        // Most of them are met by two boxes as they are.
+        if !x.has_boxes() && is_to_take(alloc, x)? {
             return Ok(false);
         }
     }
