@@ -1,5 +1,5 @@
 -- What a form of a list comes to with an object at a point.
-use Rattle.std.proofs.Common.{◌≡◌, ◌<◌, ℕ, List, length, get_or, Option, None, Some, ap, ◌∙◌, ℤ, pos}
+use Rattle.std.proofs.Common.{◌≡◌, ℕ, List, get_or, Option, None, Some, ap, ◌∙◌, ℤ, pos}
 use Rattle.std.specs.Prelude.{IfSome}
 use lib.Signed.{le_z}
 use Rattle.geo_conditions.specs.declared.cond.Cond.{Cond, Lin}

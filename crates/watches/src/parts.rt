@@ -51,11 +51,11 @@ fn child_at(c: &Cond, k: usize) -> &Cond
     }
 }
 
-// The k-th part of which one is enough, round and round.
+// The k-th part of which one is enough; the condition itself where there is none.
 fn part_at(c: &Cond, k: usize) -> &Cond
     ensures { IsPart result.now c.now }
 {
-    let mut left = k % width(c);
+    let mut left = k;
     match c {
         Cond::AtLeast(n, children) if *n <= 1 && children.len() < MANY_PARTS => {
             let parts = children.as_slice();

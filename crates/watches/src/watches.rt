@@ -114,12 +114,12 @@ impl Look {
         }
     }
 
-    // Nothing was found for o in many parts. The first such object stays.
+    // Nothing was found for o in many parts. The last such object stays.
     fn failed_for(&self, o: ObjId) -> Look {
         Look {
             part: self.part,
             misses: self.misses,
-            failed: self.failed.or(Some(o)),
+            failed: Some(o),
             has_found: self.has_found,
         }
     }
@@ -302,18 +302,20 @@ impl Watches {
         self.put(at, x);
     }
 
-    // Looks at a part of the i-th condition for objects other than o on which it rests, and watches
-    // them. The answer is whether there are such.
+    // Looks at a part of the i-th condition, which has so many, for objects other than o on which it rests, and watches them. The
+    // answer is whether there are such.
     fn look<const K: usize>(
         &mut self,
         list: &[AnyIndexical<K>],
         i: usize,
+        parts: usize,
         s: &State<K>,
         o: ObjId,
     ) -> bool
         requires k { K ≤ MAX_DIMS }
         requires fits { AllFit (map (λ x. x.cond) list.now) s.now }
         requires condition { i < length list.now }
+        requires parts { 0 < parts }
         requires hold { Hold (map (λ x. x.cond) list.now) s.now self.old }
         ensures spares { IsTrue result → (c : Cond)
             → SparesAnywhere (slice_index_or (map (λ x. x.cond) list.now) i c) s.now o.0 }
@@ -321,7 +323,7 @@ impl Watches {
     {
         let k = i % self.looks.len();
         let look = self.looks[k];
-        match rests_by(list[i].cond(), usize::from(look.part), s, o) {
+        match rests_by(list[i].cond(), usize::from(look.part) % parts, s, o) {
             Some(pair) => {
                 self.note(k, look.hit());
                 self.watch(i, pair);
@@ -356,7 +358,7 @@ impl Watches {
         }
         let parts = width(list[i].cond());
         for _ in 0..parts.min(MOST_LOOKS) {
-            if self.look(list, i, s, o) {
+            if self.look(list, i, parts, s, o) {
                 return true;
             }
         }
