@@ -41,6 +41,11 @@ pub record NamedBy (c : Cond) (n : ℕ) (list : List ObjId) : Type 0 where
   pub below : All (λ u. u.0 < n) list
   pub each : (o : ℕ) → o < n → is_among o list ≡ names o c
 
+-- of n objects, those are marked that the condition names
+pub record AreMarked (c : Cond) (n : ℕ) (marks : List Bool) : Type 0 where
+  pub objects : length marks ≡ n
+  pub each : (o : ℕ) → o < n → slice_index_or marks o false ≡ names o c
+
 -- the rows of the object o by picks of conditions
 abbrev pub AreSomeRows : List Cond → ℕ → Rows → Type 0
 AreSomeRows cs o rows = (picks : List ℕ) × ArePicks (length cs) picks × AreRows cs o picks rows

@@ -142,6 +142,7 @@ fn is_any_marked(list: &[ObjId], marks: &[bool]) -> bool
 }
 
 // Asks the i-th condition again at what is kept of the object, if it names a marked one.
+#[inline(never)]
 fn retry_marked<const K: usize>(
     list: &[AnyIndexical<K>],
     i: usize,
@@ -171,6 +172,7 @@ fn retry_marked<const K: usize>(
 
 // Asks the condition of that number again, if it names a marked object. One that rests on two
 // others, which did not change since that was found, is not asked.
+#[inline(always)]
 fn retry_number<const K: usize>(
     list: &[AnyIndexical<K>],
     links: &Links,

@@ -1,8 +1,9 @@
 //! Which objects the conditions name, and which conditions name an object.
 
-ghost use Rattle.std.specs.Prelude.{◌≡◌, ℕ, ◌<◌, ◌≤◌, [], length, map, IfOk};
+ghost use Rattle.std.specs.Prelude.{◌≡◌, ℕ, ◌<◌, ◌≤◌, [], false, length, map, slice_index_or, IfOk, IfSome};
+ghost use Rattle.indexical.specs.Names.{IsFirstBefore, names};
 ghost use Rattle.sweep.specs.Picks.{ArePicks};
-ghost use Rattle.fixpoint.specs.Links.{AreLinks, HaveRows, NamedBy, Numbers, SortAllRows, row};
+ghost use Rattle.fixpoint.specs.Links.{AreLinks, AreMarked, HaveRows, NamedBy, Numbers, SortAllRows, row};
 ghost use Rattle.fixpoint.specs.Partners.{HavePartners};
 
 use crate::pairs::{Pairs, pairs_of};
@@ -42,7 +43,78 @@ impl Drop for Links {
     }
 }
 
-// The objects that the condition names. Each gets the number of the condition.
+// A mark for each object that the condition names, where it has many parts, and so would take many walks.
+fn marks_of_many<const K: usize>(
+    alloc: Global,
+    x: &AnyIndexical<K>,
+    objects: usize,
+) -> Result<Option<Vec<bool>>, AllocError>
+    ensures { IfOk result (λ r. IfSome r (λ v. AreMarked x.now.cond objects v.items)) }
+{
+    if !x.has_many_parts() {
+        return Ok(None);
+    }
+    let mut marks = Vec::from_elem(alloc, false, objects)?;
+    x.mark_named(&mut marks);
+    Ok(Some(marks))
+}
+
+// The first object that is marked, of those from `from` on.
+fn first_marked(marks: &[bool], from: usize) -> Option<ObjId>
+    requires { length marks.now ≤ MAX_OBJECTS }
+    ensures { IsFirstBefore (λ o. slice_index_or marks.now o false) from (length marks.now) result }
+{
+    for o in from..marks.len() {
+        if marks[o] {
+            return Some(ObjId(o as u16));
+        }
+    }
+    None
+}
+
+// The first object that the condition names, of those from `from` on and before `objects`.
+fn next_named<const K: usize>(
+    x: &AnyIndexical<K>,
+    marks: Option<&[bool]>,
+    from: usize,
+    objects: usize,
+) -> Option<ObjId>
+    requires objects { objects ≤ MAX_OBJECTS }
+    requires marks { IfSome marks (λ v. AreMarked x.now.cond objects v.now) }
+    ensures { IsFirstBefore (λ o. names o x.now.cond) from objects result }
+{
+    match marks {
+        Some(marks) => first_marked(marks, from),
+        None => x.first_named(from, objects),
+    }
+}
+
+// The objects that the condition names, by marks of them where there are any. Each gets the number of the condition.
+fn link_each<const K: usize>(
+    alloc: Global,
+    x: &AnyIndexical<K>,
+    marks: Option<&[bool]>,
+    number: u32,
+    picks: &mut [Vec<u32>],
+) -> Result<SmallVec<ObjId, 2>, AllocError>
+    requires objects { length picks.old ≤ MAX_OBJECTS }
+    requires marks { IfSome marks (λ v. AreMarked x.now.cond (length picks.old) v.now) }
+    ensures named { IfOk result (λ v. NamedBy x.now.cond (length picks.old) v.items) }
+    ensures numbers { IfOk result (λ v. Numbers x.now.cond number picks.old picks.new) }
+{
+    let objects = picks.len();
+    let mut named = SmallVec::new(alloc);
+    let mut next = 0;
+    while let Some(o) = next_named(x, marks, next, objects) {
+        named.push(o)?;
+        let numbers = &mut picks[o.0 as usize];
+        numbers.push(number)?;
+        next = o.0 as usize + 1;
+    }
+    Ok(named)
+}
+
+// The same. Where the condition has many parts, its objects are marked first.
 fn link<const K: usize>(
     alloc: Global,
     x: &AnyIndexical<K>,
@@ -53,16 +125,10 @@ fn link<const K: usize>(
     ensures named { IfOk result (λ v. NamedBy x.now.cond (length picks.old) v.items) }
     ensures numbers { IfOk result (λ v. Numbers x.now.cond number picks.old picks.new) }
 {
-    let objects = picks.len();
-    let mut named = SmallVec::new(alloc);
-    let mut next = 0;
-    while let Some(o) = x.first_named(next, objects) {
-        named.push(o)?;
-        let numbers = &mut picks[o.0 as usize];
-        numbers.push(number)?;
-        next = o.0 as usize + 1;
+    match marks_of_many(alloc, x, picks.len())? {
+        Some(marks) => link_each(alloc, x, Some(&marks), number, picks),
+        None => link_each(alloc, x, None, number, picks),
     }
-    Ok(named)
 }
 
 // A list without numbers for each object.

@@ -34,7 +34,17 @@ pub fn no_marks(alloc: Global, objects: usize) -> Result<Vec<Marks>, AllocError>
     Ok(marks)
 }
 
-// Queues o, and marks u at it.
+// Whether v is queued, and u is marked at it.
+fn is_woken(queued: &[bool], dirty: &[Marks], u: usize, v: usize) -> bool
+    requires objects { (u < length queued.now) × (v < length queued.now) }
+    requires square { IsSquare (length queued.now) dirty.now }
+    ensures { IsTrue result → (slice_index_or queued.now v false ≡ true)
+        × (is_marked dirty.now v u ≡ true) }
+{
+    queued[v] && dirty[v].has(u)
+}
+
+// Queues o, and marks u at it. Mostly an earlier condition did so.
 fn wake_at(u: usize, o: usize, queued: &mut [bool], dirty: &mut [Marks])
     requires objects { (u < length queued.old) × (o < length queued.old) × (o ≢ u) }
     requires square { IsSquare (length queued.old) dirty.old }
@@ -42,6 +52,9 @@ fn wake_at(u: usize, o: usize, queued: &mut [bool], dirty: &mut [Marks])
     ensures marked { MarksAt (λ v. v ≢ o) u dirty.old dirty.new }
     ensures square { IsSquare (length queued.old) dirty.new }
 {
+    if is_woken(queued, dirty, u, o) {
+        return;
+    }
     queued[o] = true;
     dirty[o].set(u);
 }
@@ -137,16 +150,6 @@ fn may_hinder<const K: usize>(
         }
     }
     false
-}
-
-// Whether v is queued, and u is marked at it.
-fn is_woken(queued: &[bool], dirty: &[Marks], u: usize, v: usize) -> bool
-    requires objects { (u < length queued.now) × (v < length queued.now) }
-    requires square { IsSquare (length queued.now) dirty.now }
-    ensures { IsTrue result → (slice_index_or queued.now v false ≡ true)
-        × (is_marked dirty.now v u ≡ true) }
-{
-    queued[v] && dirty[v].has(u)
 }
 
 // Queues v and marks u at it, where u may hinder it by a condition of the group, and its conditions

@@ -112,7 +112,7 @@ queue_changed-requires g c =
     let fits : AllFit cs X = subst (AllFit cs) value c.requires.fits in
     let objects : (length c.args.last.now ≡ length X) × (length c.args.queued.now ≡ length X) = (o.1 ∙ same, o.0 ∙ same) in
     let times : length c.args.watches.now.changed.items ≡ length X = c.requires.hold.objects ∙ o.1 ∙ same in
-    search rules
+    (omega arith, (omega arith, (c.requires.k.1, (fits, (objects, (c.requires.links, (c.requires.square, times)))))))
 
 pub returns-in-Ok-clause-grows : goal.returns-in-Ok-clause-grows
 returns-in-Ok-clause-grows g c = growth_added _ c.in-Ok.ensures.ok c.add.ensures.refusals

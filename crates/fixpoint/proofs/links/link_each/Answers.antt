@@ -2,7 +2,7 @@ use Rattle.std.proofs.Common.{◌≡◌, ◌<◌, ◌+◌, ◌++◌, ◌∷◌, 
 use Rattle.geo_conditions.specs.declared.object.ObjId.{ObjId}
 use Rattle.fixpoint.specs.Links.{row}
 use Rattle.fixpoint.proofs.Linking.{LinkedBelow, linked_start, linked_upto, linked_more, row_get}
-use Rattle.fixpoint.proofs.links.link.Goals as goal
+use Rattle.fixpoint.proofs.links.link_each.Goals as goal
 
 pub loop-o-init : goal.loop-o-init
 loop-o-init g c =
